@@ -1,0 +1,2 @@
+-- Laws of the digits, for the crates above.
+pub mod Hex

@@ -1,0 +1,26 @@
+use borrow.Author.Needs.{needs}
+use mathlib.Core.Path.{sym}
+use Rattle.hex.proofs.Hex.{digit-low, digit-high}
+use Rattle.hex.proofs.digit.Statement.{statement}
+use Rattle.hex.proofs.digit.Tie as tie
+use Rattle.hex.proofs.digit.Reads as reads
+use Rattle.hex.proofs.digit.Lts as lts
+
+-- src/lib.rt:52:17
+add-result : tie.Need-add-result
+add-result c = search needs
+
+-- src/lib.rt:52:33
+add-result-2 : tie.Need-add-result-2
+add-result-2 c = search needs
+
+-- src/lib.rt:48:1
+returns : tie.Need-returns
+returns c = sym (digit-low _ (c .if1 .taken))
+
+-- src/lib.rt:48:1
+returns-2 : tie.Need-returns-2
+returns-2 c = sym (digit-high _ (c .if1 .left))
+
+pub digit-spec : {M : Type 1} → statement M
+digit-spec = tie.close (tie.spec add-result add-result-2 returns returns-2)

@@ -1,0 +1,2 @@
+-- What the digits mean.
+pub mod Hex

@@ -1,0 +1,182 @@
+-- What the reader and the writer leave: the one's cells put to the other give the text back, and the other way round.
+use Prim.Native.Nat.{ℕ, _≤_}
+use native.Mathlib.Omega.{arith}
+use mathlib.Core.Path.{_≡_, refl, sym, ap, ap₂, subst, _∙_}
+use mathlib.Core.Bool.{Bool, true, false, cond}
+use mathlib.Core.Option.{Option, none, some}
+use mathlib.Core.List.{List, _++_}
+use lib.Dec.{leb}
+use lib.ListN.{length, take, drop, length-append, length-drop}
+use lib.Seq.{take-at}
+use borrow.Author.Tests.{leb-true, le-leb}
+use Rattle.table.specs.declared.StateCause.the-variants.{DestinationShort}
+use Rattle.table.specs.declared.Refusal.{Refusal}
+use Rattle.table.specs.declared.Refusal.the-variants.{State}
+use Rattle.table.specs.declared.Answer.the-variants.{Done, Refused}
+use Rattle.table.specs.Table.{Table, countsOf}
+use Rattle.table.specs.Loaded.{cellsOf, countsIn, extent, loaded}
+use Rattle.table.specs.Text.{textOf}
+use Rattle.table.specs.Parse.{Parsed, accepted, turnedDown, parsed}
+use Rattle.table.specs.Calls.{storedAnswer, storedCells, readAs, readCellsAs, readAnswer, readCells, writtenAs, writtenTextAs, writeAnswer, writeText}
+use Rattle.table.proofs.Loaded.{length-cells, counts-in, loaded-cells, cells-loaded}
+use Rattle.table.proofs.Determine.{text-read, read-text}
+
+-- Storing in a destination.
+
+module _ (out destination : List ℕ) where
+  -- what was stored where the answer tells so many
+  pub record Stored (n : ℕ) (left : List ℕ) : Type 0 where
+    pub size : n ≡ length out
+    pub room : n ≤ length destination
+    pub left-is : left ≡ out ++ drop n destination
+
+  pub stored-done : (n : ℕ) → storedAnswer out destination ≡ Done n → Stored n (storedCells out destination)
+  stored-done n e = go (leb (length out) (length destination)) refl e
+    where
+      go : (b : Bool) → leb (length out) (length destination) ≡ b
+          → cond b (Done (length out)) (Refused (State DestinationShort)) ≡ Done n
+          → Stored n (cond b (out ++ drop (length out) destination) destination)
+      go true h k =
+          let size : n ≡ length out = cc in
+          let room : length out ≤ length destination = leb-true _ _ h in
+          record { size = size; room = omega arith; left-is = ap (λ (i : ℕ). out ++ drop i destination) (sym size) }
+      go false h k = let z : _≡_ {A = ℕ} 0 1 = cc in absurd (omega arith)
+
+  pub stored-fits : length out ≤ length destination
+      → (storedAnswer out destination ≡ Done (length out)) × (storedCells out destination ≡ out ++ drop (length out) destination)
+  stored-fits h =
+      let e : leb (length out) (length destination) ≡ true = le-leb _ _ h in (
+        ap (λ (b : Bool). cond b (Done (length out)) (Refused (State DestinationShort))) e,
+        ap (λ (b : Bool). cond b (out ++ drop (length out) destination) destination) e,
+      )
+
+  pub stored-refused : (r : Refusal) → storedAnswer out destination ≡ Refused r → storedCells out destination ≡ destination
+  stored-refused r e = go (leb (length out) (length destination)) e
+    where
+      go : (b : Bool) → cond b (Done (length out)) (Refused (State DestinationShort)) ≡ Refused r
+          → cond b (out ++ drop (length out) destination) destination ≡ destination
+      go true k = cc
+      go false k = refl
+
+  pub stored-length : length (storedCells out destination) ≡ length destination
+  stored-length = go (leb (length out) (length destination)) refl
+    where
+      go : (b : Bool) → leb (length out) (length destination) ≡ b
+          → length (cond b (out ++ drop (length out) destination) destination) ≡ length destination
+      go true h = let k : length out ≤ length destination = leb-true _ _ h in simp (length-append, length-drop) (omega arith)
+      go false h = refl
+
+-- The reader, and the writer.
+
+module _ (text destination : List ℕ) where
+  pub read-done : (n : ℕ) → readAnswer text destination ≡ Done n
+      → (t : Table) × (parsed text ≡ accepted t) × Stored (cellsOf t) destination n (readCells text destination)
+  unfolding readAnswer readCells
+  read-done n e = go (parsed text) refl e
+    where
+      go : (p : Parsed) → parsed text ≡ p → readAs p destination ≡ Done n
+          → (t : Table) × (parsed text ≡ accepted t) × Stored (cellsOf t) destination n (readCellsAs p destination)
+      go (accepted t) h k = (t, h, stored-done (cellsOf t) destination n k)
+      go (turnedDown cause) h k = let z : _≡_ {A = ℕ} 0 1 = cc in absurd (omega arith)
+
+  pub read-fits : (t : Table) → parsed text ≡ accepted t → length (cellsOf t) ≤ length destination
+      → (readAnswer text destination ≡ Done (length (cellsOf t))) × (readCells text destination ≡ cellsOf t ++ drop (length (cellsOf t)) destination)
+  unfolding readAnswer readCells
+  read-fits t h k =
+      let s = stored-fits (cellsOf t) destination k in
+      (ap (λ (p : Parsed). readAs p destination) h ∙ s .0, ap (λ (p : Parsed). readCellsAs p destination) h ∙ s .1)
+
+  -- a refusal leaves the destination as it was
+  pub read-refused : (r : Refusal) → readAnswer text destination ≡ Refused r → readCells text destination ≡ destination
+  unfolding readAnswer readCells
+  read-refused r e = go (parsed text) e
+    where
+      go : (p : Parsed) → readAs p destination ≡ Refused r → readCellsAs p destination ≡ destination
+      go (accepted t) k = stored-refused (cellsOf t) destination r k
+      go (turnedDown cause) k = refl
+
+  pub read-length : length (readCells text destination) ≡ length destination
+  unfolding readCells
+  read-length = go (parsed text)
+    where
+      go : (p : Parsed) → length (readCellsAs p destination) ≡ length destination
+      go (accepted t) = stored-length (cellsOf t) destination
+      go (turnedDown cause) = refl
+
+module _ (cells destination : List ℕ) where
+  pub write-done : (n : ℕ) → writeAnswer cells destination ≡ Done n
+      → (t : Table) × (loaded cells ≡ some t) × Stored (textOf t) destination n (writeText cells destination)
+  unfolding writeAnswer writeText
+  write-done n e = go (loaded cells) refl e
+    where
+      go : (p : Option Table) → loaded cells ≡ p → writtenAs p destination ≡ Done n
+          → (t : Table) × (loaded cells ≡ some t) × Stored (textOf t) destination n (writtenTextAs p destination)
+      go (some t) h k = (t, h, stored-done (textOf t) destination n k)
+      go none h k = let z : _≡_ {A = ℕ} 0 1 = cc in absurd (omega arith)
+
+  pub write-fits : (t : Table) → loaded cells ≡ some t → length (textOf t) ≤ length destination
+      → (writeAnswer cells destination ≡ Done (length (textOf t))) × (writeText cells destination ≡ textOf t ++ drop (length (textOf t)) destination)
+  unfolding writeAnswer writeText
+  write-fits t h k =
+      let s = stored-fits (textOf t) destination k in
+      (ap (λ (p : Option Table). writtenAs p destination) h ∙ s .0, ap (λ (p : Option Table). writtenTextAs p destination) h ∙ s .1)
+
+  pub write-refused : (r : Refusal) → writeAnswer cells destination ≡ Refused r → writeText cells destination ≡ destination
+  unfolding writeAnswer writeText
+  write-refused r e = go (loaded cells) e
+    where
+      go : (p : Option Table) → writtenAs p destination ≡ Refused r → writtenTextAs p destination ≡ destination
+      go (some t) k = stored-refused (textOf t) destination r k
+      go none k = refl
+
+  pub write-length : length (writeText cells destination) ≡ length destination
+  unfolding writeText
+  write-length = go (loaded cells)
+    where
+      go : (p : Option Table) → length (writtenTextAs p destination) ≡ length destination
+      go (some t) = stored-length (textOf t) destination
+      go none = refl
+
+-- A text that is read is written back from the cells that reading leaves.
+pub read-written : (x d e : List ℕ) (n : ℕ) → readAnswer x d ≡ Done n → length x ≤ length e
+    → (writeAnswer (readCells x d) e ≡ Done (length x)) × (writeText (readCells x d) e ≡ x ++ drop (length x) e)
+read-written x d e n a room = go (read-done x d n a)
+  where
+    go : (t : Table) × (parsed x ≡ accepted t) × Stored (cellsOf t) d n (readCells x d)
+        → (writeAnswer (readCells x d) e ≡ Done (length x)) × (writeText (readCells x d) e ≡ x ++ drop (length x) e)
+    go (t, p, s) =
+        let r = read-text x t p in
+        let l : loaded (readCells x d) ≡ some t = ap loaded (s .left-is) ∙ loaded-cells t (drop n d) (r .0) in
+        let w = write-fits (readCells x d) e t l (subst (λ (y : List ℕ). length y ≤ length e) (r .1) room) in
+        (w .0 ∙ ap (λ (y : List ℕ). Done (length y)) (sym (r .1)), w .1 ∙ ap (λ (y : List ℕ). y ++ drop (length y) e) (sym (r .1)))
+
+-- Cells that are written are read back from the text that writing leaves.
+pub written-text : (c e : List ℕ) (n : ℕ) (t : Table) → writeAnswer c e ≡ Done n → loaded c ≡ some t → take n (writeText c e) ≡ textOf t
+written-text c e n t a l = go (write-done c e n a)
+  where
+    go : (u : Table) × (loaded c ≡ some u) × Stored (textOf u) e n (writeText c e) → take n (writeText c e) ≡ textOf t
+    go (u, k, s) =
+        let same : u ≡ t = cc in
+        ap (take n) (s .left-is) ∙ take-at (textOf u) (drop n e) n (sym (s .size)) ∙ ap textOf same
+
+pub written-read : (c e : List ℕ) (n : ℕ) (t : Table) → writeAnswer c e ≡ Done n → loaded c ≡ some t → parsed (take n (writeText c e)) ≡ accepted t
+written-read c e n t a l = ap parsed (written-text c e n t a l) ∙ text-read t (cells-loaded c t l .0)
+
+pub written-cells : (c e d : List ℕ) (n : ℕ) → writeAnswer c e ≡ Done n → extent (countsIn c) ≤ length d
+    → (readAnswer (take n (writeText c e)) d ≡ Done (extent (countsIn c)))
+    × (readCells (take n (writeText c e)) d ≡ take (extent (countsIn c)) c ++ drop (extent (countsIn c)) d)
+written-cells c e d n a room = go (write-done c e n a)
+  where
+    m : ℕ
+    m = extent (countsIn c)
+
+    go : (t : Table) × (loaded c ≡ some t) × Stored (textOf t) e n (writeText c e)
+        → (readAnswer (take n (writeText c e)) d ≡ Done m) × (readCells (take n (writeText c e)) d ≡ take m c ++ drop m d)
+    go (t, l, s) =
+        let k = cells-loaded c t l in
+        let rest = drop (length (cellsOf t)) c in
+        let counts : countsIn c ≡ countsOf t = ap countsIn (k .1) ∙ counts-in t rest in
+        let size : m ≡ length (cellsOf t) = ap extent counts ∙ sym (length-cells t) in
+        let front : take m c ≡ cellsOf t = ap (take m) (k .1) ∙ take-at (cellsOf t) rest m (sym size) in
+        let r = read-fits (take n (writeText c e)) d t (written-read c e n t a l) (omega arith) in
+        (r .0 ∙ ap Done (sym size), r .1 ∙ ap₂ (λ (y : List ℕ) (i : ℕ). y ++ drop i d) (sym front) (sym size))

@@ -1,0 +1,124 @@
+-- Laws of the tests that go through a list with the elements before each.
+use Prim.Native.Nat.{ℕ, zero, suc, _+_, _-_, _<_, _≤_}
+use native.Mathlib.Omega.{arith}
+use mathlib.Core.Path.{_≡_, refl, sym, ap, subst, _∙_}
+use mathlib.Core.Bool.{Bool, true, false, _&&_, _||_, not, and-assoc, or-assoc, and-true, false≢true}
+use mathlib.Core.List.{List, [], _∷_, _++_, append-assoc, append-nil}
+use lib.ListN.{length, getD, take, drop, take-append-drop}
+use lib.Seq.{take-suc, drop-cons, take-all}
+use Rattle.table.specs.Rules.{any, lastIs, each}
+
+-- Tests joined.
+
+pub and-first : (a b : Bool) → (a && b) ≡ true → a ≡ true
+and-first true b e = refl
+and-first false b e = e
+
+pub and-second : (a b : Bool) → (a && b) ≡ true → b ≡ true
+and-second true b e = e
+and-second false b e = absurd (false≢true e)
+
+pub and-both : {a b : Bool} → a ≡ true → b ≡ true → (a && b) ≡ true
+and-both {a} {b} e f = ap (λ (x : Bool). x && b) e ∙ f
+
+pub and-four : (a b c d : Bool) → (a && (b && (c && d))) ≡ true → (a ≡ true) × (b ≡ true) × (c ≡ true) × (d ≡ true)
+and-four true true true d e = (refl, refl, refl, e)
+and-four true true false d e = absurd (false≢true e)
+and-four true false c d e = absurd (false≢true e)
+and-four false b c d e = absurd (false≢true e)
+
+pub and-fails : (a b : Bool) → b ≡ false → (a && b) ≡ false
+and-fails true b e = e
+and-fails false b e = refl
+
+pub or-second : (a b : Bool) → b ≡ true → (a || b) ≡ true
+or-second true b e = refl
+or-second false b e = e
+
+-- Tests along a list.
+
+module _ {A : Type 0} where
+  pub each-append : (test : List A → A → Bool) (before xs ys : List A) → each test before (xs ++ ys) ≡ (each test before xs && each test (before ++ xs) ys)
+  unfolding each
+  each-append test before [] ys = ap (λ (b : List A). each test b ys) (sym (append-nil before))
+  each-append test before (x ∷ xs) ys =
+      ap (λ (b : Bool). test before x && b)
+      (each-append test (before ++ (x ∷ [])) xs ys
+      ∙ ap (λ (b : List A). each test (before ++ (x ∷ [])) xs && each test b ys) (append-assoc before (x ∷ []) xs))
+      ∙ sym (and-assoc (test before x) (each test (before ++ (x ∷ [])) xs) (each test (before ++ (x ∷ xs)) ys))
+
+  pub each-one : (test : List A → A → Bool) (before : List A) (x : A) → each test before (x ∷ []) ≡ test before x
+  unfolding each
+  each-one test before x = and-true (test before x)
+
+  -- one element more
+  pub each-snoc : (test : List A → A → Bool) (xs : List A) (x : A) → each test [] (xs ++ (x ∷ [])) ≡ (each test [] xs && test xs x)
+  each-snoc test xs x = each-append test [] xs (x ∷ []) ∙ ap (λ (b : Bool). each test [] xs && b) (each-one test xs x)
+
+  pub any-append : (test : A → Bool) (xs ys : List A) → any test (xs ++ ys) ≡ (any test xs || any test ys)
+  any-append test [] ys = refl
+  any-append test (x ∷ xs) ys = ap (λ (b : Bool). test x || b) (any-append test xs ys) ∙ sym (or-assoc (test x) (any test xs) (any test ys))
+
+  pub last-snoc : (test : A → Bool) (xs : List A) (x : A) → lastIs test (xs ++ (x ∷ [])) ≡ test x
+  last-snoc test [] x = refl
+  last-snoc test (y ∷ []) x = refl
+  last-snoc test (y ∷ z ∷ zs) x = last-snoc test (z ∷ zs) x
+
+  -- by their places
+
+  pub any-none : (test : A → Bool) (d : A) (xs : List A) → ((k : ℕ) → k < length xs → test (getD xs k d) ≡ false) → any test xs ≡ false
+  any-none test d [] f = refl
+  any-none test d (x ∷ xs) f = ap (λ (b : Bool). b || any test xs) (f 0 (omega arith)) ∙ any-none test d xs (λ k h. f (suc k) (omega arith))
+
+  pub any-some : (test : A → Bool) (d : A) (xs : List A) (k : ℕ) → k < length xs → test (getD xs k d) ≡ true → any test xs ≡ true
+  any-some test d [] k h e = absurd (omega arith)
+  any-some test d (x ∷ xs) zero h e = ap (λ (b : Bool). b || any test xs) e
+  any-some test d (x ∷ xs) (suc k) h e = or-second (test x) (any test xs) (any-some test d xs k (omega arith) e)
+
+  pub last-at : (test : A → Bool) (d : A) (xs : List A) → 0 < length xs → lastIs test xs ≡ test (getD xs (length xs - 1) d)
+  last-at test d [] h = absurd (omega arith)
+  last-at test d (x ∷ []) h = refl
+  last-at test d (x ∷ y ∷ ys) h =
+      last-at test d (y ∷ ys) (omega arith)
+      ∙ ap (λ (n : ℕ). test (getD (x ∷ y ∷ ys) n d)) {x = suc (length (y ∷ ys) - 1)} {y = length (x ∷ y ∷ ys) - 1} (omega arith)
+
+  pub last-none : (test : A → Bool) (xs : List A) → length xs ≡ 0 → lastIs test xs ≡ true
+  last-none test [] h = refl
+  last-none test (x ∷ xs) h = absurd (omega arith)
+
+  -- what each element passes, the element at k passes
+  pub each-at : (test : List A → A → Bool) (d : A) (xs : List A) → each test [] xs ≡ true → (k : ℕ) → k < length xs → test (take k xs) (getD xs k d) ≡ true
+  each-at test d xs e k h =
+      and-second (each test [] (take k xs)) (test (take k xs) (getD xs k d))
+      (sym split-one ∙ and-first (each test [] (take (suc k) xs)) (each test (take (suc k) xs) (drop (suc k) xs)) (sym whole ∙ e))
+    where
+      split-one : each test [] (take (suc k) xs) ≡ (each test [] (take k xs) && test (take k xs) (getD xs k d))
+      split-one = ap (each test []) (take-suc xs k d h) ∙ each-snoc test (take k xs) (getD xs k d)
+
+      whole : each test [] xs ≡ (each test [] (take (suc k) xs) && each test (take (suc k) xs) (drop (suc k) xs))
+      whole = ap (each test []) (sym (take-append-drop (suc k) xs)) ∙ each-append test [] (take (suc k) xs) (drop (suc k) xs)
+
+  -- along the places of a list: one element more, the first that fails, all
+
+  pub each-more : (test : List A → A → Bool) (d : A) (xs : List A) (k : ℕ) → k < length xs → each test [] (take k xs) ≡ true → test (take k xs) (getD xs k d) ≡ true
+      → each test [] (take (suc k) xs) ≡ true
+  each-more test d xs k h e f = ap (each test []) (take-suc xs k d h) ∙ each-snoc test (take k xs) (getD xs k d) ∙ and-both e f
+
+  pub each-fails : (test : List A → A → Bool) (d : A) (xs : List A) (k : ℕ) → k < length xs → test (take k xs) (getD xs k d) ≡ false → each test [] xs ≡ false
+  each-fails test d xs k h f = go (each test [] xs) refl
+    where
+      go : (b : Bool) → each test [] xs ≡ b → each test [] xs ≡ false
+      go true e = absurd (false≢true (sym f ∙ each-at test d xs e k h))
+      go false e = e
+
+  pub each-done : (test : List A → A → Bool) (xs : List A) (k : ℕ) → length xs ≤ k → each test [] (take k xs) ≡ true → each test [] xs ≡ true
+  each-done test xs k h e = sym (ap (each test []) (take-all k xs h)) ∙ e
+
+  -- a weaker test
+  pub each-weaken : (test weak : List A → A → Bool) → ((before : List A) (x : A) → test before x ≡ true → weak before x ≡ true) → (before xs : List A)
+      → each test before xs ≡ true → each weak before xs ≡ true
+  unfolding each
+  each-weaken test weak f before [] e = refl
+  each-weaken test weak f before (x ∷ xs) e =
+      and-both (f before x (and-first (test before x) (each test (before ++ (x ∷ [])) xs) e))
+      (each-weaken test weak f (before ++ (x ∷ [])) xs (and-second (test before x) (each test (before ++ (x ∷ [])) xs) e))

@@ -1,0 +1,200 @@
+use Prim.Native.Nat.{ℕ, _+_, _*_, _/_, _≤_, _<_, _-_}
+use native.Mathlib.Omega.{arith}
+use mathlib.Core.Path.{_≡_, refl, sym, ap, subst, _∙_}
+use mathlib.Core.List.{List}
+use denote.Ref.{now}
+use lib.ListN.{length, getD, set}
+use borrow.Author.Needs.{needs}
+use Rattle.table.specs.Table.{Arc}
+use Rattle.table.specs.Loaded.{arcsIn}
+use Rattle.table.specs.Index.{below}
+use Rattle.table.specs.Judge.{arcsAs}
+use Rattle.table.proofs.Arcs.{at-equal, arcHere, arcs-here, length-arcs}
+use Rattle.table.proofs.Index.{ending, ending-few, below-few, source-inside, Counts, Sums, counts-none, counts-more, sums-none, sums-more, sums-all}
+use Rattle.table.proofs.checker.first_arcs.Statement.{statement}
+use Rattle.table.proofs.checker.first_arcs.Tie as tie
+use Rattle.table.proofs.checker.first_arcs.Reads as reads
+use Rattle.table.proofs.checker.first_arcs.Lts as lts
+
+abbrev Inv-loop : tie.InvT-loop
+Inv-loop cells states first₀ at₀ first at = (at ≤ length cells) × (at ≡ 4 * (at / 4)) × Counts (arcsIn (at / 4) cells) first
+
+abbrev μ-loop : tie.MeasureT-loop
+μ-loop cells states first₀ at₀ first at = length cells - at
+
+abbrev Inv-loop2 : tie.InvT-loop2
+Inv-loop2 cells states first₀ at q₀ first q = (q ≤ states) × Sums (arcsAs cells) q first
+
+abbrev μ-loop2 : tie.MeasureT-loop2
+μ-loop2 cells states first₀ at q₀ first q = states - q
+
+-- src/loaded.rt:79:5
+loop-holds : tie.Need-loop-holds Inv-loop μ-loop Inv-loop2 μ-loop2
+unfolding arcsIn
+loop-holds c = (omega arith, omega arith, counts-none)
+
+-- src/loaded.rt:80:20
+mul-next : tie.Need-mul-next Inv-loop μ-loop Inv-loop2 μ-loop2
+mul-next c = search needs
+
+-- src/loaded.rt:80:20
+shared-slice-read-next : tie.Need-shared-slice-read-next Inv-loop μ-loop Inv-loop2 μ-loop2
+shared-slice-read-next c = search needs
+
+-- src/loaded.rt:80:20
+cast-next : tie.Need-cast-next Inv-loop μ-loop Inv-loop2 μ-loop2
+cast-next c = omega (arith, source-inside (c .before .before .before .args .states) (now (c .before .before .before .args .cells)) (length (now (c .before .before .before .args .cells)) / 4) (c .before .before .loop .at) (omega arith) (omega (arith, c .before .before .before .pre .0)) (c .before .before .before .pre .1 .1))
+
+-- src/loaded.rt:80:20
+add-next : tie.Need-add-next Inv-loop μ-loop Inv-loop2 μ-loop2
+add-next c = omega (arith, source-inside (c .before .before .before .args .states) (now (c .before .before .before .args .cells)) (length (now (c .before .before .before .args .cells)) / 4) (c .before .before .loop .at) (omega arith) (omega (arith, c .before .before .before .pre .0)) (c .before .before .before .pre .1 .1))
+
+-- src/loaded.rt:81:23
+mul-first : tie.Need-mul-first Inv-loop μ-loop Inv-loop2 μ-loop2
+mul-first c = omega (arith, source-inside (c .before .before .before .args .states) (now (c .before .before .before .args .cells)) (length (now (c .before .before .before .args .cells)) / 4) (c .before .before .loop .at) (omega arith) (omega (arith, c .before .before .before .pre .0)) (c .before .before .before .pre .1 .1))
+
+-- src/loaded.rt:81:23
+array-read-first : tie.Need-array-read-first Inv-loop μ-loop Inv-loop2 μ-loop2
+array-read-first c = omega (arith, source-inside (c .before .before .before .args .states) (now (c .before .before .before .args .cells)) (length (now (c .before .before .before .args .cells)) / 4) (c .before .before .loop .at) (omega arith) (omega (arith, c .before .before .before .pre .0)) (c .before .before .before .pre .1 .1))
+
+-- src/loaded.rt:81:23
+add-first : tie.Need-add-first Inv-loop μ-loop Inv-loop2 μ-loop2
+add-first c =
+    omega (
+      arith,
+      source-inside (c .before .before .before .args .states) (now (c .before .before .before .args .cells)) (length (now (c .before .before .before .args .cells)) / 4) (c .before .before .loop .at) (omega arith) (omega (arith, c .before .before .before .pre .0)) (c .before .before .before .pre .1 .1),
+      c .before .before .loop .inv .2 .1 (getD (now (c .before .before .before .args .cells)) (c .before .before .loop .at) 0 + 1) (omega (arith, source-inside (c .before .before .before .args .states) (now (c .before .before .before .args .cells)) (length (now (c .before .before .before .args .cells)) / 4) (c .before .before .loop .at) (omega arith) (omega (arith, c .before .before .before .pre .0)) (c .before .before .before .pre .1 .1))),
+      ending-few (arcsIn (c .before .before .loop .at / 4) (now (c .before .before .before .args .cells))) (getD (now (c .before .before .before .args .cells)) (c .before .before .loop .at) 0 + 1),
+      length-arcs (c .before .before .loop .at / 4) (now (c .before .before .before .args .cells)),
+    )
+
+-- src/loaded.rt:81:9
+mul-first-2 : tie.Need-mul-first-2 Inv-loop μ-loop Inv-loop2 μ-loop2
+mul-first-2 c = omega (arith, source-inside (c .before .before .before .args .states) (now (c .before .before .before .args .cells)) (length (now (c .before .before .before .args .cells)) / 4) (c .before .before .loop .at) (omega arith) (omega (arith, c .before .before .before .pre .0)) (c .before .before .before .pre .1 .1))
+
+-- src/loaded.rt:81:9
+array-write-first : tie.Need-array-write-first Inv-loop μ-loop Inv-loop2 μ-loop2
+array-write-first c = omega (arith, source-inside (c .before .before .before .args .states) (now (c .before .before .before .args .cells)) (length (now (c .before .before .before .args .cells)) / 4) (c .before .before .loop .at) (omega arith) (omega (arith, c .before .before .before .pre .0)) (c .before .before .before .pre .1 .1))
+
+-- src/loaded.rt:82:9
+add-at : tie.Need-add-at Inv-loop μ-loop Inv-loop2 μ-loop2
+add-at c = search needs
+
+-- src/loaded.rt:79:5
+loop-less : tie.Need-loop-less Inv-loop μ-loop Inv-loop2 μ-loop2
+loop-less c = search needs
+
+-- src/loaded.rt:79:5
+loop-again : tie.Need-loop-again Inv-loop μ-loop Inv-loop2 μ-loop2
+loop-again c = (
+  omega arith,
+  omega arith,
+  subst (λ (l : List Arc). Counts l (set (c .before .before .loop .first) (getD (now (c .before .before .before .args .cells)) (c .before .before .loop .at) 0 + 1) (getD (c .before .before .loop .first) (getD (now (c .before .before .before .args .cells)) (c .before .before .loop .at) 0 + 1) 0 + 1))) (sym (arcs-here (now (c .before .before .before .args .cells)) (c .before .before .loop .at) (omega arith)))
+      (counts-more (arcsIn (c .before .before .loop .at / 4) (now (c .before .before .before .args .cells))) (arcHere (now (c .before .before .before .args .cells)) (c .before .before .loop .at)) (c .before .before .loop .first) (omega (arith, source-inside (c .before .before .before .args .states) (now (c .before .before .before .args .cells)) (length (now (c .before .before .before .args .cells)) / 4) (c .before .before .loop .at) (omega arith) (omega (arith, c .before .before .before .pre .0)) (c .before .before .before .pre .1 .1))) (c .before .before .loop .inv .2)),
+)
+
+-- src/loaded.rt:85:5
+loop2-holds : tie.Need-loop2-holds Inv-loop μ-loop Inv-loop2 μ-loop2
+loop2-holds c = (
+  omega arith,
+  sums-none (arcsAs (now (c .before .before .args .cells))) (c .before .loop .first)
+      (subst (λ (n : ℕ). Counts (arcsIn n (now (c .before .before .args .cells))) (c .before .loop .first)) (omega (arith, c .before .before .pre .0)) (c .before .loop .inv .2)),
+)
+
+-- src/loaded.rt:86:30
+add-first-2 : tie.Need-add-first-2 Inv-loop μ-loop Inv-loop2 μ-loop2
+add-first-2 c = search needs
+
+-- src/loaded.rt:86:24
+mul-first-3 : tie.Need-mul-first-3 Inv-loop μ-loop Inv-loop2 μ-loop2
+mul-first-3 c = search needs
+
+-- src/loaded.rt:86:24
+array-read-first-2 : tie.Need-array-read-first-2 Inv-loop μ-loop Inv-loop2 μ-loop2
+array-read-first-2 c = omega arith
+
+-- src/loaded.rt:86:39
+mul-first-4 : tie.Need-mul-first-4 Inv-loop μ-loop Inv-loop2 μ-loop2
+mul-first-4 c = search needs
+
+-- src/loaded.rt:86:39
+array-read-first-3 : tie.Need-array-read-first-3 Inv-loop μ-loop Inv-loop2 μ-loop2
+array-read-first-3 c = omega arith
+
+-- src/loaded.rt:86:24
+add-first-3 : tie.Need-add-first-3 Inv-loop μ-loop Inv-loop2 μ-loop2
+add-first-3 c =
+    omega (
+      arith,
+      c .before .loop2 .inv .1 .counted (c .before .loop2 .q + 1) (omega arith) (omega arith),
+      c .before .loop2 .inv .1 .summed (c .before .loop2 .q) (omega arith),
+      ending-few (arcsAs (now (c .before .before .before .before .args .cells))) (c .before .loop2 .q + 1),
+      below-few (arcsAs (now (c .before .before .before .before .args .cells))) (c .before .loop2 .q),
+      length-arcs (length (now (c .before .before .before .before .args .cells)) / 4) (now (c .before .before .before .before .args .cells)),
+    )
+
+-- src/loaded.rt:86:15
+add-first-4 : tie.Need-add-first-4 Inv-loop μ-loop Inv-loop2 μ-loop2
+add-first-4 c = search needs
+
+-- src/loaded.rt:86:9
+mul-first-5 : tie.Need-mul-first-5 Inv-loop μ-loop Inv-loop2 μ-loop2
+mul-first-5 c = search needs
+
+-- src/loaded.rt:86:9
+array-write-first-2 : tie.Need-array-write-first-2 Inv-loop μ-loop Inv-loop2 μ-loop2
+array-write-first-2 c = omega arith
+
+-- src/loaded.rt:87:9
+add-q : tie.Need-add-q Inv-loop μ-loop Inv-loop2 μ-loop2
+add-q c = search needs
+
+-- src/loaded.rt:85:5
+loop2-less : tie.Need-loop2-less Inv-loop μ-loop Inv-loop2 μ-loop2
+loop2-less c = search needs
+
+-- src/loaded.rt:85:5
+loop2-again : tie.Need-loop2-again Inv-loop μ-loop Inv-loop2 μ-loop2
+loop2-again c = (omega arith, sums-more (arcsAs (now (c .before .before .before .before .args .cells))) (c .before .loop2 .q) (c .before .loop2 .first) (omega arith) (c .before .loop2 .inv .1))
+
+-- src/loaded.rt:71:1
+returns : tie.Need-returns Inv-loop μ-loop Inv-loop2 μ-loop2
+returns c =
+    sums-all (c .before .before .before .before .args .states) (arcsAs (now (c .before .before .before .before .args .cells))) (c .before .loop2 .first) (omega arith) (c .before .before .before .before .pre .1 .1)
+    (subst (λ (n : ℕ). Sums (arcsAs (now (c .before .before .before .before .args .cells))) n (c .before .loop2 .first)) (omega arith) (c .before .loop2 .inv .1))
+
+pub first-arcs-spec : {M : Type 1} → statement M
+first-arcs-spec =
+    tie.close
+    (tie.spec
+    Inv-loop
+    μ-loop
+    Inv-loop2
+    μ-loop2
+    loop-holds
+    mul-next
+    shared-slice-read-next
+    cast-next
+    add-next
+    mul-first
+    array-read-first
+    add-first
+    mul-first-2
+    array-write-first
+    add-at
+    loop-less
+    loop-again
+    loop2-holds
+    add-first-2
+    mul-first-3
+    array-read-first-2
+    mul-first-4
+    array-read-first-3
+    add-first-3
+    add-first-4
+    mul-first-5
+    array-write-first-2
+    add-q
+    loop2-less
+    loop2-again
+    returns)

@@ -1,0 +1,36 @@
+use Prim.Native.Nat.{suc, _*_, _-_, _/_}
+use native.Mathlib.Omega.{arith}
+use mathlib.Core.Path.{sym, _∙_}
+use denote.Ref.{now}
+use lib.ListN.{length, getD}
+use borrow.Author.Needs.{needs}
+use Rattle.table.specs.Loaded.{arcsIn}
+use Rattle.table.specs.Judge.{lastSource}
+use Rattle.table.proofs.Arcs.{at-equal, last-source}
+use Rattle.table.proofs.judge.last_source.Statement.{statement}
+use Rattle.table.proofs.judge.last_source.Tie as tie
+use Rattle.table.proofs.judge.last_source.Reads as reads
+use Rattle.table.proofs.judge.last_source.Lts as lts
+
+-- src/judge.rt:106:9
+returns : tie.Need-returns
+unfolding arcsIn
+returns c = sym (at-equal (λ n. lastSource (arcsIn n (now (c .before .args .before)))) (length (now (c .before .args .before)) / 4) 0 (omega arith))
+
+-- src/judge.rt:108:5
+mul-result : tie.Need-mul-result
+mul-result c = search needs
+
+-- src/judge.rt:108:5
+shared-slice-read-result : tie.Need-shared-slice-read-result
+shared-slice-read-result c = search needs
+
+-- src/judge.rt:100:1
+returns-2 : tie.Need-returns-2
+returns-2 c =
+    let before = now (c .before .before .args .before) in
+    at-equal (λ n. getD before n 0) (length before - 4) (4 * (length before / 4 - 1)) (omega (arith, c .before .before .pre))
+    ∙ sym (at-equal (λ n. lastSource (arcsIn n before)) (length before / 4) (suc (length before / 4 - 1)) (omega arith) ∙ last-source before (length before / 4 - 1))
+
+pub last-source-spec : {M : Type 1} → statement M
+last-source-spec = tie.close (tie.spec returns mul-result shared-slice-read-result returns-2)
