@@ -11,6 +11,7 @@ pub mod Loaded
 pub mod Parts
 pub mod Line
 pub mod Text
+pub mod Scan
 pub mod Parse
 pub mod Determine
 pub mod Calls

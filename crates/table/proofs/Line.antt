@@ -39,10 +39,10 @@ digit-bounds v = go (ltb (v % 16) 10) refl
     go true h = let k : v % 16 < 10 = ltb-true _ _ h in let d = digit-low v k in omega arith
     go false h = let k : 10 ≤ v % 16 = ltb-false _ _ h in let d = digit-high v k in omega arith
 
-digit-no-feed : (v : ℕ) → eqb (digitOf v) 10 ≡ false
+pub digit-no-feed : (v : ℕ) → eqb (digitOf v) 10 ≡ false
 digit-no-feed v = let h = digit-bounds v in ne-eqb (digitOf v) 10 (λ e. omega arith)
 
-lines-char : (c : ℕ) (cs : List ℕ) → eqb c 10 ≡ false → linesOf (c ∷ cs) ≡ withChar c (linesOf cs)
+pub lines-char : (c : ℕ) (cs : List ℕ) → eqb c 10 ≡ false → linesOf (c ∷ cs) ≡ withChar c (linesOf cs)
 unfolding linesOf
 lines-char c cs h = ap (λ (b : Bool). cond b (record { chars = []; fed = true } ∷ linesOf cs) (withChar c (linesOf cs))) h
 
@@ -120,7 +120,7 @@ unfolding bytesOf charsOf
 bytes-chars [] h = refl
 bytes-chars (x ∷ b) h = ap₂ (λ (n : ℕ) (l : List ℕ). n ∷ l) (ap byteIn (decoded-encoded x (h .0))) (bytes-chars b (h .1))
 
-abbrev noValue : ℕ → Bool
+abbrev pub noValue : ℕ → Bool
 noValue c = not (isValue (valueOf c))
 
 digit-value : (v : ℕ) → noValue (digitOf v) ≡ false

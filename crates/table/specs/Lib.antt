@@ -8,4 +8,6 @@ pub mod Index
 pub mod Line
 pub mod Text
 pub mod Parse
+pub mod Scan
+pub mod Draft
 pub mod Calls

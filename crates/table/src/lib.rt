@@ -1,5 +1,6 @@
 // Tables: their check, and their text read and written. Nothing here knows of searching.
 pub mod checker;
+mod scanner;
 mod judge;
 
 ghost use mathlib.Core.Path.{_≡_};
@@ -53,6 +54,14 @@ pub struct Layout {
     pub terminals: usize,
     pub arcs: usize,
     pub end: usize,
+}
+
+// A line of a text: whether it is well formed, how many bytes it says, the first nine of them, and where the next line begins.
+pub struct Scanned {
+    pub ok: bool,
+    pub count: usize,
+    pub next: usize,
+    pub bytes: [u8; 9],
 }
 
 // What the table check tells: whether the table keeps the rules, and where each state's arcs begin.

@@ -1,0 +1,50 @@
+-- What the code of the reader holds of a table while it reads the lines after the header's.
+use Prim.Native.Nat.{ℕ, _+_, _≤_, _<_}
+use mathlib.Core.Path.{_≡_}
+use mathlib.Core.Bool.{true}
+use mathlib.Core.List.{List, [], _∷_, _++_}
+use lib.ListN.{length, take}
+use Rattle.table.specs.Table.{Arc, Table, Counts}
+use Rattle.table.specs.Rules.{countsHold, initialsKeep, terminalsKeep, arcsKeep}
+use Rattle.table.specs.Loaded.{countCells, arcCells, arcsCells}
+use Rattle.table.specs.Text.{linesBefore}
+use Rattle.table.specs.Parse.{Kind, header, initial, terminal, arc, end, numberAt, arcFrom}
+use Rattle.table.specs.Judge.{largest, stateKey, arcKey}
+
+-- the cells of the counts and of the items so far
+unfoldable pub draftCells : Counts → Table → List ℕ
+draftCells c t = countCells c ++ (t .initials ++ (t .terminals ++ arcsCells (t .arcs)))
+
+-- the cells that a line of a kind adds
+abbrev pub itemCells : Kind → List ℕ → List ℕ
+itemCells header b = []
+itemCells initial b = numberAt b 1 ∷ []
+itemCells terminal b = numberAt b 1 ∷ []
+itemCells arc b = arcCells (arcFrom b)
+itemCells end b = []
+
+-- the key by which a line's item is seen to be new
+abbrev pub itemKey : Kind → List ℕ → ℕ
+itemKey header b = 0
+itemKey initial b = stateKey (numberAt b 1)
+itemKey terminal b = 0
+itemKey arc b = arcKey (arcFrom b)
+itemKey end b = 0
+
+-- the cells hold the draft of a table whose items so far keep the rules; each list is full before the next begins
+pub record Tracks (c : Counts) (t : Table) (lines filled top : ℕ) (cells : List ℕ) : Type 0 where
+  pub counts : countsHold c ≡ true
+  pub states-is : t .states ≡ c .states
+  pub initials-most : length (t .initials) ≤ c .initials
+  pub terminals-most : length (t .terminals) ≤ c .terminals
+  pub arcs-most : length (t .arcs) ≤ c .arcs
+  pub initials-full : 0 < length (t .terminals) + length (t .arcs) → length (t .initials) ≡ c .initials
+  pub terminals-full : 0 < length (t .arcs) → length (t .terminals) ≡ c .terminals
+  pub lines-is : lines ≡ linesBefore t
+  pub filled-is : filled ≡ length (draftCells c t)
+  pub cells-are : take filled cells ≡ draftCells c t
+  pub initials-keep : initialsKeep (t .states) (t .initials) ≡ true
+  pub terminals-keep : terminalsKeep (t .states) (t .terminals) ≡ true
+  pub arcs-keep : arcsKeep (t .states) (t .arcs) ≡ true
+  pub top-states : largest stateKey (t .initials) ≤ top
+  pub top-arcs : largest arcKey (t .arcs) ≤ top
