@@ -18,9 +18,12 @@ use Rattle.table.proofs.Each.{each-snoc, each-fails, and-both}
 pub at-equal : {A : Type 0} (f : ℕ → A) (m n : ℕ) → m ≡ n → f m ≡ f n
 at-equal f m n e = ap f e
 
--- the arc at place k of cells
+-- the arc from a cell on, and the arc at place k of cells
+abbrev pub arcHere : List ℕ → ℕ → Arc
+arcHere cells at = arcAs (getD cells at 0) (getD cells (at + 1) 0) (getD cells (at + 2) 0) (getD cells (at + 3) 0)
+
 abbrev pub arcAt : List ℕ → ℕ → Arc
-arcAt cells k = arcAs (getD cells (4 * k) 0) (getD cells (4 * k + 1) 0) (getD cells (4 * k + 2) 0) (getD cells (4 * k + 3) 0)
+arcAt cells k = arcHere cells (4 * k)
 
 pub noArc : Arc
 noArc = arcAs 0 0 0 0
@@ -30,13 +33,13 @@ unfolding arcsIn
 length-arcs zero cells = refl
 length-arcs (suc n) cells = ap suc (length-arcs n (drop 4 cells))
 
-arc-dropped : (cells : List ℕ) (k : ℕ) → arcIn (drop (4 * k) cells) ≡ arcAt cells k
-arc-dropped cells k =
+pub arc-dropped : (cells : List ℕ) (at : ℕ) → arcIn (drop at cells) ≡ arcHere cells at
+arc-dropped cells at =
     λ i. record {
-      source = (getD-drop (4 * k) cells 0 0 ∙ at-equal (λ n. getD cells n 0) (4 * k + 0) (4 * k) (omega arith)) i;
-      upper = getD-drop (4 * k) cells 1 0 i;
-      lower = getD-drop (4 * k) cells 2 0 i;
-      target = getD-drop (4 * k) cells 3 0 i;
+      source = (getD-drop at cells 0 0 ∙ at-equal (λ n. getD cells n 0) (at + 0) at (omega arith)) i;
+      upper = getD-drop at cells 1 0 i;
+      lower = getD-drop at cells 2 0 i;
+      target = getD-drop at cells 3 0 i;
     }
 
 pub getD-arcs : (n : ℕ) (cells : List ℕ) (k : ℕ) (d : Arc) → k < n → getD (arcsIn n cells) k d ≡ arcAt cells k
@@ -44,8 +47,8 @@ unfolding arcsIn
 getD-arcs zero cells k d h = absurd (omega arith)
 getD-arcs (suc n) cells zero d h = refl
 getD-arcs (suc n) cells (suc k) d h =
-    getD-arcs n (drop 4 cells) k d (omega arith) ∙ sym (arc-dropped (drop 4 cells) k)
-    ∙ ap arcIn (drop-drop (4 * k) 4 cells ∙ at-equal (λ m. drop m cells) (4 + 4 * k) (4 * suc k) (omega arith)) ∙ arc-dropped cells (suc k)
+    getD-arcs n (drop 4 cells) k d (omega arith) ∙ sym (arc-dropped (drop 4 cells) (4 * k))
+    ∙ ap arcIn (drop-drop (4 * k) 4 cells ∙ at-equal (λ m. drop m cells) (4 + 4 * k) (4 * suc k) (omega arith)) ∙ arc-dropped cells (4 * suc k)
 
 -- one arc more
 pub arcs-snoc : (k : ℕ) (cells : List ℕ) → arcsIn (suc k) cells ≡ arcsIn k cells ++ (arcAt cells k ∷ [])
@@ -55,7 +58,7 @@ arcs-snoc (suc k) cells =
     ap (λ (l : List Arc). arcIn cells ∷ l)
     (arcs-snoc k (drop 4 cells)
     ∙ ap (λ (a : Arc). arcsIn k (drop 4 cells) ++ (a ∷ []))
-    (sym (arc-dropped (drop 4 cells) k) ∙ ap arcIn (drop-drop (4 * k) 4 cells ∙ at-equal (λ m. drop m cells) (4 + 4 * k) (4 * suc k) (omega arith)) ∙ arc-dropped cells (suc k)))
+    (sym (arc-dropped (drop 4 cells) (4 * k)) ∙ ap arcIn (drop-drop (4 * k) 4 cells ∙ at-equal (λ m. drop m cells) (4 + 4 * k) (4 * suc k) (omega arith)) ∙ arc-dropped cells (4 * suc k)))
 
 -- the arcs of a part from the front are the first ones
 pub arcs-take : (k m : ℕ) (cells : List ℕ) → 4 * k ≤ m → m ≤ length cells → arcsIn k (take m cells) ≡ arcsIn k cells
@@ -92,9 +95,6 @@ arcs-fail test cells n k h f =
     (ap₂ test (take-arcs n k cells (omega arith)) (getD-arcs n cells k noArc h) ∙ f)
 
 -- The same by the place of a cell: `at` cells from the front are whole arcs.
-
-abbrev pub arcHere : List ℕ → ℕ → Arc
-arcHere cells at = arcAs (getD cells at 0) (getD cells (at + 1) 0) (getD cells (at + 2) 0) (getD cells (at + 3) 0)
 
 pub arc-here : (cells : List ℕ) (at : ℕ) → at ≡ 4 * (at / 4) → arcAt cells (at / 4) ≡ arcHere cells at
 arc-here cells at e = at-equal (arcHere cells) (4 * (at / 4)) at (omega arith)

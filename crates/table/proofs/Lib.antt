@@ -12,6 +12,11 @@ pub mod Parts
 pub mod Line
 pub mod Text
 pub mod Scan
+pub mod Told
 pub mod Parse
+pub mod Draft
 pub mod Determine
 pub mod Calls
+pub mod TableCheck
+pub mod Stores
+pub mod Written

@@ -31,7 +31,7 @@ length-arcs-cells [] = refl
 length-arcs-cells (a ∷ arcs) = let e : length (arcsCells arcs) ≡ 4 * length arcs = length-arcs-cells arcs in omega arith
 
 -- four cells are those that are looked at
-four : (cells : List ℕ) → 4 ≤ length cells → getD cells 0 0 ∷ getD cells 1 0 ∷ getD cells 2 0 ∷ getD cells 3 0 ∷ [] ≡ take 4 cells
+pub four : (cells : List ℕ) → 4 ≤ length cells → getD cells 0 0 ∷ getD cells 1 0 ∷ getD cells 2 0 ∷ getD cells 3 0 ∷ [] ≡ take 4 cells
 four [] h = absurd (omega arith)
 four (a ∷ []) h = absurd (omega arith)
 four (a ∷ b ∷ []) h = absurd (omega arith)

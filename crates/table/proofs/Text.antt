@@ -154,7 +154,7 @@ text-parts t =
     (join-append (map arcBytes (t .arcs)) _
     ∙ ap (λ (l : List ℕ). joinLines (map arcBytes (t .arcs)) ++ l) (append-nil (lineText (endBytes (linesBefore t)))))))
 
-length-lines : {A : Type 0} (f : A → List ℕ) (w : ℕ) → ((x : A) → length (f x) ≡ w) → (xs : List A)
+pub length-lines : {A : Type 0} (f : A → List ℕ) (w : ℕ) → ((x : A) → length (f x) ≡ w) → (xs : List A)
     → length (joinLines (map f xs)) ≡ (2 * w + 1) * length xs
 unfolding joinLines
 length-lines f w law [] = omega arith

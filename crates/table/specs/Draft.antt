@@ -1,19 +1,36 @@
 -- What the code of the reader holds of a table while it reads the lines after the header's.
 use Prim.Native.Nat.{ℕ, _+_, _≤_, _<_}
 use mathlib.Core.Path.{_≡_}
-use mathlib.Core.Bool.{true}
+use mathlib.Core.Bool.{true, cond}
 use mathlib.Core.List.{List, [], _∷_, _++_}
+use lib.Dec.{leb}
 use lib.ListN.{length, take}
+use Rattle.table.specs.declared.Read.{Read}
+use Rattle.table.specs.declared.Read.the-variants.{Cells, Fault}
 use Rattle.table.specs.Table.{Arc, Table, Counts}
 use Rattle.table.specs.Rules.{countsHold, initialsKeep, terminalsKeep, arcsKeep}
-use Rattle.table.specs.Loaded.{countCells, arcCells, arcsCells}
+use Rattle.table.specs.Loaded.{countCells, arcCells, arcsCells, cellsOf}
 use Rattle.table.specs.Text.{linesBefore}
-use Rattle.table.specs.Parse.{Kind, header, initial, terminal, arc, end, numberAt, arcFrom}
-use Rattle.table.specs.Judge.{largest, stateKey, arcKey}
+use Rattle.table.specs.Parse.{Kind, header, initial, terminal, arc, end, codeOf, due, numberAt, arcFrom, Parsed, accepted, turnedDown, within, emptyTable, parseFrom}
+use Rattle.table.specs.Line.{linesOf}
+use Rattle.table.specs.Judge.{arcsAs, Whole, largest, stateKey, arcKey}
 
 -- the cells of the counts and of the items so far
 unfoldable pub draftCells : Counts → Table → List ℕ
 draftCells c t = countCells c ++ (t .initials ++ (t .terminals ++ arcsCells (t .arcs)))
+
+-- the first byte of the next line, by the counts and the lines so far
+unfoldable pub kindAfter : Counts → ℕ → ℕ
+kindAfter c lines =
+    cond (leb lines (c .initials)) 2 (cond (leb lines (c .initials + c .terminals)) 3 (cond (leb lines (c .initials + c .terminals + c .arcs)) 4 5))
+
+-- the kinds of items
+abbrev pub IsItem : Kind → Type 0
+IsItem header = ⊥
+IsItem initial = Unit {0}
+IsItem terminal = Unit {0}
+IsItem arc = Unit {0}
+IsItem end = ⊥
 
 -- the cells that a line of a kind adds
 abbrev pub itemCells : Kind → List ℕ → List ℕ
@@ -48,3 +65,27 @@ pub record Tracks (c : Counts) (t : Table) (lines filled top : ℕ) (cells : Lis
   pub arcs-keep : arcsKeep (t .states) (t .arcs) ≡ true
   pub top-states : largest stateKey (t .initials) ≤ top
   pub top-arcs : largest arcKey (t .arcs) ≤ top
+
+-- some table is so tracked, and the line of this first byte is due
+pub record Drafted (lines filled top : ℕ) (cells : List ℕ) (kind : ℕ) : Type 0 where
+  pub counts : Counts
+  pub table : Table
+  pub tracks : Tracks counts table lines filled top cells
+  pub kind-is : kind ≡ codeOf (due counts table)
+
+-- what the code of the rules asks of the arcs before one
+abbrev pub ArcsReady : ℕ → List ℕ → ℕ → Type 0
+ArcsReady states before top = Whole before × ((arcsKeep states (arcsAs before) ≡ true) × (largest arcKey (arcsAs before) ≤ top))
+
+-- what the reader makes of a text
+abbrev pub cellsRead : Parsed → Read
+cellsRead (accepted t) = Cells (length (cellsOf t))
+cellsRead (turnedDown cause) = Fault cause
+
+abbrev pub CellsAre : Parsed → List ℕ → Type 0
+CellsAre (accepted t) cells = take (length (cellsOf t)) cells ≡ cellsOf t
+CellsAre (turnedDown cause) cells = Unit {0}
+
+-- the parse of the lines after a header line with these counts
+abbrev pub itemsParsed : Counts → List ℕ → Parsed
+itemsParsed c text = parseFrom (within c (emptyTable (c .states))) (linesOf text)

@@ -1,6 +1,8 @@
 // Tables: their check, and their text read and written. Nothing here knows of searching.
 pub mod checker;
 mod scanner;
+pub mod reader;
+pub mod writer;
 mod judge;
 
 ghost use mathlib.Core.Path.{_≡_};
@@ -62,6 +64,12 @@ pub struct Scanned {
     pub count: usize,
     pub next: usize,
     pub bytes: [u8; 9],
+}
+
+// What the lines of a text give: how many cells a table has, or the first bad line's refusal.
+pub enum Read {
+    Cells(usize),
+    Fault(InputCause),
 }
 
 // What the table check tells: whether the table keeps the rules, and where each state's arcs begin.

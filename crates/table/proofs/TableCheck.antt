@@ -1,0 +1,34 @@
+-- What the table check tells: cells that pass it hold their table, others hold none.
+use Prim.Native.Nat.{ℕ}
+use mathlib.Core.Path.{_≡_, refl, sym, ap, _∙_}
+use mathlib.Core.Bool.{Bool, true, false, cond, true≢false, _&&_}
+use mathlib.Core.Option.{Option, none, some}
+use mathlib.Core.List.{List}
+use lib.Dec.{leb}
+use lib.ListN.{length}
+use Rattle.table.specs.declared.Checked.{Checked}
+use Rattle.table.specs.Table.{Table}
+use Rattle.table.specs.Rules.{keepsRules}
+use Rattle.table.specs.Loaded.{countsIn, extent, tableIn, loaded}
+use Rattle.table.specs.Calls.{checkedAs, checked}
+
+module _ (cells : List ℕ) (r : Checked) (is : r ≡ checked cells) where
+  -- the table or none, by the outcome
+  abbrev decided : Bool → Option Table
+  decided b = cond b (some (tableIn cells)) none
+
+  pub passed : r .ok ≡ true → loaded cells ≡ some (tableIn cells)
+  unfolding checked loaded
+  passed e = go (leb (extent (countsIn cells)) (length cells) && keepsRules (tableIn cells)) (sym (ap (λ (x : Checked). x .ok) is) ∙ e)
+    where
+      go : (b : Bool) → checkedAs (decided b) .ok ≡ true → decided b ≡ some (tableIn cells)
+      go true k = refl
+      go false k = absurd (true≢false (sym k))
+
+  pub failed : r .ok ≡ false → loaded cells ≡ none
+  unfolding checked loaded
+  failed e = go (leb (extent (countsIn cells)) (length cells) && keepsRules (tableIn cells)) (sym (ap (λ (x : Checked). x .ok) is) ∙ e)
+    where
+      go : (b : Bool) → checkedAs (decided b) .ok ≡ false → decided b ≡ none
+      go true k = absurd (true≢false k)
+      go false k = refl

@@ -1,0 +1,171 @@
+-- What the writer leaves: the lines of the table that the cells hold, stored one after the other, are the table's text.
+use Prim.Native.Nat.{ℕ, zero, suc, _+_, _-_, _*_, _/_, _<_, _≤_}
+use native.Mathlib.Omega.{arith}
+use mathlib.Core.Path.{_≡_, refl, sym, ap, subst, _∙_}
+use mathlib.Core.Bool.{Bool, true, false, cond}
+use mathlib.Core.Option.{Option, none, some}
+use mathlib.Core.List.{List, [], _∷_, _++_, map}
+use lib.Dec.{leb}
+use lib.ListN.{length, getD, take, drop}
+use lib.Seq.{sets, sets-eq}
+use borrow.Author.Tests.{leb-true, leb-false, lt-leb}
+use Rattle.table.specs.declared.StateCause.the-variants.{LoadedTable, DestinationShort}
+use Rattle.table.specs.declared.Refusal.the-variants.{State}
+use Rattle.table.specs.declared.Answer.the-variants.{Done, Refused}
+use Rattle.table.specs.declared.Layout.{Layout}
+use Rattle.table.specs.Table.{Arc, Table, Counts, countsOf}
+use Rattle.table.specs.Rules.{keepsRules}
+use Rattle.table.specs.Loaded.{countsIn, arcIn, arcsIn, extent, tableIn, loaded}
+use Rattle.table.specs.Line.{charsOf, lineText}
+use Rattle.table.specs.Text.{headerBytes, initialBytes, terminalBytes, arcBytes, endBytes, linesBefore, joinLines, textOf}
+use Rattle.table.specs.Judge.{arcsAs}
+use Rattle.table.specs.Calls.{layoutOf, LaidOut, writtenAs, writtenTextAs, writeAnswer, writeText}
+use Rattle.table.proofs.All.{All, all-getD}
+use Rattle.table.proofs.Rules.{Bounded, ArcBounded, table-bounded, arcs-bounded}
+use Rattle.table.proofs.Loaded.{counts-of, cells-loaded}
+use Rattle.table.proofs.Parts.{initials-part, terminals-part, arcsPart, arcs-part, arcs-length, laid-out, loaded-short}
+use Rattle.table.proofs.Line.{IsByte}
+use Rattle.table.proofs.Text.{text-parts, length-lines, length-text}
+use Rattle.table.proofs.Stores.{then}
+
+-- What cells that hold a table say of it.
+
+pub record Holding (cells : List ℕ) : Type 0 where
+  pub whole : extent (countsIn cells) ≤ length cells
+  pub keeps : keepsRules (tableIn cells) ≡ true
+  pub bounds : Bounded (countsIn cells)
+  pub size : length (textOf (tableIn cells)) ≡ 26 + 7 * getD cells 1 0 + 7 * getD cells 2 0 + 15 * getD cells 3 0
+
+pub holding : (cells : List ℕ) → loaded cells ≡ some (tableIn cells) → Holding cells
+holding cells holds = go (leb (extent (countsIn cells)) (length cells)) refl
+  where
+    t : Table
+    t = tableIn cells
+
+    keeps : keepsRules t ≡ true
+    keeps = cells-loaded cells t holds .0
+
+    go : (b : Bool) → leb (extent (countsIn cells)) (length cells) ≡ b → Holding cells
+    go true h =
+        let whole : extent (countsIn cells) ≤ length cells = leb-true _ _ h in
+        let e = counts-of cells whole in
+        let i : length (t .initials) ≡ getD cells 1 0 = ap (λ (c : Counts). c .initials) e in
+        let m : length (t .terminals) ≡ getD cells 2 0 = ap (λ (c : Counts). c .terminals) e in
+        let a : length (t .arcs) ≡ getD cells 3 0 = ap (λ (c : Counts). c .arcs) e in
+        let z = length-text t in
+        record { whole = whole; keeps = keeps; bounds = subst Bounded e (table-bounded t keeps); size = omega arith }
+    go false h = let z = loaded-short cells (leb-false _ _ h) in let f : _≡_ {A = ℕ} 0 1 = cc in absurd (omega arith)
+
+-- every cell of arcs between at most 256 states is a byte
+arcs-bytes : (states n : ℕ) (cells : List ℕ) → states ≤ 256 → length cells ≡ 4 * n → All (ArcBounded states) (arcsIn n cells) → All IsByte cells
+unfolding arcsIn
+arcs-bytes states n [] s e p = tt
+arcs-bytes states zero (x ∷ cells) s e p = absurd (omega arith)
+arcs-bytes states (suc n) (x ∷ []) s e p = absurd (omega arith)
+arcs-bytes states (suc n) (x ∷ y ∷ []) s e p = absurd (omega arith)
+arcs-bytes states (suc n) (x ∷ y ∷ z ∷ []) s e p = absurd (omega arith)
+arcs-bytes states (suc n) (x ∷ y ∷ z ∷ w ∷ cells) s e p =
+    let b : ArcBounded states (arcIn (x ∷ y ∷ z ∷ w ∷ cells)) = p .0 in
+    (omega arith, (omega arith, (omega arith, (omega arith, arcs-bytes states n cells s (omega arith) (p .1)))))
+
+-- the parts of the cells, by the layout
+module _ (cells : List ℕ) (l : Layout) where
+  abbrev pub initialsPart : List ℕ
+  initialsPart = take (l .terminals - 4) (drop 4 cells)
+
+  abbrev pub terminalsPart : List ℕ
+  terminalsPart = take (l .arcs - l .terminals) (drop (l .terminals) cells)
+
+  pub record Parted : Type 0 where
+    pub held : Holding cells
+    pub laid : LaidOut cells l
+    pub initials : initialsPart ≡ tableIn cells .initials
+    pub terminals : terminalsPart ≡ tableIn cells .terminals
+    pub arcs : arcsAs (arcsPart cells l laid) ≡ tableIn cells .arcs
+    pub initials-count : length initialsPart ≡ getD cells 1 0
+    pub terminals-count : length terminalsPart ≡ getD cells 2 0
+    pub arcs-count : length (arcsPart cells l laid) ≡ 4 * getD cells 3 0
+    pub bytes : (i : ℕ) → getD (arcsPart cells l laid) i 0 < 256
+
+  pub parted : l ≡ layoutOf (countsIn cells) → loaded cells ≡ some (tableIn cells) → Parted
+  parted laid-is holds =
+      let h : Holding cells = holding cells holds in
+      let at = ap (λ (x : Layout). x .end) laid-is in
+      let laid : LaidOut cells l = laid-out cells l laid-is (omega arith) in
+      let e = counts-of cells (h .whole) in
+      let pi = initials-part cells l laid in
+      let pm = terminals-part cells l laid in
+      let pa = arcs-part cells l laid in
+      let n = arcs-length cells l laid in
+      let part : List ℕ = arcsPart cells l laid in
+      let b = h .bounds in
+      let states = ap (λ (c : Counts). c .states) e in
+      record {
+        held = h;
+        laid = laid;
+        initials = pi;
+        terminals = pm;
+        arcs = pa;
+        initials-count = ap length pi ∙ ap (λ (c : Counts). c .initials) e;
+        terminals-count = ap length pm ∙ ap (λ (c : Counts). c .terminals) e;
+        arcs-count = n;
+        bytes =
+            λ i.
+            all-getD IsByte part i 0 (omega arith)
+            (arcs-bytes (tableIn cells .states) (length part / 4) part (omega arith) (omega arith)
+            (subst (All (ArcBounded (tableIn cells .states))) (sym pa) (arcs-bounded (tableIn cells) (h .keeps))));
+      }
+
+  -- the lines of a table, one run after the other, are its text, with what stood after it
+  pub written : (h : Parted) (d m₁ m₂ m₃ m₄ m₅ : List ℕ) (p₂ p₃ p₄ : ℕ) → length (textOf (tableIn cells)) ≤ length d
+      → m₁ ≡ sets d 0 (lineText (headerBytes (countsIn cells)))
+      → (p₂ ≡ 19 + 7 * length initialsPart) × (m₂ ≡ sets m₁ 19 (joinLines (map initialBytes initialsPart)))
+      → (p₃ ≡ p₂ + 7 * length terminalsPart) × (m₃ ≡ sets m₂ p₂ (joinLines (map terminalBytes terminalsPart)))
+      → (p₄ ≡ p₃ + 15 * (length (arcsPart cells l (h .laid)) / 4)) × (m₄ ≡ sets m₃ p₃ (joinLines (map arcBytes (arcsAs (arcsPart cells l (h .laid))))))
+      → m₅ ≡ sets m₄ p₄ (lineText (endBytes (1 + getD cells 1 0 + getD cells 2 0 + getD cells 3 0)))
+      → m₅ ≡ textOf (tableIn cells) ++ drop (length (textOf (tableIn cells))) d
+  unfolding charsOf
+  written h d m₁ m₂ m₃ m₄ m₅ p₂ p₃ p₄ room q₁ q₂ q₃ q₄ q₅ =
+      let t : Table = tableIn cells in
+      let e : countsIn cells ≡ countsOf t = sym (counts-of cells (h .held .whole)) in
+      let c₁ = length-lines initialBytes 3 (λ s. refl) (t .initials) in
+      let c₂ = length-lines terminalBytes 3 (λ s. refl) (t .terminals) in
+      let c₃ = length-lines arcBytes 7 (λ a. refl) (t .arcs) in
+      let i = ap length (h .initials) in
+      let m = ap length (h .terminals) in
+      let n = h .arcs-count in
+      let a = ap (λ (c : Counts). c .arcs) e in
+      let r₁ = q₁ ∙ ap (λ (c : Counts). sets d 0 (lineText (headerBytes c))) e in
+      let r₂ = q₂ .1 ∙ ap (λ (xs : List ℕ). sets m₁ 19 (joinLines (map initialBytes xs))) (h .initials) in
+      let r₃ = q₃ .1 ∙ ap (λ (xs : List ℕ). sets m₂ p₂ (joinLines (map terminalBytes xs))) (h .terminals) in
+      let r₄ = q₄ .1 ∙ ap (λ (xs : List Arc). sets m₃ p₃ (joinLines (map arcBytes xs))) (h .arcs) in
+      let r₅ = q₅ ∙ ap (λ (c : Counts). sets m₄ p₄ (lineText (endBytes (1 + c .initials + c .terminals + c .arcs)))) e in
+      let w₄ : List ℕ = joinLines (map arcBytes (t .arcs)) ++ lineText (endBytes (linesBefore t)) in
+      let w₃ : List ℕ = joinLines (map terminalBytes (t .terminals)) ++ w₄ in
+      let w₂ : List ℕ = joinLines (map initialBytes (t .initials)) ++ w₃ in
+      let s₄ = then m₃ m₄ m₅ p₃ p₄ (joinLines (map arcBytes (t .arcs))) (lineText (endBytes (linesBefore t))) r₄ (omega arith) r₅ in
+      let s₃ = then m₂ m₃ m₅ p₂ p₃ (joinLines (map terminalBytes (t .terminals))) w₄ r₃ (omega arith) s₄ in
+      let s₂ = then m₁ m₂ m₅ 19 p₂ (joinLines (map initialBytes (t .initials))) w₃ r₂ (omega arith) s₃ in
+      let s₁ = then d m₁ m₅ 0 19 (lineText (headerBytes (countsOf t))) w₂ r₁ refl s₂ in
+      let same : 0 + length (textOf t) ≡ length (textOf t) = omega arith in
+      s₁ ∙ ap (sets d 0) (sym (text-parts t)) ∙ sets-eq (textOf t) d 0 (omega arith) ∙ ap (λ (k : ℕ). textOf t ++ drop k d) same
+
+-- The refusals: a destination that is too short, and cells that hold no table.
+
+module _ (cells destination : List ℕ) where
+  pub write-short : (t : Table) → loaded cells ≡ some t → length destination < length (textOf t)
+      → (Refused (State DestinationShort) ≡ writeAnswer cells destination) × (destination ≡ writeText cells destination)
+  unfolding writeAnswer writeText
+  write-short t e h =
+      let f : leb (length (textOf t)) (length destination) ≡ false = lt-leb _ _ h in (
+        sym
+            (ap (λ (p : Option Table). writtenAs p destination) e
+            ∙ ap (λ (b : Bool). cond b (Done (length (textOf t))) (Refused (State DestinationShort))) f),
+        sym
+            (ap (λ (p : Option Table). writtenTextAs p destination) e
+            ∙ ap (λ (b : Bool). cond b (textOf t ++ drop (length (textOf t)) destination) destination) f),
+      )
+
+  pub write-none : loaded cells ≡ none → (Refused (State LoadedTable) ≡ writeAnswer cells destination) × (destination ≡ writeText cells destination)
+  unfolding writeAnswer writeText
+  write-none e = (sym (ap (λ (p : Option Table). writtenAs p destination) e), sym (ap (λ (p : Option Table). writtenTextAs p destination) e))

@@ -1,0 +1,53 @@
+use borrow.Author.Needs.{needs}
+use Rattle.table.proofs.reader.arc_item.Statement.{statement}
+use Rattle.table.proofs.reader.arc_item.Tie as tie
+use Rattle.table.proofs.reader.arc_item.Reads as reads
+use Rattle.table.proofs.reader.arc_item.Lts as lts
+use Rattle.table.proofs.judge.arc_fault.Reads as arc-fault-reads
+use Rattle.table.proofs.reader.letter.Reads as letter-reads
+use Rattle.table.proofs.scanner.number_at.Reads as number-at-reads
+
+-- src/reader.rt:66:9
+number-at-requires : tie.Need-number-at-requires
+number-at-requires c κs = search needs
+
+-- src/reader.rt:67:16
+array-read-letter : tie.Need-array-read-letter
+array-read-letter c = search needs
+
+-- src/reader.rt:67:9
+letter-requires : tie.Need-letter-requires
+letter-requires c κs = search needs
+
+-- src/reader.rt:68:16
+array-read-letter-2 : tie.Need-array-read-letter-2
+array-read-letter-2 c = search needs
+
+-- src/reader.rt:68:9
+letter-requires-2 : tie.Need-letter-requires-2
+letter-requires-2 c κs = search needs
+
+-- src/reader.rt:69:9
+number-at-requires-2 : tie.Need-number-at-requires-2
+number-at-requires-2 c κs = search needs
+
+-- src/reader.rt:63:5
+arc-fault-requires : tie.Need-arc-fault-requires
+arc-fault-requires c κs = search needs
+
+-- src/reader.rt:59:1
+returns : tie.Need-returns
+returns c = ?
+
+pub arc-item-spec : {M : Type 1} → statement M
+arc-item-spec =
+    tie.close
+    (tie.spec
+    number-at-requires
+    array-read-letter
+    letter-requires
+    array-read-letter-2
+    letter-requires-2
+    number-at-requires-2
+    arc-fault-requires
+    returns)

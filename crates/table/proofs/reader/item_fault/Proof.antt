@@ -1,0 +1,200 @@
+use borrow.Author.Needs.{needs}
+use Rattle.table.proofs.reader.item_fault.Statement.{statement}
+use Rattle.table.proofs.reader.item_fault.Tie as tie
+use Rattle.table.proofs.reader.item_fault.Reads as reads
+use Rattle.table.proofs.reader.item_fault.Lts as lts
+use Rattle.table.proofs.judge.initial_fault.Reads as initial-fault-reads
+use Rattle.table.proofs.judge.terminal_fault.Reads as terminal-fault-reads
+use Rattle.table.proofs.reader.arc_item.Reads as arc-item-reads
+use Rattle.table.proofs.reader.wide.Reads as wide-reads
+use Rattle.table.proofs.scanner.number_at.Reads as number-at-reads
+
+-- src/reader.rt:88:8
+array-read-if1 : tie.Need-array-read-if1
+array-read-if1 c = search needs
+
+-- src/reader.rt:89:9
+returns : tie.Need-returns
+returns c = ?
+
+-- src/reader.rt:93:13
+returns-2 : tie.Need-returns-2
+returns-2 c = ?
+
+-- src/reader.rt:95:29
+shared-slice-read-wide : tie.Need-shared-slice-read-wide
+shared-slice-read-wide c = ?
+
+-- src/reader.rt:95:24
+wide-requires : tie.Need-wide-requires
+wide-requires c κs = search needs
+
+-- src/reader.rt:95:20
+add-from : tie.Need-add-from
+add-from c = search needs
+
+-- src/reader.rt:95:46
+shared-slice-read-wide-2 : tie.Need-shared-slice-read-wide-2
+shared-slice-read-wide-2 c = ?
+
+-- src/reader.rt:95:41
+wide-requires-2 : tie.Need-wide-requires-2
+wide-requires-2 c κs = search needs
+
+-- src/reader.rt:95:20
+add-from-2 : tie.Need-add-from-2
+add-from-2 c = search needs
+
+-- src/reader.rt:96:25
+mul-arc-item : tie.Need-mul-arc-item
+mul-arc-item c = search needs
+
+-- src/reader.rt:96:25
+sub-arc-item : tie.Need-sub-arc-item
+sub-arc-item c = ?
+
+-- src/reader.rt:96:25
+part-arc-item-start : tie.Need-part-arc-item-start
+part-arc-item-start c = ?
+
+-- src/reader.rt:96:25
+part-arc-item-end : tie.Need-part-arc-item-end
+part-arc-item-end c = ?
+
+-- src/reader.rt:96:47
+shared-slice-read-arc-item : tie.Need-shared-slice-read-arc-item
+shared-slice-read-arc-item c = ?
+
+-- src/reader.rt:96:9
+arc-item-requires : tie.Need-arc-item-requires
+arc-item-requires c κs = ?
+
+-- src/reader.rt:96:9
+returns-3 : tie.Need-returns-3
+returns-3 c = ?
+
+-- src/reader.rt:99:9
+returns-4 : tie.Need-returns-4
+returns-4 c = ?
+
+-- src/reader.rt:101:9
+number-at-requires : tie.Need-number-at-requires
+number-at-requires c κs = search needs
+
+-- src/reader.rt:103:37
+sub-initial-fault : tie.Need-sub-initial-fault
+sub-initial-fault c = ?
+
+-- src/reader.rt:103:37
+part-initial-fault-start : tie.Need-part-initial-fault-start
+part-initial-fault-start c = ?
+
+-- src/reader.rt:103:37
+part-initial-fault-end : tie.Need-part-initial-fault-end
+part-initial-fault-end c = ?
+
+-- src/reader.rt:103:56
+shared-slice-read-initial-fault : tie.Need-shared-slice-read-initial-fault
+shared-slice-read-initial-fault c = ?
+
+-- src/reader.rt:103:9
+initial-fault-requires : tie.Need-initial-fault-requires
+initial-fault-requires c κs = ?
+
+-- src/reader.rt:103:9
+returns-5 : tie.Need-returns-5
+returns-5 c = ?
+
+-- src/reader.rt:106:29
+shared-slice-read-wide-3 : tie.Need-shared-slice-read-wide-3
+shared-slice-read-wide-3 c = ?
+
+-- src/reader.rt:106:24
+wide-requires-3 : tie.Need-wide-requires-3
+wide-requires-3 c κs = search needs
+
+-- src/reader.rt:106:20
+add-from-3 : tie.Need-add-from-3
+add-from-3 c = search needs
+
+-- src/reader.rt:107:38
+mul-terminal-fault : tie.Need-mul-terminal-fault
+mul-terminal-fault c = search needs
+
+-- src/reader.rt:107:38
+sub-terminal-fault : tie.Need-sub-terminal-fault
+sub-terminal-fault c = ?
+
+-- src/reader.rt:107:38
+part-terminal-fault-start : tie.Need-part-terminal-fault-start
+part-terminal-fault-start c = ?
+
+-- src/reader.rt:107:38
+part-terminal-fault-end : tie.Need-part-terminal-fault-end
+part-terminal-fault-end c = ?
+
+-- src/reader.rt:107:60
+shared-slice-read-terminal-fault : tie.Need-shared-slice-read-terminal-fault
+shared-slice-read-terminal-fault c = ?
+
+-- src/reader.rt:107:9
+terminal-fault-requires : tie.Need-terminal-fault-requires
+terminal-fault-requires c κs = search needs
+
+-- src/reader.rt:107:9
+returns-6 : tie.Need-returns-6
+returns-6 c = ?
+
+-- src/reader.rt:109:8
+wide-requires-4 : tie.Need-wide-requires-4
+wide-requires-4 c κs = search needs
+
+-- src/reader.rt:75:1
+returns-7 : tie.Need-returns-7
+returns-7 c = ?
+
+-- src/reader.rt:75:1
+returns-8 : tie.Need-returns-8
+returns-8 c = ?
+
+pub item-fault-spec : {M : Type 1} → statement M
+item-fault-spec =
+    tie.close
+    (tie.spec
+    array-read-if1
+    returns
+    returns-2
+    shared-slice-read-wide
+    wide-requires
+    add-from
+    shared-slice-read-wide-2
+    wide-requires-2
+    add-from-2
+    mul-arc-item
+    sub-arc-item
+    part-arc-item-start
+    part-arc-item-end
+    shared-slice-read-arc-item
+    arc-item-requires
+    returns-3
+    returns-4
+    number-at-requires
+    sub-initial-fault
+    part-initial-fault-start
+    part-initial-fault-end
+    shared-slice-read-initial-fault
+    initial-fault-requires
+    returns-5
+    shared-slice-read-wide-3
+    wide-requires-3
+    add-from-3
+    mul-terminal-fault
+    sub-terminal-fault
+    part-terminal-fault-start
+    part-terminal-fault-end
+    shared-slice-read-terminal-fault
+    terminal-fault-requires
+    returns-6
+    wide-requires-4
+    returns-7
+    returns-8)

@@ -1,0 +1,75 @@
+use native.Mathlib.Omega.{arith}
+use mathlib.Core.Path.{sym}
+use borrow.Author.Needs.{needs}
+use borrow.Author.Tests.{le-leb, lt-leb}
+use Rattle.table.specs.Draft.{kindAfter}
+use Rattle.table.proofs.reader.kind_due.Statement.{statement}
+use Rattle.table.proofs.reader.kind_due.Tie as tie
+use Rattle.table.proofs.reader.kind_due.Reads as reads
+use Rattle.table.proofs.reader.kind_due.Lts as lts
+use Rattle.table.proofs.reader.wide.Reads as wide-reads
+
+-- src/reader.rt:44:25
+shared-slice-read-wide : tie.Need-shared-slice-read-wide
+shared-slice-read-wide c = search needs
+
+-- src/reader.rt:44:9
+wide-requires : tie.Need-wide-requires
+wide-requires c κs = search needs
+
+-- src/reader.rt:46:9
+returns : tie.Need-returns
+returns c = sym (simp (le-leb _ _ (omega (arith, c .if1 .taken, c .before .wide .ensures .0))))
+
+-- src/reader.rt:48:37
+shared-slice-read-wide-2 : tie.Need-shared-slice-read-wide-2
+shared-slice-read-wide-2 c = search needs
+
+-- src/reader.rt:48:32
+wide-requires-2 : tie.Need-wide-requires-2
+wide-requires-2 c κs = search needs
+
+-- src/reader.rt:48:21
+add-terminals : tie.Need-add-terminals
+add-terminals c = search needs
+
+-- src/reader.rt:50:9
+returns-2 : tie.Need-returns-2
+returns-2 c = ?
+
+-- src/reader.rt:52:34
+shared-slice-read-wide-3 : tie.Need-shared-slice-read-wide-3
+shared-slice-read-wide-3 c = search needs
+
+-- src/reader.rt:52:29
+wide-requires-3 : tie.Need-wide-requires-3
+wide-requires-3 c κs = search needs
+
+-- src/reader.rt:52:17
+add-if3 : tie.Need-add-if3
+add-if3 c = search needs
+
+-- src/reader.rt:53:9
+returns-3 : tie.Need-returns-3
+returns-3 c = ?
+
+-- src/reader.rt:40:1
+returns-4 : tie.Need-returns-4
+returns-4 c = ?
+
+pub kind-due-spec : {M : Type 1} → statement M
+kind-due-spec =
+    tie.close
+    (tie.spec
+    shared-slice-read-wide
+    wide-requires
+    returns
+    shared-slice-read-wide-2
+    wide-requires-2
+    add-terminals
+    returns-2
+    shared-slice-read-wide-3
+    wide-requires-3
+    add-if3
+    returns-3
+    returns-4)

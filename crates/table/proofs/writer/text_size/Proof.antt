@@ -1,0 +1,62 @@
+-- The counts of cells that hold a table are those of the table.
+use native.Mathlib.Omega.{arith}
+use denote.Ref.{now}
+use Rattle.table.proofs.Written.{Holding, holding}
+use Rattle.table.proofs.writer.text_size.Statement.{statement}
+use Rattle.table.proofs.writer.text_size.Tie as tie
+
+held : (c : tie.Start) → Holding (now (c .args .cells))
+held c = holding (now (c .args .cells)) (c .pre)
+
+shared-slice-read-states : tie.Need-shared-slice-read-states
+shared-slice-read-states c = let h = held (c .before) in omega arith
+
+cast-states : tie.Need-cast-states
+cast-states c = let h = held (c .before) in omega arith
+
+shared-slice-read-states-2 : tie.Need-shared-slice-read-states-2
+shared-slice-read-states-2 c = let h = held (c .before .before) in omega arith
+
+cast-states-2 : tie.Need-cast-states-2
+cast-states-2 c = let h = held (c .before .before) in omega arith
+
+add-states : tie.Need-add-states
+add-states c = let h = held (c .before .before) in omega arith
+
+mul-result : tie.Need-mul-result
+mul-result c = let h = held (c .before .before) in omega arith
+
+add-result : tie.Need-add-result
+add-result c = let h = held (c .before .before) in omega arith
+
+shared-slice-read-result : tie.Need-shared-slice-read-result
+shared-slice-read-result c = let h = held (c .before .before .before) in omega arith
+
+cast-result : tie.Need-cast-result
+cast-result c = let h = held (c .before .before .before) in omega arith
+
+mul-result-2 : tie.Need-mul-result-2
+mul-result-2 c = let h = held (c .before .before .before) in omega arith
+
+add-result-2 : tie.Need-add-result-2
+add-result-2 c = let h = held (c .before .before .before) in omega arith
+
+returns : tie.Need-returns
+returns c = let h = held (c .before .before .before) in omega arith
+
+pub text-size-spec : {M : Type 1} → statement M
+text-size-spec =
+    tie.close
+    (tie.spec
+    shared-slice-read-states
+    cast-states
+    shared-slice-read-states-2
+    cast-states-2
+    add-states
+    mul-result
+    add-result
+    shared-slice-read-result
+    cast-result
+    mul-result-2
+    add-result-2
+    returns)

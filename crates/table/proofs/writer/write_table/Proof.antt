@@ -1,0 +1,121 @@
+-- The parts of the cells are the table's lists; their lines, one after the other, are the text.
+use native.Mathlib.Omega.{arith}
+use denote.Ref.{now}
+use borrow.Author.Needs.{needs}
+use Rattle.table.proofs.Written.{Holding, holding, Parted, parted, written}
+use Rattle.table.proofs.writer.write_table.Statement.{statement}
+use Rattle.table.proofs.writer.write_table.Tie as tie
+
+held : (c : tie.Start) → Holding (now (c .args .cells))
+held c = holding (now (c .args .cells)) (c .pre .0)
+
+parts : (c : tie.After-layout) → Parted (now (c .before .before .before .before .before .before .args .cells)) (c .layout .result)
+parts c = parted (now (c .before .before .before .before .before .before .args .cells)) (c .layout .result) (c .layout .ensures) (c .before .before .before .before .before .before .pre .0)
+
+shared-slice-read-lines : tie.Need-shared-slice-read-lines
+shared-slice-read-lines c = let h = held (c .before .before .before) in omega arith
+
+add-lines : tie.Need-add-lines
+add-lines c = let h = held (c .before .before .before) in omega arith
+
+shared-slice-read-lines-2 : tie.Need-shared-slice-read-lines-2
+shared-slice-read-lines-2 c = let h = held (c .before .before .before .before) in omega arith
+
+add-lines-2 : tie.Need-add-lines-2
+add-lines-2 c = let h = held (c .before .before .before .before) in omega arith
+
+shared-slice-read-lines-3 : tie.Need-shared-slice-read-lines-3
+shared-slice-read-lines-3 c = let h = held (c .before .before .before .before .before) in omega arith
+
+add-lines-3 : tie.Need-add-lines-3
+add-lines-3 c = let h = held (c .before .before .before .before .before) in omega arith
+
+layout-requires : tie.Need-layout-requires
+layout-requires c κs = search needs
+
+header-line-requires : tie.Need-header-line-requires
+header-line-requires c κs = let h = held (c .before .before .before .before .before .before .before) in omega arith
+
+sub-state-lines : tie.Need-sub-state-lines
+sub-state-lines c = let h = parts (c .before .before .before .before .before) in omega arith
+
+part-state-lines-start : tie.Need-part-state-lines-start
+part-state-lines-start c = let h = parts (c .before .before .before .before .before) in omega arith
+
+part-state-lines-end : tie.Need-part-state-lines-end
+part-state-lines-end c = let h = parts (c .before .before .before .before .before) in omega arith
+
+state-lines-requires : tie.Need-state-lines-requires
+state-lines-requires c κs = let h = parts (c .before .before .before .before .before .before) in omega arith
+
+mul-state-lines : tie.Need-mul-state-lines
+mul-state-lines c = search needs
+
+sub-state-lines-2 : tie.Need-sub-state-lines-2
+sub-state-lines-2 c = let h = parts (c .before .before .before .before .before .before .before .before .before .before) in omega arith
+
+part-state-lines-start-2 : tie.Need-part-state-lines-start-2
+part-state-lines-start-2 c = let h = parts (c .before .before .before .before .before .before .before .before .before .before) in omega arith
+
+part-state-lines-end-2 : tie.Need-part-state-lines-end-2
+part-state-lines-end-2 c = let h = parts (c .before .before .before .before .before .before .before .before .before .before) in omega arith
+
+state-lines-requires-2 : tie.Need-state-lines-requires-2
+state-lines-requires-2 c κs = let h = parts (c .before .before .before .before .before .before .before .before .before .before .before) in omega arith
+
+mul-arc-lines : tie.Need-mul-arc-lines
+mul-arc-lines c = search needs
+
+sub-arc-lines : tie.Need-sub-arc-lines
+sub-arc-lines c = let h = parts (c .before .before .before .before .before .before .before .before .before .before .before .before .before .before .before) in omega arith
+
+part-arc-lines-start : tie.Need-part-arc-lines-start
+part-arc-lines-start c = let h = parts (c .before .before .before .before .before .before .before .before .before .before .before .before .before .before .before) in omega arith
+
+part-arc-lines-end : tie.Need-part-arc-lines-end
+part-arc-lines-end c = let h = parts (c .before .before .before .before .before .before .before .before .before .before .before .before .before .before .before) in omega arith
+
+arc-lines-requires : tie.Need-arc-lines-requires
+arc-lines-requires c κs = let h = parts (c .before .before .before .before .before .before .before .before .before .before .before .before .before .before .before .before) in (omega arith, (omega arith, h .bytes))
+
+number-line-requires : tie.Need-number-line-requires
+number-line-requires c κs = let h = parts (c .before .before .before .before .before .before .before .before .before .before .before .before .before .before .before .before .before .before .before .before) in omega arith
+
+same-length : tie.Need-same-length
+same-length c = search needs
+
+returns : tie.Need-returns
+returns c =
+    let start = c .before .before .before .before .before .before .before .before .before .before .before .before .before .before .before .before .before .before .before .before .before .before .before .before .before .before .before .before .before in
+    written (now (start .args .cells)) _ (parts (c .before .before .before .before .before .before .before .before .before .before .before .before .before .before .before .before .before .before .before .before .before .before .before)) (now (start .args .text)) _ _ _ _ _ _ _ _ (start .pre .1) (c .before .before .before .before .before .before .before .before .before .before .before .before .before .before .before .before .before .before .before .before .before .header-line .ensures)
+    (c .before .before .before .before .before .before .before .before .before .before .before .before .before .before .before .before .state-lines .ensures) (c .before .before .before .before .before .before .before .before .before .before .before .state-lines2 .ensures) (c .before .before .before .before .before .before .arc-lines .ensures) (c .before .before .number-line .ensures)
+
+pub write-table-spec : {M : Type 1} → statement M
+write-table-spec =
+    tie.close
+    (tie.spec
+    shared-slice-read-lines
+    add-lines
+    shared-slice-read-lines-2
+    add-lines-2
+    shared-slice-read-lines-3
+    add-lines-3
+    layout-requires
+    header-line-requires
+    sub-state-lines
+    part-state-lines-start
+    part-state-lines-end
+    state-lines-requires
+    mul-state-lines
+    sub-state-lines-2
+    part-state-lines-start-2
+    part-state-lines-end-2
+    state-lines-requires-2
+    mul-arc-lines
+    sub-arc-lines
+    part-arc-lines-start
+    part-arc-lines-end
+    arc-lines-requires
+    number-line-requires
+    same-length
+    returns)
