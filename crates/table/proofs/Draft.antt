@@ -3,22 +3,23 @@ use Prim.Native.Nat.{ℕ, zero, suc, _+_, _-_, _*_, _/_, _<_, _≤_}
 use native.Mathlib.Omega.{arith}
 use native.Mathlib.Numerals.{add-one, add-two, add-three}
 use mathlib.Core.Path.{_≡_, refl, sym, ap, ap₂, subst, _∙_}
-use mathlib.Core.Bool.{Bool, true, false, cond, _&&_}
+use mathlib.Core.Bool.{Bool, true, false, cond, _&&_, and-false}
 use mathlib.Core.List.{List, [], _∷_, _++_, append-assoc, append-nil}
 use lib.Dec.{eqb, ltb, leb}
 use lib.ListN.{length, getD, take, drop, set, replicate, length-append, length-take, getD-replicate, List·getD-append, List·getD-eq-default}
 use lib.Seq.{getD-take, getD-append-add, length-take-le, sets, sets-eq, take-at, take-nil, drop-append-seam, drop-at}
 use borrow.Author.Tests.{ltb-true, ltb-false, eqb-true, eq-eqb, ne-eqb, le-leb, lt-leb, lt-ltb, le-ltb}
 use Rattle.table.specs.declared.InputCause.{InputCause}
-use Rattle.table.specs.declared.InputCause.the-variants.{Misplaced}
+use Rattle.table.specs.declared.InputCause.the-variants.{Misplaced, LineCount}
 use Rattle.table.specs.declared.Judged.the-variants.{Kept, Broken}
 use Rattle.table.specs.Table.{Arc, Table, Counts}
-use Rattle.table.specs.Rules.{each, countsHold, initialFaults, terminalFaults, arcFaults, arcsKeep}
+use Rattle.table.specs.Rules.{each, unless, countsHold, initialFaults, terminalFaults, arcFaults, arcsKeep}
 use Rattle.table.specs.Loaded.{countCells, arcCells, arcsCells, cellsOf, countsIn, arcsIn}
 use Rattle.table.specs.Judge.{judged, arcsAs, Whole, largest, stateKey, arcKey}
 use Rattle.table.specs.Parse.{emptyTable, Kind, header, initial, terminal, arc, end, codeOf, widthOf, numberAt, countsFrom, arcFrom, isOf, due, itemFaults, kindFaults, within, added, onward, Progress}
+use Rattle.table.specs.Text.{linesBefore}
 use Rattle.table.specs.Scan.{padded}
-use Rattle.table.specs.Draft.{ArcsReady, draftCells, kindAfter, IsItem, itemCells, itemKey, Tracks}
+use Rattle.table.specs.Draft.{ArcsReady, Drafted, draftCells, kindAfter, IsItem, itemCells, itemKey, Tracks}
 use Rattle.table.proofs.Arcs.{at-equal, length-arcs}
 use Rattle.table.proofs.Rules.{Bounded, counts-bounded}
 use Rattle.table.proofs.Turn.{keep-snoc, top-snoc}
@@ -50,6 +51,25 @@ module _ (bytes b : List ℕ) (e : bytes ≡ padded b) where
 
   pub arc-as : arcFrom bytes ≡ arcFrom b
   arc-as = λ i. record { source = number-as 1 (omega arith) i; upper = byte-at 3 (omega arith) i; lower = byte-at 4 (omega arith) i; target = number-as 5 (omega arith) i }
+
+-- The kind after some lines.
+
+module _ (c : Counts) (lines : ℕ) where
+  pub after-two : lines ≤ c .initials → kindAfter c lines ≡ 2
+  unfolding kindAfter
+  after-two h = simp (le-leb lines (c .initials) h)
+
+  pub after-three : c .initials < lines → lines ≤ c .initials + c .terminals → kindAfter c lines ≡ 3
+  unfolding kindAfter
+  after-three h k = simp (lt-leb lines (c .initials) h, le-leb lines (c .initials + c .terminals) k)
+
+  pub after-four : c .initials + c .terminals < lines → lines ≤ c .initials + c .terminals + c .arcs → kindAfter c lines ≡ 4
+  unfolding kindAfter
+  after-four h k = simp (lt-leb lines (c .initials) (omega arith), lt-leb lines (c .initials + c .terminals) h, le-leb lines (c .initials + c .terminals + c .arcs) k)
+
+  pub after-five : c .initials + c .terminals + c .arcs < lines → kindAfter c lines ≡ 5
+  unfolding kindAfter
+  after-five h = simp (lt-leb lines (c .initials) (omega arith), lt-leb lines (c .initials + c .terminals) (omega arith), lt-leb lines (c .initials + c .terminals + c .arcs) h)
 
 -- Kinds by their first byte.
 
@@ -106,8 +126,8 @@ not-kind k b n = ap (λ (x : Bool). x && eqb (length b) (widthOf k)) (ne-eqb (ge
 pub is-kind : (k : Kind) (b : List ℕ) → getD b 0 0 ≡ codeOf k → length b ≡ widthOf k → isOf k b ≡ true
 is-kind k b e f = ap₂ _&&_ (eq-eqb (getD b 0 0) (codeOf k) e) (eq-eqb (length b) (widthOf k) f)
 
-pub not-width : (k : Kind) (b : List ℕ) → getD b 0 0 ≡ codeOf k → (length b ≡ widthOf k → ⊥) → isOf k b ≡ false
-not-width k b e n = ap₂ _&&_ (eq-eqb (getD b 0 0) (codeOf k) e) (ne-eqb (length b) (widthOf k) n)
+pub not-wide : (k : Kind) (b : List ℕ) → (length b ≡ widthOf k → ⊥) → isOf k b ≡ false
+not-wide k b n = ap (λ (x : Bool). eqb (getD b 0 0) (codeOf k) && x) (ne-eqb (length b) (widthOf k) n) ∙ and-false (eqb (getD b 0 0) (codeOf k))
 
 -- Lists.
 
@@ -272,7 +292,7 @@ module _ (c : Counts) (t : Table) (lines filled top : ℕ) (cells : List ℕ) (T
   judged-terminal from n b f k e w q =
       let d : due c t ≡ terminal = kind-one 3 (due c t) k in
       let p : take (filled - from) (drop from cells) ≡ t .terminals =
-              at-equal (λ m. take (filled - m) (drop m cells)) from (4 + c .initials) (f ∙ ap (λ (x : Counts). 4 + x .initials) counts-held) ∙ terminals-before d in
+      at-equal (λ m. take (filled - m) (drop m cells)) from (4 + c .initials) (f ∙ ap (λ (x : Counts). 4 + x .initials) counts-held) ∙ terminals-before d in
       (λ i. judged (terminalFaults (states-held i) (p i) (q i)))
       ∙ sym (ap (λ (x : Kind). judged (kindFaults x t b)) d ∙ placed terminal t b (is-kind terminal b e w))
 
@@ -285,7 +305,7 @@ module _ (c : Counts) (t : Table) (lines filled top : ℕ) (cells : List ℕ) (T
   judged-arc from a b f k e w q =
       let d : due c t ≡ arc = kind-one 4 (due c t) k in
       let p : arcsAs (take (filled - from) (drop from cells)) ≡ t .arcs =
-              at-equal (λ m. arcsAs (take (filled - m) (drop m cells))) from arcsFrom (arcs-place from f) ∙ arcs-before d in
+      at-equal (λ m. arcsAs (take (filled - m) (drop m cells))) from arcsFrom (arcs-place from f) ∙ arcs-before d in
       (λ i. judged (arcFaults (states-held i) (p i) (q i)))
       ∙ sym (ap (λ (x : Kind). judged (kindFaults x t b)) d ∙ placed arc t b (is-kind arc b e w))
 
@@ -299,6 +319,50 @@ module _ (c : Counts) (t : Table) (lines filled top : ℕ) (cells : List ℕ) (T
 
   pub initials-ready : 2 ≡ codeOf (due c t) → largest stateKey (take (filled - 4) (drop 4 cells)) ≤ top
   initials-ready k = omega (arith, ap (largest stateKey) (initials-before (kind-one 2 (due c t) k)), T .top-states)
+
+  -- a kind that is due and is none of the others
+
+  pub width-three : (codeOf (due c t) ≡ 4 → ⊥) → widthOf (due c t) ≡ 3
+  width-three n = go (due c t) lists-due n
+    where
+      go : (k : Kind) → Lists k → (codeOf k ≡ 4 → ⊥) → widthOf k ≡ 3
+      go header l h = absurd l
+      go initial l h = refl
+      go terminal l h = refl
+      go arc l h = absurd (h refl)
+      go end l h = refl
+
+  pub end-due : (codeOf (due c t) ≡ 2 → ⊥) → (codeOf (due c t) ≡ 3 → ⊥) → (codeOf (due c t) ≡ 4 → ⊥) → due c t ≡ end
+  end-due f g h = go (due c t) lists-due f g h
+    where
+      go : (k : Kind) → Lists k → (codeOf k ≡ 2 → ⊥) → (codeOf k ≡ 3 → ⊥) → (codeOf k ≡ 4 → ⊥) → k ≡ end
+      go header l f g h = absurd l
+      go initial l f g h = absurd (f refl)
+      go terminal l f g h = absurd (g refl)
+      go arc l f g h = absurd (h refl)
+      go end l f g h = refl
+
+  pub item-due : (codeOf (due c t) ≡ 5 → ⊥) → IsItem (due c t)
+  item-due f = go (due c t) lists-due f
+    where
+      go : (k : Kind) → Lists k → (codeOf k ≡ 5 → ⊥) → IsItem k
+      go header l f = l
+      go initial l f = tt
+      go terminal l f = tt
+      go arc l f = tt
+      go end l f = absurd (f refl)
+
+  -- the end line
+  module _ (b : List ℕ) (d : due c t ≡ end) (e : getD b 0 0 ≡ 5) (w : length b ≡ 3) where
+    end-judged : judged (kindFaults (due c t) t b) ≡ judged (unless (eqb (numberAt b 1) (linesBefore t)) LineCount)
+    unfolding itemFaults
+    end-judged = ap (λ (x : Kind). judged (kindFaults x t b)) d ∙ placed end t b (is-kind end b e w)
+
+    pub end-right : numberAt b 1 ≡ lines → judged (kindFaults (due c t) t b) ≡ Kept
+    end-right q = end-judged ∙ ap (λ (x : Bool). judged (unless x LineCount)) (eq-eqb (numberAt b 1) (linesBefore t) (q ∙ T .lines-is))
+
+    pub end-wrong : (numberAt b 1 ≡ lines → ⊥) → judged (kindFaults (due c t) t b) ≡ Broken LineCount
+    end-wrong q = end-judged ∙ ap (λ (x : Bool). judged (unless x LineCount)) (ne-eqb (numberAt b 1) (linesBefore t) (λ z. q (z ∙ sym (T .lines-is))))
 
   -- the places of the parts
   pub terminals-from : 3 ≡ codeOf (due c t) → 4 + getD cells 1 0 ≤ filled
@@ -470,3 +534,21 @@ tracks-start cells h e =
       top-states = omega arith;
       top-arcs = omega arith;
     }
+
+-- The bounds that the code asks, of some draft.
+
+module _ (lines filled top : ℕ) (cells : List ℕ) (kind : ℕ) (D : Drafted lines filled top cells kind) where
+  pub drafted-bounds : (4 ≤ filled) × (filled ≤ length cells)
+  drafted-bounds = (omega (arith, filled-at (D .counts) (D .table) lines filled top cells (D .tracks)), cells-enough (D .counts) (D .table) lines filled top cells (D .tracks))
+
+  pub drafted-initials : kind ≡ 2 → largest stateKey (take (filled - 4) (drop 4 cells)) ≤ top
+  drafted-initials k = initials-ready (D .counts) (D .table) lines filled top cells (D .tracks) (sym k ∙ D .kind-is)
+
+  pub drafted-terminals : kind ≡ 3 → 4 + getD cells 1 0 ≤ filled
+  drafted-terminals k = terminals-from (D .counts) (D .table) lines filled top cells (D .tracks) (sym k ∙ D .kind-is)
+
+  pub drafted-arcs : kind ≡ 4 → 4 + getD cells 1 0 + getD cells 2 0 ≤ filled
+  drafted-arcs k = arcs-start (D .counts) (D .table) lines filled top cells (D .tracks) (sym k ∙ D .kind-is)
+
+  pub drafted-ready : (from : ℕ) → from ≡ 4 + getD cells 1 0 + getD cells 2 0 → kind ≡ 4 → ArcsReady (getD cells 0 0) (take (filled - from) (drop from cells)) top
+  drafted-ready from f k = arcs-ready (D .counts) (D .table) lines filled top cells (D .tracks) from f (sym k ∙ D .kind-is)

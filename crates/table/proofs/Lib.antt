@@ -15,8 +15,10 @@ pub mod Scan
 pub mod Told
 pub mod Parse
 pub mod Draft
+pub mod Items
 pub mod Determine
 pub mod Calls
+pub mod Finish
 pub mod TableCheck
 pub mod Stores
 pub mod Written

@@ -1,9 +1,9 @@
 // Tables: their check, and their text read and written. Nothing here knows of searching.
 pub mod checker;
-mod scanner;
-pub mod reader;
-pub mod writer;
 mod judge;
+pub mod reader;
+mod scanner;
+pub mod writer;
 
 ghost use mathlib.Core.Path.{_≡_};
 ghost use Rattle.table.specs.Refusal.{inputNumber, stateNumber, numberOf};

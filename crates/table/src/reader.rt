@@ -1,13 +1,12 @@
 // Text to loaded table. The cells are gathered in an array of our own, so that a refused text leaves the destination as it was.
-use crate::judge;
-use crate::scanner;
 use crate::Answer;
 use crate::InputCause;
 use crate::Judged;
 use crate::Read;
 use crate::Refusal;
 use crate::StateCause;
-
+use crate::judge;
+use crate::scanner;
 ghost use mathlib.Core.Path.{_≡_};
 ghost use mathlib.Core.Bool.{true};
 ghost use mathlib.Core.List.{List, _++_};
@@ -16,9 +15,9 @@ ghost use lib.ListN.{length, take, drop};
 ghost use lib.Seq.{sets};
 ghost use Rattle.table.specs.Table.{Table, Counts};
 ghost use Rattle.table.specs.Rules.{countsHold, arcFaults};
-ghost use Rattle.table.specs.Loaded.{countsIn, cellsOf};
+ghost use Rattle.table.specs.Loaded.{countCells, countsIn, cellsOf};
 ghost use Rattle.table.specs.Line.{linesOf};
-ghost use Rattle.table.specs.Parse.{Kind, codeOf, due, arcFrom, kindFaults, Parsed, accepted, atEnd, parseFrom, parsed, within, closed, emptyTable};
+ghost use Rattle.table.specs.Parse.{Kind, codeOf, due, countsFrom, arcFrom, kindFaults, Parsed, accepted, atEnd, parseFrom, parsed, within, closed, emptyTable};
 ghost use Rattle.table.specs.Judge.{judged, arcsAs};
 ghost use Rattle.table.specs.Scan.{padded};
 ghost use Rattle.table.specs.Draft.{itemsParsed, kindAfter, IsItem, Tracks, Drafted, ArcsReady, itemCells, itemKey, cellsRead, CellsAre};
@@ -199,6 +198,22 @@ fn read_items(text: &[u8], start: usize, cells: &mut [u16]) -> Read
     Read::Fault(InputCause::Misplaced)
 }
 
+// A header line's counts, to the front of the cells; whether they are within their limits.
+fn put_counts(cells: &mut [u16], bytes: [u8; 9]) -> bool
+    requires { ⌜ 4 ≤ length (now cells) ⌝ }
+    ensures { λ r. ⌜ (r ≡ countsHold (countsFrom bytes)) × (now (cells .exit) ≡ sets (now (cells .entry)) 0 (countCells (countsFrom bytes))) ⌝ }
+{
+    let states = scanner::number_at(bytes, 1);
+    let initials = scanner::number_at(bytes, 3);
+    let terminals = scanner::number_at(bytes, 5);
+    let arcs = scanner::number_at(bytes, 7);
+    cells[0] = states;
+    cells[1] = initials;
+    cells[2] = terminals;
+    cells[3] = arcs;
+    judge::counts_hold(states, initials, terminals, arcs)
+}
+
 // A whole text.
 fn read_table(text: &[u8], cells: &mut [u16]) -> Read
     requires { ⌜ length (now cells) ≡ 4612 ⌝ }
@@ -216,11 +231,7 @@ fn read_table(text: &[u8], cells: &mut [u16]) -> Read
         if bytes[0] != 1 {
             return Read::Fault(InputCause::Misplaced);
         }
-        cells[0] = scanner::number_at(bytes, 1);
-        cells[1] = scanner::number_at(bytes, 3);
-        cells[2] = scanner::number_at(bytes, 5);
-        cells[3] = scanner::number_at(bytes, 7);
-        if judge::counts_hold(cells[0], cells[1], cells[2], cells[3]) {
+        if put_counts(cells, bytes) {
             let next = line.next;
             return read_items(text, next, cells);
         }

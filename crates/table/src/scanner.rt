@@ -1,7 +1,6 @@
 // One line of a text: its digits, two to a byte, up to its line feed.
 use crate::Scanned;
 use hex::Decoded;
-
 ghost use mathlib.Core.Path.{_≡_};
 ghost use Prim.Native.Nat.{_<_, _+_, _*_};
 ghost use lib.ListN.{length, drop};

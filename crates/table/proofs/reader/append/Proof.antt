@@ -39,7 +39,7 @@ same-length c = search needs
 
 -- src/reader.rt:126:9
 returns : tie.Need-returns
-returns c = 
+returns c =
     λ k b e i p.
     let one = cells-one k b (c .before .number-at .result) (λ z. c .if1 .taken (e ∙ z)) i (c .before .number-at .ensures ∙ number-as (c .before .before .before .args .t3) b p 1 (omega arith)) in
     (omega (arith, ap length one), ap (sets (now (c .before .before .before .args .cells)) (c .before .before .before .args .filled)) (sym one))
@@ -110,14 +110,15 @@ same-length-2 c = simp length-set
 
 -- src/reader.rt:118:1
 returns-2 : tie.Need-returns-2
-returns-2 c = 
+returns-2 c =
     λ k b e i p.
     let four : itemCells k b ≡ arcCells (arcFrom (c .before .before .before .before .before .before .args .t3)) = ap (λ j. itemCells j b) (kind-one 4 k (sym (c .before .before .before .if1 .left) ∙ e)) ∙ ap arcCells (sym (arc-as (c .before .before .before .before .before .before .args .t3) b p)) in
     let told : c .before .before .before .before .number-at .result ∷ c .before .before .letter .result ∷ c .before .letter2 .result ∷ c .number-at2 .result ∷ [] ≡ arcCells (arcFrom (c .before .before .before .before .before .before .args .t3)) =
-            λ j. c .before .before .before .before .number-at .ensures j ∷ c .before .before .letter .ensures j ∷ c .before .letter2 .ensures j ∷ c .number-at2 .ensures j ∷ [] in
-    (omega (arith, ap length four),
-    put-four (now (c .before .before .before .before .before .before .args .cells)) (c .before .before .before .before .before .before .args .filled) (c .before .before .before .before .number-at .result) (c .before .before .letter .result) (c .before .letter2 .result) (c .number-at2 .result)
-    ∙ ap (sets (now (c .before .before .before .before .before .before .args .cells)) (c .before .before .before .before .before .before .args .filled)) (told ∙ sym four))
+    λ j. c .before .before .before .before .number-at .ensures j ∷ c .before .before .letter .ensures j ∷ c .before .letter2 .ensures j ∷ c .number-at2 .ensures j ∷ [] in (
+      omega (arith, ap length four),
+      put-four (now (c .before .before .before .before .before .before .args .cells)) (c .before .before .before .before .before .before .args .filled) (c .before .before .before .before .number-at .result) (c .before .before .letter .result) (c .before .letter2 .result) (c .number-at2 .result)
+          ∙ ap (sets (now (c .before .before .before .before .before .before .args .cells)) (c .before .before .before .before .before .before .args .filled)) (told ∙ sym four),
+    )
 
 pub append-spec : {M : Type 1} → statement M
 append-spec =

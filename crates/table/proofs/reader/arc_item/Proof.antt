@@ -1,4 +1,8 @@
+use mathlib.Core.Path.{ap, _∙_}
+use denote.Ref.{now}
 use borrow.Author.Needs.{needs}
+use Rattle.table.specs.Rules.{arcFaults}
+use Rattle.table.specs.Judge.{judged, arcsAs}
 use Rattle.table.proofs.reader.arc_item.Statement.{statement}
 use Rattle.table.proofs.reader.arc_item.Tie as tie
 use Rattle.table.proofs.reader.arc_item.Reads as reads
@@ -37,7 +41,9 @@ arc-fault-requires c κs = search needs
 
 -- src/reader.rt:59:1
 returns : tie.Need-returns
-returns c = ?
+returns c =
+    c .arc-fault .ensures
+    ∙ (λ i. judged (arcFaults (c .before .before .before .before .before .before .args .states) (arcsAs (now (c .before .before .before .before .before .before .args .before))) (record { source = c .before .before .before .before .number-at .ensures i; upper = c .before .before .before .letter .ensures i; lower = c .before .before .letter2 .ensures i; target = c .before .number-at2 .ensures i })))
 
 pub arc-item-spec : {M : Type 1} → statement M
 arc-item-spec =

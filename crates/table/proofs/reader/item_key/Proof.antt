@@ -29,7 +29,7 @@ state-key-requires c κs = search needs
 
 -- src/reader.rt:139:9
 returns : tie.Need-returns
-returns c = 
+returns c =
     λ k b e i p.
     omega
     (arith, ap (λ j. itemKey j b) (kind-one 2 k (sym (c .before .before .if1 .taken) ∙ e)), c .state-key .ensures, c .before .number-at .ensures, number-as (c .before .before .before .args .t2) b p 1 (omega arith))
@@ -64,10 +64,10 @@ arc-key-requires c κs = search needs
 
 -- src/reader.rt:142:9
 returns-2 : tie.Need-returns-2
-returns-2 c = 
+returns-2 c =
     λ k b e i p.
     let told : c .arc-key .result ≡ arcKey (arcFrom (c .before .before .before .before .before .before .before .args .t2)) =
-            c .arc-key .ensures ∙ (λ j. arcKey (record { source = c .before .before .before .before .number-at2 .ensures j; upper = c .before .before .before .letter .ensures j; lower = c .before .before .letter2 .ensures j; target = c .before .number-at3 .ensures j })) in
+    c .arc-key .ensures ∙ (λ j. arcKey (record { source = c .before .before .before .before .number-at2 .ensures j; upper = c .before .before .before .letter .ensures j; lower = c .before .before .letter2 .ensures j; target = c .before .number-at3 .ensures j })) in
     omega (arith, ap (λ j. itemKey j b) (kind-one 4 k (sym (c .before .before .before .before .before .if2 .taken) ∙ e)), told, ap arcKey (arc-as (c .before .before .before .before .before .before .before .args .t2) b p))
 
 -- src/reader.rt:135:1

@@ -1,8 +1,9 @@
 use native.Mathlib.Omega.{arith}
 use mathlib.Core.Path.{sym}
+use denote.Ref.{now}
 use borrow.Author.Needs.{needs}
-use borrow.Author.Tests.{le-leb, lt-leb}
-use Rattle.table.specs.Draft.{kindAfter}
+use Rattle.table.specs.Loaded.{countsIn}
+use Rattle.table.proofs.Draft.{after-two, after-three, after-four, after-five}
 use Rattle.table.proofs.reader.kind_due.Statement.{statement}
 use Rattle.table.proofs.reader.kind_due.Tie as tie
 use Rattle.table.proofs.reader.kind_due.Reads as reads
@@ -19,7 +20,7 @@ wide-requires c κs = search needs
 
 -- src/reader.rt:46:9
 returns : tie.Need-returns
-returns c = sym (simp (le-leb _ _ (omega (arith, c .if1 .taken, c .before .wide .ensures .0))))
+returns c = sym (after-two (countsIn (now (c .before .before .before .before .args .cells))) (c .before .before .before .before .args .lines) (omega (arith, c .before .wide .ensures .0)))
 
 -- src/reader.rt:48:37
 shared-slice-read-wide-2 : tie.Need-shared-slice-read-wide-2
@@ -35,7 +36,7 @@ add-terminals c = search needs
 
 -- src/reader.rt:50:9
 returns-2 : tie.Need-returns-2
-returns-2 c = ?
+returns-2 c = sym (after-three (countsIn (now (c .before .before .before .before .before .before .before .args .cells))) (c .before .before .before .before .before .before .before .args .lines) (omega (arith, c .before .before .before .before .wide .ensures .0)) (omega (arith, c .before .before .before .before .wide .ensures .0, c .before .wide2 .ensures .0)))
 
 -- src/reader.rt:52:34
 shared-slice-read-wide-3 : tie.Need-shared-slice-read-wide-3
@@ -51,11 +52,11 @@ add-if3 c = search needs
 
 -- src/reader.rt:53:9
 returns-3 : tie.Need-returns-3
-returns-3 c = ?
+returns-3 c = sym (after-four (countsIn (now (c .before .before .before .before .before .before .before .before .before .before .args .cells))) (c .before .before .before .before .before .before .before .before .before .before .args .lines) (omega (arith, c .before .before .before .before .before .before .before .wide .ensures .0, c .before .before .before .before .wide2 .ensures .0)) (omega (arith, c .before .before .before .before .before .before .before .wide .ensures .0, c .before .before .before .before .wide2 .ensures .0, c .before .wide3 .ensures .0)))
 
 -- src/reader.rt:40:1
 returns-4 : tie.Need-returns-4
-returns-4 c = ?
+returns-4 c = sym (after-five (countsIn (now (c .before .before .before .before .before .before .before .before .before .before .args .cells))) (c .before .before .before .before .before .before .before .before .before .before .args .lines) (omega (arith, c .before .before .before .before .before .before .before .wide .ensures .0, c .before .before .before .before .wide2 .ensures .0, c .before .wide3 .ensures .0)))
 
 pub kind-due-spec : {M : Type 1} → statement M
 kind-due-spec =

@@ -1,4 +1,8 @@
+use native.Mathlib.Omega.{arith}
+use mathlib.Core.Path.{sym, _∙_}
+use denote.Ref.{now}
 use borrow.Author.Needs.{needs}
+use Rattle.table.proofs.Finish.{left-fault, read-room, left-short, left-done}
 use Rattle.table.proofs.reader.read.Statement.{statement}
 use Rattle.table.proofs.reader.read.Tie as tie
 use Rattle.table.proofs.reader.read.Reads as reads
@@ -24,7 +28,7 @@ enum-known-found-2 c = search needs
 
 -- src/reader.rt:255:17
 returns : tie.Need-returns
-returns c = ?
+returns c = left-short (now (c .before .before .before .before .before .before .before .before .before .args .text)) (now (c .before .before .before .before .before .before .before .before .before .args .destination)) (c .before .before .found2 .given .0 .0) (sym (c .before .before .found2 .given .1) ∙ c .before .before .before .before .before .read-table .ensures .0) (c .if1 .taken)
 
 -- src/reader.rt:257:18
 slice-aggregate-copy : tie.Need-slice-aggregate-copy
@@ -32,11 +36,11 @@ slice-aggregate-copy c = search needs
 
 -- src/reader.rt:257:13
 copy-requires : tie.Need-copy-requires
-copy-requires c κs = ?
+copy-requires c κs = (omega (arith, c .before .before .before .before .before .before .before .read-table .kept, read-room (now (c .before .before .before .before .before .before .before .before .before .before .before .args .text)) (now (c .before .before .before .before .before .before .before .before .before .before .before .args .destination)) (c .before .before .before .before .found2 .given .0 .0) (sym (c .before .before .before .before .found2 .given .1) ∙ c .before .before .before .before .before .before .before .read-table .ensures .0)), omega arith)
 
 -- src/reader.rt:245:1
 returns-2 : tie.Need-returns-2
-returns-2 c = ?
+returns-2 c = left-fault (now (c .before .before .before .before .before .before .before .before .args .text)) (now (c .before .before .before .before .before .before .before .before .args .destination)) (c .before .found .given .0 .0) (sym (c .before .found .given .1) ∙ c .before .before .before .before .read-table .ensures .0)
 
 -- src/reader.rt:245:1
 same-length : tie.Need-same-length
@@ -44,7 +48,9 @@ same-length c = search needs
 
 -- src/reader.rt:245:1
 returns-3 : tie.Need-returns-3
-returns-3 c = ?
+returns-3 c =
+    let d = left-done (now (c .before .before .before .before .before .before .before .before .before .before .before .before .before .before .args .text)) (now (c .before .before .before .before .before .before .before .before .before .before .before .before .before .before .args .destination)) (c .before .before .before .before .before .before .before .found2 .given .0 .0) (sym (c .before .before .before .before .before .before .before .found2 .given .1) ∙ c .before .before .before .before .before .before .before .before .before .before .read-table .ensures .0) (c .before .before .before .before .before .before .before .before .before .before .read-table .last .1 .0) (c .before .before .before .before .before .before .before .before .before .before .read-table .ensures .1) (omega arith) in
+    (d .0, c .before .before .copy .ensures ∙ d .1)
 
 pub read-spec : {M : Type 1} → statement M
 read-spec =

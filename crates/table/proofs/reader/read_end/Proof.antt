@@ -1,4 +1,13 @@
+use native.Mathlib.Omega.{arith}
+use mathlib.Core.Path.{sym, ap, _∙_}
+use denote.Ref.{now}
+use lib.ListN.{drop-of-length-le}
 use borrow.Author.Needs.{needs}
+use Rattle.table.specs.Line.{Line, linesOf}
+use Rattle.table.specs.Parse.{closed, bytesFaults, parseFrom}
+use Rattle.table.specs.Draft.{cellsRead}
+use Rattle.table.specs.declared.Read.the-variants.{Cells}
+use Rattle.table.proofs.Told.{line-read, line-bad, parse-line, parse-bad}
 use Rattle.table.proofs.reader.read_end.Statement.{statement}
 use Rattle.table.proofs.reader.read_end.Tie as tie
 use Rattle.table.proofs.reader.read_end.Reads as reads
@@ -7,7 +16,8 @@ use Rattle.table.proofs.scanner.scan.Reads as scan-reads
 
 -- src/reader.rt:157:9
 returns : tie.Need-returns
-returns c = ?
+unfolding linesOf parseFrom
+returns c = λ t e. ap Cells e ∙ ap (λ x. cellsRead (parseFrom (closed t) (linesOf x))) (sym (drop-of-length-le (now (c .before .before .args .text)) (c .if1 .taken)))
 
 -- src/reader.rt:159:9
 scan-requires : tie.Need-scan-requires
@@ -15,11 +25,12 @@ scan-requires c κs = search needs
 
 -- src/reader.rt:153:1
 returns-2 : tie.Need-returns-2
-returns-2 c = ?
+unfolding bytesFaults
+returns-2 c = λ t e. ap cellsRead (sym (parse-line (closed t) (now (c .before .before .before .before .args .text)) (c .before .before .before .before .args .at) (c .before .scan .result) (line-read (now (c .before .before .before .before .args .text)) (c .before .before .before .before .args .at) (c .before .scan .result) (c .before .before .if1 .left) (c .before .scan .ensures) (c .if2 .taken))))
 
 -- src/reader.rt:153:1
 returns-3 : tie.Need-returns-3
-returns-3 c = ?
+returns-3 c = λ t e. ap cellsRead (sym (parse-bad (closed t) (now (c .before .before .before .before .args .text)) (c .before .before .before .before .args .at) (line-bad (now (c .before .before .before .before .args .text)) (c .before .before .before .before .args .at) (c .before .scan .result) (c .before .before .if1 .left) (c .before .scan .ensures) (c .if2 .left))))
 
 pub read-end-spec : {M : Type 1} → statement M
 read-end-spec = tie.close (tie.spec returns scan-requires returns-2 returns-3)

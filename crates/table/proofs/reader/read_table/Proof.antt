@@ -1,108 +1,96 @@
+use Prim.Native.Nat.{ℕ, zero, suc, _<_}
+use native.Mathlib.Omega.{arith}
+use mathlib.Core.Path.{_≡_, refl, sym, ap, subst, _∙_}
+use mathlib.Core.Bool.{true}
+use denote.Ref.{now}
+use lib.ListN.{length, drop}
 use borrow.Author.Needs.{needs}
+use Rattle.table.specs.Table.{Counts}
+use Rattle.table.specs.Rules.{countsHold}
+use Rattle.table.specs.Loaded.{countsIn}
+use Rattle.table.specs.Line.{bytesOf}
+use Rattle.table.specs.Parse.{header, isOf, countsFrom, Parsed, parsed}
+use Rattle.table.specs.Draft.{cellsRead, CellsAre, itemsParsed}
+use Rattle.table.proofs.Told.{line-read, line-bad}
+use Rattle.table.proofs.Draft.{byte-at, counts-as, is-kind, not-kind, not-wide}
+use Rattle.table.proofs.Items.{counts-put, header-missing, header-bad, header-misplaced, header-limit, header-on}
 use Rattle.table.proofs.reader.read_table.Statement.{statement}
 use Rattle.table.proofs.reader.read_table.Tie as tie
 use Rattle.table.proofs.reader.read_table.Reads as reads
 use Rattle.table.proofs.reader.read_table.Lts as lts
-use Rattle.table.proofs.judge.counts_hold.Reads as counts-hold-reads
+use Rattle.table.proofs.reader.put_counts.Reads as put-counts-reads
 use Rattle.table.proofs.reader.read_items.Reads as read-items-reads
-use Rattle.table.proofs.scanner.number_at.Reads as number-at-reads
 use Rattle.table.proofs.scanner.scan.Reads as scan-reads
 
--- src/reader.rt:208:9
+nonzero : (n : ℕ) → (n ≡ 0 → ⊥) → 0 < n
+nonzero zero h = absurd (h refl)
+nonzero (suc n) h = omega arith
+
+-- src/reader.rt:224:9
 returns : tie.Need-returns
-returns c = ?
+returns c = header-missing (now (c .before .before .before .args .text)) (now (c .before .before .before .args .cells)) (c .if1 .taken)
 
--- src/reader.rt:210:9
+-- src/reader.rt:226:9
 scan-requires : tie.Need-scan-requires
-scan-requires c κs = search needs
+scan-requires c κs = omega (arith, nonzero (length (now (c .before .before .before .args .text))) (c .if1 .left))
 
--- src/reader.rt:214:13
+-- src/reader.rt:230:13
 returns-2 : tie.Need-returns-2
-returns-2 c = ?
+returns-2 c =
+    let L = line-read (now (c .before .before .before .before .before .before .before .before .args .text)) 0 (c .before .before .before .before .scan .result) (omega (arith, nonzero (length (now (c .before .before .before .before .before .before .before .before .args .text))) (c .before .before .before .before .before .if1 .left))) (c .before .before .before .before .scan .ensures) (c .before .before .before .if2 .taken) in
+    header-misplaced (now (c .before .before .before .before .before .before .before .before .args .text)) (now (c .before .before .before .before .before .before .before .before .args .cells)) (c .before .before .before .before .scan .result) L (not-wide header (bytesOf (L .line .chars)) (λ z. c .if3 .taken (L .count-is ∙ z)))
 
--- src/reader.rt:216:12
+-- src/reader.rt:232:12
 array-read-if4 : tie.Need-array-read-if4
 array-read-if4 c = search needs
 
--- src/reader.rt:217:13
+-- src/reader.rt:233:13
 returns-3 : tie.Need-returns-3
-returns-3 c = ?
+returns-3 c =
+    let L = line-read (now (c .before .before .before .before .before .before .before .before .before .args .text)) 0 (c .before .before .before .before .before .scan .result) (omega (arith, nonzero (length (now (c .before .before .before .before .before .before .before .before .before .args .text))) (c .before .before .before .before .before .before .if1 .left))) (c .before .before .before .before .before .scan .ensures) (c .before .before .before .before .if2 .taken) in
+    header-misplaced (now (c .before .before .before .before .before .before .before .before .before .args .text)) (now (c .before .before .before .before .before .before .before .before .before .args .cells)) (c .before .before .before .before .before .scan .result) L
+    (not-kind header (bytesOf (L .line .chars)) (λ z. c .if4 .taken (byte-at (c .before .before .before .before .before .scan .result .bytes) (bytesOf (L .line .chars)) (L .bytes-are) 0 (omega arith) ∙ z)))
 
--- src/reader.rt:219:20
-number-at-requires : tie.Need-number-at-requires
-number-at-requires c κs = search needs
+-- src/reader.rt:235:12
+put-counts-requires : tie.Need-put-counts-requires
+put-counts-requires c κs = omega (arith, c .before .before .before .before .before .before .before .before .before .before .pre)
 
--- src/reader.rt:219:9
-slice-write-cells : tie.Need-slice-write-cells
-slice-write-cells c = search needs
-
--- src/reader.rt:220:20
-number-at-requires-2 : tie.Need-number-at-requires-2
-number-at-requires-2 c κs = search needs
-
--- src/reader.rt:220:9
-slice-write-cells-2 : tie.Need-slice-write-cells-2
-slice-write-cells-2 c = ?
-
--- src/reader.rt:221:20
-number-at-requires-3 : tie.Need-number-at-requires-3
-number-at-requires-3 c κs = search needs
-
--- src/reader.rt:221:9
-slice-write-cells-3 : tie.Need-slice-write-cells-3
-slice-write-cells-3 c = ?
-
--- src/reader.rt:222:20
-number-at-requires-4 : tie.Need-number-at-requires-4
-number-at-requires-4 c κs = search needs
-
--- src/reader.rt:222:9
-slice-write-cells-4 : tie.Need-slice-write-cells-4
-slice-write-cells-4 c = ?
-
--- src/reader.rt:223:31
-slice-read-counts-hold : tie.Need-slice-read-counts-hold
-slice-read-counts-hold c = ?
-
--- src/reader.rt:223:41
-slice-read-counts-hold-2 : tie.Need-slice-read-counts-hold-2
-slice-read-counts-hold-2 c = ?
-
--- src/reader.rt:223:51
-slice-read-counts-hold-3 : tie.Need-slice-read-counts-hold-3
-slice-read-counts-hold-3 c = ?
-
--- src/reader.rt:223:61
-slice-read-counts-hold-4 : tie.Need-slice-read-counts-hold-4
-slice-read-counts-hold-4 c = ?
-
--- src/reader.rt:223:12
-counts-hold-requires : tie.Need-counts-hold-requires
-counts-hold-requires c κs = search needs
-
--- src/reader.rt:225:13
+-- src/reader.rt:237:13
 read-items-requires : tie.Need-read-items-requires
-read-items-requires c κs = ?
+read-items-requires c κs =
+    let L = line-read (now (c .before .before .before .before .before .before .before .before .before .before .before .before .before .before .before .args .text)) 0 (c .before .before .before .before .before .before .before .before .before .before .before .scan .result) (omega (arith, nonzero (length (now (c .before .before .before .before .before .before .before .before .before .before .before .before .before .before .before .args .text))) (c .before .before .before .before .before .before .before .before .before .before .before .before .if1 .left))) (c .before .before .before .before .before .before .before .before .before .before .before .scan .ensures) (c .before .before .before .before .before .before .before .before .before .before .if2 .taken) in
+    let q : countsIn (c .before .before .before .before .put-counts .last .0) ≡ countsFrom (bytesOf (L .line .chars)) =
+    ap countsIn (c .before .before .before .before .put-counts .ensures .1) ∙ counts-put (now (c .before .before .before .before .before .before .before .before .before .before .before .before .before .before .before .args .cells)) (countsFrom (c .before .before .before .before .before .before .before .before .before .before .before .scan .result .bytes)) (omega (arith, c .before .before .before .before .before .before .before .before .before .before .before .before .before .before .before .pre)) ∙ counts-as (c .before .before .before .before .before .before .before .before .before .before .before .scan .result .bytes) (bytesOf (L .line .chars)) (L .bytes-are) in
+    (c .before .before .before .before .put-counts .kept .0 ∙ c .before .before .before .before .before .before .before .before .before .before .before .before .before .before .before .pre, L .next-inside, ap countsHold q ∙ (sym (ap countsHold (counts-as (c .before .before .before .before .before .before .before .before .before .before .before .scan .result .bytes) (bytesOf (L .line .chars)) (L .bytes-are))) ∙ sym (c .before .before .before .before .put-counts .ensures .0) ∙ c .before .if5 .taken))
 
--- src/reader.rt:225:13
+-- src/reader.rt:237:13
 same-length : tie.Need-same-length
-same-length c = ?
+same-length c = search needs
 
--- src/reader.rt:225:13
+-- src/reader.rt:237:13
 returns-4 : tie.Need-returns-4
-returns-4 c = ?
+returns-4 c =
+    let L = line-read (now (c .before .before .before .before .before .before .before .before .before .before .before .before .before .before .before .before .before .before .args .text)) 0 (c .before .before .before .before .before .before .before .before .before .before .before .before .before .before .scan .result) (omega (arith, nonzero (length (now (c .before .before .before .before .before .before .before .before .before .before .before .before .before .before .before .before .before .before .args .text))) (c .before .before .before .before .before .before .before .before .before .before .before .before .before .before .before .if1 .left))) (c .before .before .before .before .before .before .before .before .before .before .before .before .before .before .scan .ensures) (c .before .before .before .before .before .before .before .before .before .before .before .before .before .if2 .taken) in
+    let q : countsIn (c .before .before .before .before .before .before .before .put-counts .last .0) ≡ countsFrom (bytesOf (L .line .chars)) =
+    ap countsIn (c .before .before .before .before .before .before .before .put-counts .ensures .1) ∙ counts-put (now (c .before .before .before .before .before .before .before .before .before .before .before .before .before .before .before .before .before .before .args .cells)) (countsFrom (c .before .before .before .before .before .before .before .before .before .before .before .before .before .before .scan .result .bytes)) (omega (arith, c .before .before .before .before .before .before .before .before .before .before .before .before .before .before .before .before .before .before .pre)) ∙ counts-as (c .before .before .before .before .before .before .before .before .before .before .before .before .before .before .scan .result .bytes) (bytesOf (L .line .chars)) (L .bytes-are) in
+    let all : parsed (now (c .before .before .before .before .before .before .before .before .before .before .before .before .before .before .before .before .before .before .args .text)) ≡ itemsParsed (countsIn (c .before .before .before .before .before .before .before .put-counts .last .0)) (drop (c .before .before .before .before .before .before .before .before .before .before .before .before .before .before .scan .result .next) (now (c .before .before .before .before .before .before .before .before .before .before .before .before .before .before .before .before .before .before .args .text))) =
+    header-on (now (c .before .before .before .before .before .before .before .before .before .before .before .before .before .before .before .before .before .before .args .text)) (now (c .before .before .before .before .before .before .before .before .before .before .before .before .before .before .before .before .before .before .args .cells)) (c .before .before .before .before .before .before .before .before .before .before .before .before .before .before .scan .result) L (is-kind header (bytesOf (L .line .chars)) (sym (byte-at (c .before .before .before .before .before .before .before .before .before .before .before .before .before .before .scan .result .bytes) (bytesOf (L .line .chars)) (L .bytes-are) 0 (omega arith)) ∙ c .before .before .before .before .before .before .before .before .before .if4 .left) (sym (L .count-is) ∙ c .before .before .before .before .before .before .before .before .before .before .if3 .left)) (sym (ap countsHold (counts-as (c .before .before .before .before .before .before .before .before .before .before .before .before .before .before .scan .result .bytes) (bytesOf (L .line .chars)) (L .bytes-are))) ∙ sym (c .before .before .before .before .before .before .before .put-counts .ensures .0) ∙ c .before .before .before .before .if5 .taken)
+    ∙ ap (λ (x : Counts). itemsParsed x (drop (c .before .before .before .before .before .before .before .before .before .before .before .before .before .before .scan .result .next) (now (c .before .before .before .before .before .before .before .before .before .before .before .before .before .before .before .before .before .before .args .text)))) (sym q) in
+    (c .before .before .read-items .ensures .0 ∙ ap cellsRead (sym all), subst (λ (p : Parsed). CellsAre p (c .before .before .read-items .last .1 .1 .0)) (sym all) (c .before .before .read-items .ensures .1))
 
--- src/reader.rt:227:9
+-- src/reader.rt:239:9
 same-length-2 : tie.Need-same-length-2
 same-length-2 c = search needs
 
--- src/reader.rt:227:9
+-- src/reader.rt:239:9
 returns-5 : tie.Need-returns-5
-returns-5 c = ?
+returns-5 c =
+    let L = line-read (now (c .before .before .before .before .before .before .before .before .before .before .before .before .before .before .args .text)) 0 (c .before .before .before .before .before .before .before .before .before .before .scan .result) (omega (arith, nonzero (length (now (c .before .before .before .before .before .before .before .before .before .before .before .before .before .before .args .text))) (c .before .before .before .before .before .before .before .before .before .before .before .if1 .left))) (c .before .before .before .before .before .before .before .before .before .before .scan .ensures) (c .before .before .before .before .before .before .before .before .before .if2 .taken) in
+    header-limit (now (c .before .before .before .before .before .before .before .before .before .before .before .before .before .before .args .text)) (c .before .before .before .put-counts .last .0) (c .before .before .before .before .before .before .before .before .before .before .scan .result) L (is-kind header (bytesOf (L .line .chars)) (sym (byte-at (c .before .before .before .before .before .before .before .before .before .before .scan .result .bytes) (bytesOf (L .line .chars)) (L .bytes-are) 0 (omega arith)) ∙ c .before .before .before .before .before .if4 .left) (sym (L .count-is) ∙ c .before .before .before .before .before .before .if3 .left)) (sym (ap countsHold (counts-as (c .before .before .before .before .before .before .before .before .before .before .scan .result .bytes) (bytesOf (L .line .chars)) (L .bytes-are))) ∙ sym (c .before .before .before .put-counts .ensures .0) ∙ c .if5 .left)
 
--- src/reader.rt:203:1
+-- src/reader.rt:219:1
 returns-6 : tie.Need-returns-6
-returns-6 c = ?
+returns-6 c = header-bad (now (c .before .before .before .before .before .args .text)) (now (c .before .before .before .before .before .args .cells)) (line-bad (now (c .before .before .before .before .before .args .text)) 0 (c .before .scan .result) (omega (arith, nonzero (length (now (c .before .before .before .before .before .args .text))) (c .before .before .if1 .left))) (c .before .scan .ensures) (c .if2 .left))
 
 pub read-table-spec : {M : Type 1} → statement M
 read-table-spec =
@@ -113,19 +101,7 @@ read-table-spec =
     returns-2
     array-read-if4
     returns-3
-    number-at-requires
-    slice-write-cells
-    number-at-requires-2
-    slice-write-cells-2
-    number-at-requires-3
-    slice-write-cells-3
-    number-at-requires-4
-    slice-write-cells-4
-    slice-read-counts-hold
-    slice-read-counts-hold-2
-    slice-read-counts-hold-3
-    slice-read-counts-hold-4
-    counts-hold-requires
+    put-counts-requires
     read-items-requires
     same-length
     returns-4

@@ -103,16 +103,15 @@ loop-less c = search needs
 
 -- src/scanner.rt:31:5
 loop-again : tie.Need-loop-again Inv-loop μ-loop
-loop-again c = 
+loop-again c =
     let count-is = c .before .before .before .before .before .before .before .before .before .before .loop .inv .count-is in
     let bytes-are = c .before .before .before .before .before .before .before .before .before .before .loop .inv .bytes-are in
     let so-far = c .before .before .before .before .before .before .before .before .before .before .loop .inv .so-far in
     let v = c .before .before .b .given .0 .0 in
     let more : c .if4 .bytes ≡ padded (so-far ++ (v ∷ [])) =
-            
-            ⊎-elim
-            (λ w. w .1 ∙ ap₂ (λ (l : List ℕ) (n : ℕ). set l n v) bytes-are count-is ∙ sym (padded-few so-far v (omega (arith, w .0 .taken, count-is))))
-            (λ w. w .1 ∙ bytes-are ∙ sym (padded-many so-far v (omega (arith, w .0 .left, count-is)))) (c .if4 .came) in
+    ⊎-elim
+    (λ w. w .1 ∙ ap₂ (λ (l : List ℕ) (n : ℕ). set l n v) bytes-are count-is ∙ sym (padded-few so-far v (omega (arith, w .0 .taken, count-is))))
+    (λ w. w .1 ∙ bytes-are ∙ sym (padded-many so-far v (omega (arith, w .0 .left, count-is)))) (c .if4 .came) in
     scanning-more (now (c .before .before .before .before .before .before .before .before .before .before .before .before .args .text)) (c .before .before .before .before .before .before .before .before .before .before .before .before .args .start) (c .before .before .before .before .before .before .before .before .before .before .loop .bytes) (c .before .before .before .before .before .before .before .before .before .before .loop .count) (c .before .before .before .before .before .before .before .before .before .before .loop .at) (c .before .before .before .before .before .before .before .before .before .before .loop .inv) v (c .if4 .bytes) (c .before .before .before .before .before .before .if3 .left) (sym (c .before .before .before .before .decode .ensures) ∙ c .before .before .b .given .1) more
 
 -- src/scanner.rt:56:5
