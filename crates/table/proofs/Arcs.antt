@@ -12,7 +12,8 @@ use Rattle.table.specs.Table.{Arc}
 use Rattle.table.specs.Rules.{each, sourceHolds}
 use Rattle.table.specs.Loaded.{arcIn, arcsIn}
 use Rattle.table.specs.Judge.{arcAs, arcsAs, Whole, lastSource}
-use Rattle.table.proofs.Each.{each-snoc, each-fails, and-both}
+use Rattle.table.proofs.Tests.{and-both}
+use Rattle.table.proofs.Each.{each-snoc, each-fails}
 
 -- a function at equal numbers
 pub at-equal : {A : Type 0} (f : ℕ → A) (m n : ℕ) → m ≡ n → f m ≡ f n

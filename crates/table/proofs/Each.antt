@@ -6,36 +6,8 @@ use mathlib.Core.Bool.{Bool, true, false, _&&_, _||_, not, and-assoc, or-assoc, 
 use mathlib.Core.List.{List, [], _∷_, _++_, append-assoc, append-nil}
 use lib.ListN.{length, getD, take, drop, take-append-drop}
 use lib.Seq.{take-suc, drop-cons, take-all}
+use Rattle.table.proofs.Tests.{and-left, and-right, and-both, or-right}
 use Rattle.table.specs.Rules.{any, lastIs, each}
-
--- Tests joined.
-
-pub and-first : (a b : Bool) → (a && b) ≡ true → a ≡ true
-and-first true b e = refl
-and-first false b e = e
-
-pub and-second : (a b : Bool) → (a && b) ≡ true → b ≡ true
-and-second true b e = e
-and-second false b e = absurd (false≢true e)
-
-pub and-both : {a b : Bool} → a ≡ true → b ≡ true → (a && b) ≡ true
-and-both {a} {b} e f = ap (λ (x : Bool). x && b) e ∙ f
-
-pub and-four : (a b c d : Bool) → (a && (b && (c && d))) ≡ true → (a ≡ true) × (b ≡ true) × (c ≡ true) × (d ≡ true)
-and-four true true true d e = (refl, refl, refl, e)
-and-four true true false d e = absurd (false≢true e)
-and-four true false c d e = absurd (false≢true e)
-and-four false b c d e = absurd (false≢true e)
-
-pub and-fails : (a b : Bool) → b ≡ false → (a && b) ≡ false
-and-fails true b e = e
-and-fails false b e = refl
-
-pub or-second : (a b : Bool) → b ≡ true → (a || b) ≡ true
-or-second true b e = refl
-or-second false b e = e
-
--- Tests along a list.
 
 module _ {A : Type 0} where
   pub each-append : (test : List A → A → Bool) (before xs ys : List A) → each test before (xs ++ ys) ≡ (each test before xs && each test (before ++ xs) ys)
@@ -73,7 +45,7 @@ module _ {A : Type 0} where
   pub any-some : (test : A → Bool) (d : A) (xs : List A) (k : ℕ) → k < length xs → test (getD xs k d) ≡ true → any test xs ≡ true
   any-some test d [] k h e = absurd (omega arith)
   any-some test d (x ∷ xs) zero h e = ap (λ (b : Bool). b || any test xs) e
-  any-some test d (x ∷ xs) (suc k) h e = or-second (test x) (any test xs) (any-some test d xs k (omega arith) e)
+  any-some test d (x ∷ xs) (suc k) h e = or-right (test x) (any test xs) (any-some test d xs k (omega arith) e)
 
   pub last-at : (test : A → Bool) (d : A) (xs : List A) → 0 < length xs → lastIs test xs ≡ test (getD xs (length xs - 1) d)
   last-at test d [] h = absurd (omega arith)
@@ -89,8 +61,8 @@ module _ {A : Type 0} where
   -- what each element passes, the element at k passes
   pub each-at : (test : List A → A → Bool) (d : A) (xs : List A) → each test [] xs ≡ true → (k : ℕ) → k < length xs → test (take k xs) (getD xs k d) ≡ true
   each-at test d xs e k h =
-      and-second (each test [] (take k xs)) (test (take k xs) (getD xs k d))
-      (sym split-one ∙ and-first (each test [] (take (suc k) xs)) (each test (take (suc k) xs) (drop (suc k) xs)) (sym whole ∙ e))
+      and-right (each test [] (take k xs)) (test (take k xs) (getD xs k d))
+      (sym split-one ∙ and-left (each test [] (take (suc k) xs)) (each test (take (suc k) xs) (drop (suc k) xs)) (sym whole ∙ e))
     where
       split-one : each test [] (take (suc k) xs) ≡ (each test [] (take k xs) && test (take k xs) (getD xs k d))
       split-one = ap (each test []) (take-suc xs k d h) ∙ each-snoc test (take k xs) (getD xs k d)
@@ -120,5 +92,5 @@ module _ {A : Type 0} where
   unfolding each
   each-weaken test weak f before [] e = refl
   each-weaken test weak f before (x ∷ xs) e =
-      and-both (f before x (and-first (test before x) (each test (before ++ (x ∷ [])) xs) e))
-      (each-weaken test weak f (before ++ (x ∷ [])) xs (and-second (test before x) (each test (before ++ (x ∷ [])) xs) e))
+      and-both (f before x (and-left (test before x) (each test (before ++ (x ∷ [])) xs) e))
+      (each-weaken test weak f (before ++ (x ∷ [])) xs (and-right (test before x) (each test (before ++ (x ∷ [])) xs) e))

@@ -14,7 +14,8 @@ use Rattle.table.specs.Table.{Arc}
 use Rattle.table.specs.Rules.{any, lastIs, each, isEmpty, stateHolds, letterHolds, sourceHolds, arcIsNew, sameArc, initialFaults, terminalFaults, arcFaults, arcsKeep}
 use Rattle.table.specs.Loaded.{arcsIn}
 use Rattle.table.specs.Judge.{judged, hasState, repeated, largest, stateKey, arcKey, arcAs, arcsAs, Whole, lastSource, SourcesRise}
-use Rattle.table.proofs.Each.{and-four, or-second, any-append, any-none, last-at, each-at, each-weaken}
+use Rattle.table.proofs.Tests.{and-four, or-right}
+use Rattle.table.proofs.Each.{any-append, any-none, last-at, each-at, each-weaken}
 use Rattle.table.proofs.Rules.{arc-clear}
 use Rattle.table.proofs.Arcs.{at-equal, noArc, arcAt, arcHere, length-arcs, getD-arcs, arcs-here, last-source}
 
@@ -86,7 +87,7 @@ module _ (before : List ℕ) (a : Arc) where
       ∙ any-append (λ b. sameArc b a) (arcsIn ((at - 4) / 4) before) (arcHere before (at - 4) ∷ [])
 
   pub found-hit : (at : ℕ) → 4 ≤ at → at ≡ 4 * (at / 4) → sameArc (arcHere before (at - 4)) a ≡ true → Found at ≡ true
-  found-hit at h e f = found-last at h e ∙ or-second (Found (at - 4)) _ (ap (λ (x : Bool). x || false) f)
+  found-hit at h e f = found-last at h e ∙ or-right (Found (at - 4)) _ (ap (λ (x : Bool). x || false) f)
 
   pub found-miss : (at : ℕ) → 4 ≤ at → at ≡ 4 * (at / 4) → sameArc (arcHere before (at - 4)) a ≡ false → Found at ≡ Found (at - 4)
   found-miss at h e f = found-last at h e ∙ ap (λ (x : Bool). Found (at - 4) || (x || false)) f ∙ or-false (Found (at - 4))

@@ -1,8 +1,10 @@
 -- Laws of the definitions, for the proofs of this crate and of the crates above; each file is named after what it is about.
 pub mod Tests
 pub mod All
+pub mod Any
 pub mod Each
 pub mod Rules
+pub mod Ruled
 pub mod Turn
 pub mod Arcs
 pub mod Faults

@@ -16,8 +16,9 @@ use Rattle.table.specs.declared.Scanned.{Scanned}
 use Rattle.table.specs.Rules.{isEmpty, any}
 use Rattle.table.specs.Line.{Line, withChar, linesOf, isValue, malformed, bytesOf, charsOf}
 use Rattle.table.specs.Scan.{padded, malformedLine, lineAs, scannedAs}
+use Rattle.table.proofs.Tests.{or-right}
 use Rattle.table.proofs.All.{All, all-append}
-use Rattle.table.proofs.Each.{any-append, or-second}
+use Rattle.table.proofs.Each.{any-append}
 use Rattle.table.proofs.Arcs.{at-equal}
 use Rattle.table.proofs.Line.{IsByte, lineWith, noValue, digit-no-feed, lines-char, lines-line, length-chars, bytes-chars, line-well}
 
@@ -43,15 +44,15 @@ lines-open x (y ∷ b) =
 
 unfed : (cs : List ℕ) → malformed (record { chars = cs; fed = false }) ≡ true
 unfolding malformed
-unfed cs = or-second (isEmpty cs) _ (or-second (eqb (length cs % 2) 1) _ (or-second (any noValue cs) true refl))
+unfed cs = or-right (isEmpty cs) _ (or-right (eqb (length cs % 2) 1) _ (or-right (any noValue cs) true refl))
 
 odd : (cs : List ℕ) (f : Bool) → length cs % 2 ≡ 1 → malformed (record { chars = cs; fed = f }) ≡ true
 unfolding malformed
-odd cs f e = or-second (isEmpty cs) _ (ap (λ (b : Bool). b || (any noValue cs || not f)) (eq-eqb (length cs % 2) 1 e))
+odd cs f e = or-right (isEmpty cs) _ (ap (λ (b : Bool). b || (any noValue cs || not f)) (eq-eqb (length cs % 2) 1 e))
 
 no-digit : (cs : List ℕ) (f : Bool) → any noValue cs ≡ true → malformed (record { chars = cs; fed = f }) ≡ true
 unfolding malformed
-no-digit cs f e = or-second (isEmpty cs) _ (or-second (eqb (length cs % 2) 1) _ (ap (λ (b : Bool). b || not f) e))
+no-digit cs f e = or-right (isEmpty cs) _ (or-right (eqb (length cs % 2) 1) _ (ap (λ (b : Bool). b || not f) e))
 
 -- the empty line
 blank : malformed (lineWith []) ≡ true
@@ -69,7 +70,7 @@ invalid c d e = go (valueOf c) (valueOf d) refl refl
   where
     go : (u v : Decoded) → valueOf c ≡ u → valueOf d ≡ v → (noValue c || (noValue d || false)) ≡ true
     go (Value u) (Value v) p q = cc (sym (decoded-of c d u v p q) ∙ e)
-    go (Value u) Invalid p q = or-second (noValue c) _ (ap (λ (x : Decoded). not (isValue x) || false) q)
+    go (Value u) Invalid p q = or-right (noValue c) _ (ap (λ (x : Decoded). not (isValue x) || false) q)
     go Invalid v p q = ap (λ (x : Decoded). not (isValue x) || (noValue d || false)) p
 
 pub scanned-malformed : (start : ℕ) (l : Line) (ls : List Line) → malformed l ≡ true → scannedAs start (l ∷ ls) ≡ malformedLine
@@ -199,7 +200,7 @@ module _ (text : List ℕ) (start : ℕ) (bytes : List ℕ) (count at : ℕ) (S 
           (ap linesOf (rest-two h) ∙ lines-char here (next ∷ drop (at + 2) text) (ne-eqb here 10 n) ∙ ap (withChar here) (lines-char next (drop (at + 2) text) k) ∙ t .3)
           (no-digit (charsOf (S .so-far) ++ (here ∷ next ∷ t .0)) (t .1)
           (any-append noValue (charsOf (S .so-far)) (here ∷ next ∷ t .0)
-          ∙ or-second (any noValue (charsOf (S .so-far))) _ (any-append noValue (here ∷ next ∷ []) (t .0) ∙ ap (λ (x : Bool). x || any noValue (t .0)) bad)))
+          ∙ or-right (any noValue (charsOf (S .so-far))) _ (any-append noValue (here ∷ next ∷ []) (t .0) ∙ ap (λ (x : Bool). x || any noValue (t .0)) bad)))
 
   text-fed : at < length text → here ≡ 10 → drop start text ≡ charsOf (S .so-far) ++ (10 ∷ drop (at + 1) text)
   text-fed h e = S .text-is ∙ ap (λ (l : List ℕ). charsOf (S .so-far) ++ l) (rest-one h ∙ ap (λ (c : ℕ). c ∷ drop (at + 1) text) e)

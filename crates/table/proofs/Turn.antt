@@ -13,8 +13,9 @@ use Rattle.table.specs.Rules.{isEmpty, each, arcFaults, arcsKeep}
 use Rattle.table.specs.Table.{Arc}
 use Rattle.table.specs.Loaded.{arcsIn}
 use Rattle.table.specs.Judge.{judged, largest, arcKey, arcsAs}
+use Rattle.table.proofs.Tests.{and-both}
 use Rattle.table.proofs.Arcs.{arcHere, arc-here, arcs-here, front, arcs-fail}
-use Rattle.table.proofs.Each.{each-snoc, each-fails, and-both}
+use Rattle.table.proofs.Each.{each-snoc, each-fails}
 
 -- judged as kept, or not
 pub kept-empty : (fs : List InputCause) → judged fs ≡ Kept → isEmpty fs ≡ true

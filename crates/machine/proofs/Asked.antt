@@ -1,0 +1,98 @@
+-- What holds where 20, 11 and 10 are not given; the limit 33,024 is enough there.
+use Prim.Native.Nat.{ℕ, _+_, _*_, _≤_}
+use native.Mathlib.Omega.{arith}
+use native.Mathlib.Nat.{mul-le-mul-right}
+use mathlib.Core.Path.{_≡_, refl, sym, ap, subst, _∙_}
+use mathlib.Core.Bool.{Bool, true, false, cond, _&&_}
+use mathlib.Core.Option.{Option, none, some}
+use mathlib.Core.List.{List}
+use lib.ListN.{length}
+use lib.Dec.{leb}
+use borrow.Author.Tests.{leb-true}
+use Rattle.table.specs.declared.Refusal.{Refusal}
+use Rattle.table.specs.declared.Refusal.the-variants.{Input}
+use Rattle.table.specs.declared.InputCause.the-variants.{WordFault, TaskFault}
+use Rattle.table.specs.Table.{Table}
+use Rattle.table.specs.Rules.{keepsRules}
+use Rattle.table.specs.Loaded.{countsIn, extent, tableIn, loaded}
+use Rattle.table.proofs.Tests.{and-left, and-right}
+use Rattle.table.proofs.Ruled.{Ruled}
+use Rattle.machine.specs.Query.{Task, Side, upperSide, lowerSide, reads, taskOf, Query, word, wordHolds, wordsHold, sidesHold}
+use Rattle.machine.specs.Transducer.{sideToRead, toReadOn, lettersToRead}
+use Rattle.machine.specs.Asked.{turned, runs, askedWords, askedTask, askedTable, asked}
+
+pub record AskedFacts (t : Table) (q : Query) (task : ℕ) (upper lower : List ℕ) : Type 0 where
+  pub keeps-rules : keepsRules t ≡ true
+  pub task-is : taskOf task ≡ some (q .task)
+  pub upper-is : q .upperWord ≡ upper
+  pub lower-is : q .lowerWord ≡ lower
+  pub sides-hold : sidesHold q ≡ true
+  pub words-hold : wordsHold q ≡ true
+
+-- two askings that run
+runs-table : (s t : Table) (p q : Query) → runs s p ≡ runs t q → s ≡ t
+runs-table s t p q e = cc
+
+runs-query : (s t : Table) (p q : Query) → runs s p ≡ runs t q → p ≡ q
+runs-query s t p q e = cc
+
+turned-runs : (r : Refusal) (t : Table) (q : Query) → turned r ≡ runs t q → ⊥
+turned-runs r t q e = let z : _≡_ {A = ℕ} 0 1 = cc in omega arith
+
+-- what a loaded table keeps
+pub loaded-rules : (cells : List ℕ) (t : Table) → loaded cells ≡ some t → keepsRules t ≡ true
+unfolding loaded
+loaded-rules cells t e = go (leb (extent (countsIn cells)) (length cells)) (keepsRules (tableIn cells)) refl e
+  where
+    go : (a b : Bool) → keepsRules (tableIn cells) ≡ b → cond (a && b) (some (tableIn cells)) none ≡ some t → keepsRules t ≡ true
+    go true true k x = let z : tableIn cells ≡ t = cc in subst (λ (s : Table). keepsRules s ≡ true) z k
+    go true false k x = absurd (let z : _≡_ {A = ℕ} 0 1 = cc in omega arith)
+    go false b k x = absurd (let z : _≡_ {A = ℕ} 0 1 = cc in omega arith)
+
+words-facts : (s t : Table) (p q : Query) → askedWords s p ≡ runs t q → (s ≡ t) × (p ≡ q) × (sidesHold p ≡ true) × (wordsHold p ≡ true)
+words-facts s t p q e = go (sidesHold p) (wordsHold p) e
+  where
+    go : (a b : Bool) → cond a (cond b (runs s p) (turned (Input WordFault))) (turned (Input TaskFault)) ≡ runs t q → (s ≡ t) × (p ≡ q) × (a ≡ true) × (b ≡ true)
+    go true true x = (runs-table s t p q x, runs-query s t p q x, refl, refl)
+    go true false x = absurd (turned-runs (Input WordFault) t q x)
+    go false b x = absurd (turned-runs (Input TaskFault) t q x)
+
+pub asked-facts : (cells : List ℕ) (task : ℕ) (upper lower : List ℕ) (t : Table) (q : Query) → asked cells task upper lower ≡ runs t q → AskedFacts t q task upper lower
+unfolding asked
+asked-facts cells task upper lower t q e = by-table (loaded cells) refl e
+  where
+    by-task : (s : Table) → keepsRules s ≡ true → (o : Option Task) → taskOf task ≡ o → askedTask s o upper lower ≡ runs t q → AskedFacts t q task upper lower
+    by-task s k none w x = absurd (turned-runs (Input TaskFault) t q x)
+    by-task s k (some a) w x =
+        let p : Query = record { task = a; upperWord = upper; lowerWord = lower } in
+        let F = words-facts s t p q x in
+        record {
+          keeps-rules = subst (λ (z : Table). keepsRules z ≡ true) (F .0) k;
+          task-is = w ∙ ap (λ (z : Query). some (z .task)) (F .1);
+          upper-is = ap (λ (z : Query). z .upperWord) (sym (F .1));
+          lower-is = ap (λ (z : Query). z .lowerWord) (sym (F .1));
+          sides-hold = subst (λ (z : Query). sidesHold z ≡ true) (F .1) (F .2);
+          words-hold = subst (λ (z : Query). wordsHold z ≡ true) (F .1) (F .3);
+        }
+
+    by-table : (o : Option Table) → loaded cells ≡ o → askedTable o task upper lower ≡ runs t q → AskedFacts t q task upper lower
+    by-table none w x = absurd (turned-runs _ t q x)
+    by-table (some s) w x = by-task s (loaded-rules cells s w) (taskOf task) refl x
+
+-- "129 × 256": a stack of 33,024 frames holds every search that starts
+module _ (t : Table) (q : Query) (U : Ruled t) (W : wordsHold q ≡ true) where
+  word-short : (s : Side) → length (word s q) ≤ 64
+  word-short upperSide = leb-true _ _ (and-left _ _ (and-left (wordHolds (q .upperWord)) (wordHolds (q .lowerWord)) W))
+  word-short lowerSide = leb-true _ _ (and-left _ _ (and-right (wordHolds (q .upperWord)) (wordHolds (q .lowerWord)) W))
+
+  few-letters : (s : Side) → toReadOn q s ≤ 64
+  few-letters s = go (reads (q .task) s)
+    where
+      go : (r : Bool) → sideToRead r (word s q) ≤ 64
+      go true = word-short s
+      go false = omega arith
+
+  pub enough-frames : (lettersToRead q + 1) * t .states ≤ 33024
+  enough-frames =
+      let h : lettersToRead q + 1 ≤ 129 = omega (arith, few-letters upperSide, few-letters lowerSide) in
+      omega (arith, mul-le-mul-right (t .states) h, U .few-states)

@@ -1,0 +1,199 @@
+-- The theorems that carry the mission, stated together. What each one means is in specs/; how it is shown is in the files that it names.
+use Prim.Native.Nat.{ℕ, _+_, _*_, _<_, _≤_}
+use mathlib.Core.Path.{_≡_, refl, sym, subst}
+use mathlib.Core.Logic.{_↔_}
+use mathlib.Core.Bool.{true, false}
+use mathlib.Core.Option.{some}
+use mathlib.Core.List.{List, [], List·Memᴰ}
+use lib.ListN.{length, take}
+use lib.Dec.{T}
+use Rattle.table.specs.Table.{Arc, Table}
+use Rattle.table.specs.Rules.{keepsRules}
+use Rattle.table.proofs.Ruled.{Ruled, ruled}
+use Rattle.machine.specs.declared.Run.{Run}
+use Rattle.machine.specs.declared.StartAnswer.the-variants.{Ready}
+use Rattle.machine.specs.declared.Started.{Started}
+use Rattle.machine.specs.Query.{Task, Query}
+use Rattle.machine.specs.Machine.{Machine, Path, size, final, datum, output, Allowed, Bounded}
+use Rattle.machine.specs.Tour.{pathsIn, trail, after, tour, readings, allowedPaths, treeSize}
+use Rattle.machine.specs.Order.{accepting, outputs, ListsAllowed, Lists}
+use Rattle.machine.specs.Transducer.{Passed, lettersToRead, writtenBy, machine}
+use Rattle.machine.specs.Idle.{IdleWalk, NoIdleCycle, CycleStates, hasIdleCycle}
+use Rattle.machine.specs.Answer.{refused, startNumber}
+use Rattle.machine.specs.Asked.{runs, asked}
+use Rattle.machine.specs.Start.{firstRun, StartIs}
+use Rattle.machine.specs.Reading.{kindBy, outcome, RefusedLeaves}
+use Rattle.machine.specs.Demand.{Lent, Handed, received, stepsTold, Demand3}
+use Rattle.machine.specs.Report.{_∘_, Word, α, upperAlone, lowerAlone, Output, Cell, arcsOf, kernel, Noetherian, Solution}
+use Rattle.machine.specs.Agree.{inputOf, outputOf, TraceFor, Same}
+use Rattle.machine.specs.Cases.{rows, rowsHold}
+use Rattle.machine.proofs.Tour as tours
+use Rattle.machine.proofs.Order as order
+use Rattle.machine.proofs.Transducer as transducer
+use Rattle.machine.proofs.Idle as idles
+use Rattle.machine.proofs.Bound as bounds
+use Rattle.machine.proofs.Asked as asks
+use Rattle.machine.proofs.Start as starts
+use Rattle.machine.proofs.Reading as calls
+use Rattle.machine.proofs.Demand as demand
+use Rattle.machine.proofs.Traces as traces
+use Rattle.machine.proofs.Agree as agree
+use Rattle.machine.proofs.Noether as noether
+use Rattle.machine.proofs.Cases as cases
+
+-- THE TOUR, for any machine whose limit is above the arcs of its paths; nothing but this bound is used.
+
+module _ (M : Machine) (B : Bounded M) where
+  -- What follows a path is as document 01 says; the fuel of its definition plays no part.
+  pub following-is : (p : Path) → Allowed M p → after M p ≡ trail M (after M) p (M .first (final M p)) (M .arity (final M p))
+  following-is = tours.unrolls M B
+
+  -- The paths by which the search tree is counted are those that the words allow, each once.
+  pub tree-paths : ListsAllowed M (allowedPaths M)
+  tree-paths = order.paths-listed M B
+
+  -- "The tour has as many entries as the search tree's size."
+  pub tree : length (tour M) ≡ treeSize M
+  tree = tours.tree-law M
+
+  -- The accepting paths of the tour are all accepting paths, each once, in document 01's order; no other list is; its outputs are the readings.
+  pub listed : Lists M (accepting M (pathsIn (tour M)))
+  listed = order.tour-lists M B
+
+  pub no-other : (ps : List Path) → Lists M ps → ps ≡ accepting M (pathsIn (tour M))
+  no-other ps P = order.lists-same M ps (accepting M (pathsIn (tour M))) P listed
+
+  pub readings-are : readings M (tour M) ≡ outputs M (accepting M (pathsIn (tour M)))
+  readings-are = order.readings-outputs M (tour M)
+
+-- REPORT 6486: the relation of an arc with two letters is the composition of those of each letter, as for a morphism.
+
+pub label-is : (k : Task) (a : Arc) (d e : Word × Word) → α k a d e ↔ _∘_ (α k (upperAlone a)) (α k (lowerAlone a)) d e
+label-is = traces.label-is
+
+-- IDLE CYCLES, for any table that keeps the rules and any task.
+
+module _ (t : Table) (rules : keepsRules t ≡ true) (k : Task) where
+  -- The test says whether there is one.
+  pub cycle-test : (hasIdleCycle t k ≡ false) ↔ NoIdleCycle t k
+  cycle-test = (idles.none-found t k (ruled t rules), idles.none-there t k)
+
+  -- "Report 6487 calls a machine without infinite paths noetherian; here the two agree."
+  pub noetherian-is : NoIdleCycle t k ↔ Noetherian (kernel t k)
+  noetherian-is = (noether.noetherian t k (ruled t rules), noether.no-idle-cycle t k (ruled t rules))
+
+-- THE BOUND: a path that the words allow has fewer than (letters to read + 1) × states arcs.
+
+module _ (t : Table) (rules : keepsRules t ≡ true) (q : Query) (none : NoIdleCycle t (q .task)) where
+  pub bound : (p : Path) → Allowed (machine t q) p → size p < (lettersToRead q + 1) * t .states
+  bound = bounds.bounded t q none (ruled t rules)
+
+  -- DEMAND 2: the accepting entries are report 6486's accepting traces from initial cells, one to one, and tell what it solves.
+
+  abbrev M : Machine
+  M = machine t q
+
+  abbrev entries : List Path
+  entries = accepting M (pathsIn (tour M))
+
+  -- every accepting entry is an accepting trace
+  pub entry-trace : (p : Path) → List·Memᴰ p entries → (T : TraceFor t q (outputOf (q .task) (output M p))) × Same t q (outputOf (q .task) (output M p)) p T
+  entry-trace p m =
+      let A = listed M bound .members p .0 m in
+      agree.trace-of t q (ruled t rules) (outputOf (q .task) (output M p)) (record { path = p; allowed = A .0; accepted = A .1; told = refl })
+
+  -- every accepting trace gives one entry
+  pub trace-entry : (v : Word) (T : TraceFor t q (outputOf (q .task) v))
+      → (p : Path) × List·Memᴰ p entries × (outputOf (q .task) (output M p) ≡ outputOf (q .task) v) × Same t q (outputOf (q .task) v) p T
+  trace-entry v T =
+      let P = agree.path-of t q (ruled t rules) v T in
+      (P .0 .path, listed M bound .members (P .0 .path) .1 (P .0 .allowed, P .0 .accepted), P .0 .told, P .1)
+
+  pub one-entry : (x : Output (q .task)) (p r : Path) → List·Memᴰ p entries → List·Memᴰ r entries → (T : TraceFor t q x) → Same t q x p T → Same t q x r T → p ≡ r
+  one-entry x p r m n = agree.one-path t q (ruled t rules) x p r (listed M bound .members p .0 m .0) (listed M bound .members r .0 n .0)
+
+  pub one-trace : (x y : Output (q .task)) (p : Path) (T : TraceFor t q x) (S : TraceFor t q y) → Same t q x p T → Same t q y p S
+      → (_≡_ {A = Cell (kernel t (q .task))} (T .begin, T .from) (S .begin, S .from)) × (arcsOf (T .trace) ≡ arcsOf (S .trace)) × (_≡_ {A = Cell (kernel t (q .task))} (T .end, T .to) (S .end, S .to))
+  one-trace = agree.one-trace t q (ruled t rules)
+
+  -- a reading is told exactly when the report's machine solves it
+  pub solved : (v : Word) → ((p : Path) × List·Memᴰ p entries × (outputOf (q .task) (output M p) ≡ outputOf (q .task) v))
+      ↔ Solution t (q .task) (inputOf (q .task) (q .upperWord) (q .lowerWord)) (outputOf (q .task) v)
+  solved v = (
+    λ E. let A = listed M bound .members (E .0) .0 (E .1) in agree.solves t q (ruled t rules) v .0 (record { path = E .0; allowed = A .0; accepted = A .1; told = E .2 }),
+    λ S. let P = agree.solves t q (ruled t rules) v .1 S in (P .path, listed M bound .members (P .path) .1 (P .allowed, P .accepted), P .told),
+  )
+
+-- THE OUTPUT'S LENGTH is what was passed on the written side.
+
+pub written-length : (t : Table) (q : Query) (p : Path) (d : Passed) → datum (machine t q) p ≡ some d → length (output (machine t q) p) ≡ writtenBy q d
+written-length = transducer.written-length
+
+-- THE START: 12, after 20, 11 and 10, exactly where there is an idle cycle, with the states of one; and its promise can be kept.
+
+module _ (cells : List ℕ) (task : ℕ) (upper lower : List ℕ) where
+  pub start-there : (s : Started) × StartIs cells task upper lower s
+  start-there = starts.start-there cells task upper lower
+
+  module _ (t : Table) (q : Query) (a : asked cells task upper lower ≡ runs t q) (s : Started) (S : StartIs cells task upper lower s) where
+    table-ruled : Ruled t
+    table-ruled = ruled t (asks.asked-facts cells task upper lower t q a .keeps-rules)
+
+    pub twelve : (startNumber (s .answer) ≡ some 12) ↔ ((x : ℕ) × IdleWalk t (q .task) x x)
+    twelve = starts.twelve cells task upper lower t q table-ruled a s S
+
+    pub twelve-tells : startNumber (s .answer) ≡ some 12 → CycleStates t (q .task) (take (s .length) (s .cycle))
+    twelve-tells = starts.twelve-tells cells task upper lower t q table-ruled a s S
+
+    pub cycle-cells : length (s .cycle) ≡ 256
+    cycle-cells = starts.cycle-cells cells task upper lower t q table-ruled a s S
+
+  -- DEMAND 3: a start without a refusal, and any list of calls after it, each with any stack, allowance and buffer.
+
+  -- from the bound alone
+  pub demand-three-bounded : (t : Table) (q : Query) → Bounded (machine t q) → (lettersToRead q + 1) * t .states ≤ 33024 → asked cells task upper lower ≡ runs t q
+      → (xs : List Lent) → Handed cells upper lower (firstRun task) [] xs → Demand3 cells upper lower t q (firstRun task) xs
+  demand-three-bounded t q B F = demand.demand-3 t q B F cells upper lower task
+
+  -- from what a start without a refusal ensures
+  pub demand-three : (s : Started) → StartIs cells task upper lower s → s .answer ≡ Ready
+      → (t : Table) × (q : Query) × (asked cells task upper lower ≡ runs t q)
+      × ((xs : List Lent) → Handed cells upper lower (s .run) [] xs → Demand3 cells upper lower t q (s .run) xs)
+  demand-three s S e = (
+    t,
+    q,
+    R .is,
+    subst (λ (r : Run). (xs : List Lent) → Handed cells upper lower r [] xs → Demand3 cells upper lower t q r xs) (sym (R .run-is))
+        (demand-three-bounded t q (bound t (F .keeps-rules) q (idles.none-found t (q .task) U (R .no-cycle))) (asks.enough-frames t q U (F .words-hold)) (R .is)),
+  )
+    where
+      R : starts.ReadyFacts (asked cells task upper lower) task s
+      R = starts.ready-facts cells task upper lower s S e
+
+      t : Table
+      t = R .table
+
+      q : Query
+      q = R .query
+
+      F : asks.AskedFacts t q task upper lower
+      F = asks.asked-facts cells task upper lower t q (R .is)
+
+      U : Ruled t
+      U = ruled t (F .keeps-rules)
+
+-- Where the steps told add up to the tree's size, which is where Ended is told, all readings were received.
+pub whole-list : (cells upper lower : List ℕ) (t : Table) (q : Query) (r : Run) (xs : List Lent) → Demand3 cells upper lower t q r xs
+    → stepsTold cells upper lower r xs ≡ treeSize (machine t q) → received cells upper lower r xs ≡ readings (machine t q) (tour (machine t q))
+whole-list = demand.whole-list
+
+-- A REFUSED CALL leaves everything as it was before the refused step, or before the call; for any run, stack and buffer.
+
+pub refused-leaves : (cells upper lower : List ℕ) (run : Run) (stack : List ℕ) (n : ℕ) (buffer : List ℕ) (m : ℕ)
+    → kindBy (outcome cells upper lower run stack n buffer) ≡ refused m → RefusedLeaves (asked cells (run .task) upper lower) run stack buffer (outcome cells upper lower run stack n buffer)
+refused-leaves = calls.refused-leaves
+
+-- THE STARRED CASES, one theorem over the table of rows.
+
+pub cases-hold : T (rowsHold rows)
+cases-hold = cases.cases-hold

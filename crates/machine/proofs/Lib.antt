@@ -1,0 +1,23 @@
+-- Laws of the definitions; Headlines states together what they come to.
+pub mod Frames
+pub mod Tour
+pub mod Step
+pub mod Held
+pub mod Order
+pub mod Call
+pub mod Turn
+pub mod Pigeon
+pub mod Transducer
+pub mod Range
+pub mod Stack
+pub mod Idle
+pub mod Bound
+pub mod Asked
+pub mod Start
+pub mod Reading
+pub mod Demand
+pub mod Traces
+pub mod Agree
+pub mod Noether
+pub mod Cases
+pub mod Headlines

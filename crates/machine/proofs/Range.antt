@@ -1,0 +1,55 @@
+-- The numbers in the frames of a place in a search are within the table's, and the counts within the depth.
+use Prim.Native.Nat.{ℕ, suc, _≤_, _<_}
+use native.Mathlib.Omega.{arith}
+use mathlib.Core.Path.{_≡_, refl, sym, subst}
+use mathlib.Core.Bool.{Bool, true, false, cond}
+use mathlib.Core.List.{List, [], _∷_}
+use lib.ListN.{length}
+use lib.Dec.{ltb}
+use borrow.Author.Tests.{ltb-true, ltb-false}
+use Rattle.table.specs.Table.{Arc, Table}
+use Rattle.table.specs.Index.{below}
+use Rattle.table.proofs.Ruled.{Ruled}
+use Rattle.machine.specs.Query.{Side, Query}
+use Rattle.machine.specs.Machine.{Path, start, more, final, Allowed}
+use Rattle.machine.specs.Frames.{Frame, walkTo}
+use Rattle.machine.specs.Transducer.{noArc, Passed, passed, machine}
+use Rattle.machine.proofs.Frames.{Placed, walk-size}
+use Rattle.machine.proofs.Transducer.{arc-of, at-mem, passed-size}
+
+pub below-length : (s : ℕ) (l : List Arc) → below s l ≤ length l
+below-length s [] = omega arith
+below-length s (a ∷ l) = go (ltb (a .source) s) (below-length s l)
+  where
+    go : (b : Bool) → below s l ≤ length l → cond b (suc (below s l)) (below s l) ≤ suc (length l)
+    go true h = omega arith
+    go false h = omega arith
+
+pub below-rises : (s : ℕ) (l : List Arc) → below s l ≤ below (suc s) l
+below-rises s [] = omega arith
+below-rises s (a ∷ l) = go (ltb (a .source) s) refl (ltb (a .source) (suc s)) refl (below-rises s l)
+  where
+    go : (b : Bool) → ltb (a .source) s ≡ b → (c : Bool) → ltb (a .source) (suc s) ≡ c → below s l ≤ below (suc s) l → cond b (suc (below s l)) (below s l) ≤ cond c (suc (below (suc s) l)) (below (suc s) l)
+    go true e true f h = omega arith
+    go true e false f h = absurd (let x : a .source < s = ltb-true _ _ e in let y : suc s ≤ a .source = ltb-false _ _ f in omega arith)
+    go false e true f h = omega arith
+    go false e false f h = h
+
+module _ (t : Table) (q : Query) (U : Ruled t) where
+  -- the last state of a path that the words allow is a state
+  pub final-in : (p : Path) → Allowed (machine t q) p → final (machine t q) p < t .states
+  final-in (start i) A = U .initial-in _ (at-mem (t .initials) i 0 A)
+  final-in (more p n) A = U .target-in _ (at-mem (t .arcs) n noArc (arc-of t q (U .rising) (final (machine t q) p) n .0 (A .1) .0))
+
+  pub record InRange (d : ℕ) (f : Frame Passed) : Type 0 where
+    pub state-in : f .state < t .states
+    pub next-in : f .next ≤ length (t .arcs)
+    pub passed-in : (s : Side) → passed (f .datum) s ≤ d
+
+  pub in-range : (n : ℕ) (f : Frame Passed) (fs : List (Frame Passed)) → Placed (machine t q) n (f ∷ fs) → InRange (length fs) f
+  in-range n f fs P =
+      record {
+        state-in = subst (λ (s : ℕ). s < t .states) (sym (P .state-is)) (final-in (walkTo n fs) (P .allowed));
+        next-in = omega (arith, P .high, below-rises (f .state) (t .arcs), below-length (suc (f .state)) (t .arcs));
+        passed-in = λ s. subst (λ (k : ℕ). passed (f .datum) s ≤ k) (walk-size (machine t q) n fs) (passed-size t q (walkTo n fs) (f .datum) (P .datum-is) s);
+      }

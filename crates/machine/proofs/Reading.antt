@@ -1,0 +1,93 @@
+-- The call for a reading: replies as answers, and what a refused call leaves.
+use Prim.Native.Nat.{ℕ}
+use native.Mathlib.Omega.{arith}
+use mathlib.Core.Path.{_≡_, refl, sym, ap, subst, _∙_}
+use mathlib.Core.Logic.{_↔_, inl, inr, ⊎-elim}
+use mathlib.Core.List.{List, []}
+use lib.ListN.{length}
+use lib.Seq.{take-append-seam}
+use Rattle.table.specs.declared.Refusal.{Refusal}
+use Rattle.table.specs.Table.{Table}
+use Rattle.table.specs.Refusal.{numberOf}
+use Rattle.machine.specs.declared.Run.{Run}
+use Rattle.machine.specs.declared.Answer.the-variants.{Refused}
+use Rattle.machine.specs.Query.{Query}
+use Rattle.machine.specs.Frames.{Held}
+use Rattle.machine.specs.Step.{refuses, step}
+use Rattle.machine.specs.Call.{Reply, Told, call, Steps}
+use Rattle.machine.specs.Call as R
+use Rattle.machine.specs.Tour.{Entry}
+use Rattle.machine.specs.Transducer.{machine}
+use Rattle.machine.specs.Stack.{store}
+use Rattle.machine.specs.Answer.{found, paused, ended, refused, kindOf, stepsOf, outputTold}
+use Rattle.machine.specs.Asked.{Asked, turned, runs, asked}
+use Rattle.machine.specs.Reading.{kindBy, heldOf, answerAs, outputAs, outcomeAs, outcomeOf, outcome, Unchanged, BeforeStep, RefusedLeaves}
+use Rattle.machine.proofs.Call.{EndLaw, outs, call-counted, call-refused}
+
+-- Replies as answers.
+
+pub steps-is : (a : Reply) (n : ℕ) → stepsOf (answerAs a n) ≡ n
+steps-is (R.found o) n = refl
+steps-is R.paused n = refl
+steps-is R.ended n = refl
+steps-is (R.refused r) n = refl
+
+pub told-is : (a : Reply) (n : ℕ) (b : List ℕ) → outputTold (kindOf (answerAs a n)) (outputAs a b) ≡ outs a
+told-is (R.found o) n b = rw take-append-seam
+told-is R.paused n b = refl
+told-is R.ended n b = refl
+told-is (R.refused r) n b = refl
+
+pub end-is : (a : Reply) (n : ℕ) (es : List Entry) → EndLaw a es → (kindOf (answerAs a n) ≡ ended) ↔ (es ≡ [])
+end-is (R.found o) n es E = (λ e. absurd (let z : _≡_ {A = ℕ} 0 1 = cc in omega arith), λ e. absurd (E e))
+end-is R.paused n es E = (λ e. absurd (let z : _≡_ {A = ℕ} 0 1 = cc in omega arith), λ e. absurd (E e))
+end-is R.ended n es E = (λ e. E, λ e. refl)
+end-is (R.refused r) n es E = (λ e. absurd (let z : _≡_ {A = ℕ} 0 1 = cc in omega arith), λ e. absurd (E e))
+
+pub paused-to : (a : Reply) (n : ℕ) → kindOf (answerAs a n) ≡ paused → a ≡ R.paused
+paused-to (R.found o) n e = absurd (let z : _≡_ {A = ℕ} 0 1 = cc in omega arith)
+paused-to R.paused n e = refl
+paused-to R.ended n e = absurd (let z : _≡_ {A = ℕ} 0 1 = cc in omega arith)
+paused-to (R.refused r) n e = absurd (let z : _≡_ {A = ℕ} 0 1 = cc in omega arith)
+
+pub refused-as : (a : Reply) (n m : ℕ) → kindOf (answerAs a n) ≡ refused m → (c : Refusal) × (a ≡ R.refused c) × (numberOf c ≡ m)
+refused-as (R.found o) n m e = absurd (let z : _≡_ {A = ℕ} 0 1 = cc in omega arith)
+refused-as R.paused n m e = absurd (let z : _≡_ {A = ℕ} 0 1 = cc in omega arith)
+refused-as R.ended n m e = absurd (let z : _≡_ {A = ℕ} 0 1 = cc in omega arith)
+refused-as (R.refused r) n m e = (r, refl, cc)
+
+-- What a refused call leaves.
+
+module _ (t : Table) (q : Query) (run : Run) (stack : List ℕ) (n : ℕ) (buffer : List ℕ) where
+  abbrev T : Told (List ℕ)
+  T = call (machine t q) store n (length buffer) (heldOf run stack)
+
+  runs-leaves : (m : ℕ) → kindOf (answerAs (T .reply) (T .steps)) ≡ refused m → RefusedLeaves (runs t q) run stack buffer (outcomeAs (run .task) buffer T)
+  runs-leaves m e = (ap (λ (a : Reply). outputAs a buffer) (A .1), ⊎-elim (λ s. inr (before (s .0))) (λ s. inl (unchanged (s .1) (s .2))) (call-refused (machine t q) store n (length buffer) (heldOf run stack) (A .0) (A .1)))
+    where
+      A : (c : Refusal) × (T .reply ≡ R.refused c) × (numberOf c ≡ m)
+      A = refused-as (T .reply) (T .steps) m e
+
+      told : stepsOf (answerAs (T .reply) (T .steps)) ≡ T .steps
+      told = steps-is (T .reply) (T .steps)
+
+      before : step (machine t q) store (length buffer) (T .after) ≡ refuses (A .0) → BeforeStep (machine t q) store (length buffer) (heldOf run stack) (T .after) (answerAs (T .reply) (T .steps))
+      before s =
+          record {
+            refusal = A .0;
+            told = ap (λ (a : Reply). answerAs a (T .steps)) (A .1) ∙ ap (λ (k : ℕ). Refused k (A .0)) (sym told);
+            steps-made = subst (λ (k : ℕ). Steps (machine t q) store (length buffer) k (heldOf run stack) (T .after)) (sym told) (call-counted (machine t q) store n (length buffer) (heldOf run stack) .steps-made);
+            refused-there = s;
+          }
+
+      unchanged : T .steps ≡ 0 → T .after ≡ heldOf run stack → Unchanged run stack (outcomeAs (run .task) buffer T)
+      unchanged z h = (ap (λ (d : Held (List ℕ)). record { task = run .task; started = d .started; depth = d .depth }) h, ap (λ (d : Held (List ℕ)). d .cells) h, told ∙ z)
+
+pub refused-leaves : (cells upper lower : List ℕ) (run : Run) (stack : List ℕ) (n : ℕ) (buffer : List ℕ) (m : ℕ)
+    → kindBy (outcome cells upper lower run stack n buffer) ≡ refused m → RefusedLeaves (asked cells (run .task) upper lower) run stack buffer (outcome cells upper lower run stack n buffer)
+unfolding outcome
+refused-leaves cells upper lower run stack n buffer m e = go (asked cells (run .task) upper lower) e
+  where
+    go : (w : Asked) → kindBy (outcomeOf w run stack n buffer) ≡ refused m → RefusedLeaves w run stack buffer (outcomeOf w run stack n buffer)
+    go (turned r) e = (refl, (refl, refl, refl))
+    go (runs t q) e = runs-leaves t q run stack n buffer m e

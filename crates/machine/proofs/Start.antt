@@ -1,0 +1,114 @@
+-- What a start tells: where it is ready, all that demand 3 uses; 12 exactly where there is an idle cycle; and a start can always be made.
+use Prim.Native.Nat.{ℕ, _-_, _≤_, _<_}
+use native.Mathlib.Omega.{arith}
+use mathlib.Core.Path.{_≡_, refl, sym, ap, subst, _∙_}
+use mathlib.Core.Logic.{_↔_, ⊎-elim}
+use mathlib.Core.Bool.{Bool, true, false, cond}
+use mathlib.Core.Option.{some}
+use mathlib.Core.List.{List, [], _∷_, List·Memᴰ·cases-cons, List·Memᴰ·not-nil}
+use lib.ListN.{length, take, replicate, length-append, length-replicate}
+use lib.Seq.{take-append-seam}
+use Rattle.table.specs.declared.Refusal.the-variants.{Input}
+use Rattle.table.specs.declared.InputCause.the-variants.{IdleCycle}
+use Rattle.table.specs.Table.{Table}
+use Rattle.table.proofs.Ruled.{Ruled}
+use Rattle.machine.specs.declared.StartAnswer.the-variants.{Ready, Refused}
+use Rattle.machine.specs.declared.Started.{Started}
+use Rattle.machine.specs.Query.{Task, Query}
+use Rattle.machine.specs.Idle.{IdleWalk, Through, CycleStates, hasIdleCycle}
+use Rattle.machine.specs.Answer.{startNumber}
+use Rattle.machine.specs.Asked.{Asked, turned, runs, asked}
+use Rattle.machine.specs.Start.{firstRun, startedWith, startedAs, started, TellsCycle, StartIs}
+use Rattle.machine.proofs.Pigeon.{AllBelow, pigeon}
+use Rattle.machine.proofs.Idle.{cycle-there, cycle-walk, none-found}
+
+ready-refused : (r : _) → Refused r ≡ Ready → ⊥
+ready-refused r e = let z : _≡_ {A = ℕ} 0 1 = cc in omega arith
+
+-- a start that is ready
+pub record ReadyFacts (w : Asked) (task : ℕ) (s : Started) : Type 0 where
+  pub table : Table
+  pub query : Query
+  pub is : w ≡ runs table query
+  pub no-cycle : hasIdleCycle table (query .task) ≡ false
+  pub run-is : s .run ≡ firstRun task
+
+ready-as : (w : Asked) (task : ℕ) (cycle : List ℕ) → startedAs w task cycle .answer ≡ Ready → ReadyFacts w task (startedAs w task cycle)
+ready-as (turned r) task cycle e = absurd (ready-refused r e)
+ready-as (runs t q) task cycle e = go (hasIdleCycle t (q .task)) refl e
+  where
+    go : (b : Bool) → hasIdleCycle t (q .task) ≡ b
+        → cond b (startedWith (Refused (Input IdleCycle)) (firstRun 0) cycle) (startedWith Ready (firstRun task) []) .answer ≡ Ready
+        → ReadyFacts (runs t q) task (cond b (startedWith (Refused (Input IdleCycle)) (firstRun 0) cycle) (startedWith Ready (firstRun task) []))
+    go true h x = absurd (ready-refused (Input IdleCycle) x)
+    go false h x = record { table = t; query = q; is = refl; no-cycle = h; run-is = refl }
+
+module _ (cells : List ℕ) (task : ℕ) (upper lower : List ℕ) where
+  pub ready-facts : (s : Started) → StartIs cells task upper lower s → s .answer ≡ Ready → ReadyFacts (asked cells task upper lower) task s
+  unfolding started
+  ready-facts s S e =
+      subst (λ (z : Started). ReadyFacts (asked cells task upper lower) task z) (sym (S .is)) (ready-as (asked cells task upper lower) task (S .cycle) (ap (λ (z : Started). z .answer) (sym (S .is)) ∙ e))
+
+  -- what a start ensures can be had
+  pub start-there : (s : Started) × StartIs cells task upper lower s
+  start-there = go (asked cells task upper lower) refl
+    where
+      by-test : (t : Table) (q : Query) → asked cells task upper lower ≡ runs t q → (b : Bool) → hasIdleCycle t (q .task) ≡ b → (c : List ℕ) × TellsCycle (asked cells task upper lower) c
+      by-test t q a true h = let C = cycle-there t (q .task) h in (C .0, subst (λ (z : Asked). TellsCycle z (C .0)) (sym a) (λ e. C .1))
+      by-test t q a false h = ([], subst (λ (z : Asked). TellsCycle z []) (sym a) (λ e. absurd (let z : _≡_ {A = Bool} true false = sym e ∙ h in let y : _≡_ {A = ℕ} 0 1 = cc in omega arith)))
+
+      cycle-for : (w : Asked) → asked cells task upper lower ≡ w → (c : List ℕ) × TellsCycle (asked cells task upper lower) c
+      cycle-for (turned r) a = ([], subst (λ (z : Asked). TellsCycle z []) (sym a) tt)
+      cycle-for (runs t q) a = by-test t q a (hasIdleCycle t (q .task)) refl
+
+      go : (w : Asked) → asked cells task upper lower ≡ w → (s : Started) × StartIs cells task upper lower s
+      go w a = let C = cycle-for w a in (started cells task upper lower (C .0), record { cycle = C .0; is = refl; tells = C .1 })
+
+-- a cycle's states are states, at most as many as there are
+module _ (t : Table) (k : Task) (U : Ruled t) where
+  through-below : (s : ℕ) (l : List ℕ) (r : ℕ) → Through t k s l r → AllBelow (t .states) (s ∷ l)
+  through-below s [] r T x m =
+      ⊎-elim (λ u. subst (λ (z : ℕ). z < t .states) (T .from ∙ sym u) (U .source-in (T .arc) (T .listed))) (λ u. absurd (List·Memᴰ·not-nil u)) (List·Memᴰ·cases-cons m)
+  through-below s (y ∷ l) r T x m =
+      ⊎-elim (λ u. subst (λ (z : ℕ). z < t .states) (T .0 .from ∙ sym u) (U .source-in (T .0 .arc) (T .0 .listed))) (through-below y l r (T .1) x) (List·Memᴰ·cases-cons m)
+
+  pub cycle-length : (c : List ℕ) → CycleStates t k c → length c ≤ t .states
+  cycle-length [] C = absurd C
+  cycle-length (s ∷ l) C = pigeon (t .states) (s ∷ l) (C .1) (through-below s l s (C .0))
+
+-- a start that is asked for a table and a query
+module _ (cells : List ℕ) (task : ℕ) (upper lower : List ℕ) (t : Table) (q : Query) (U : Ruled t) (a : asked cells task upper lower ≡ runs t q) (s : Started) (S : StartIs cells task upper lower s) where
+  start-as : s ≡ startedAs (runs t q) task (S .cycle)
+  unfolding started
+  start-as = S .is ∙ ap (λ (w : Asked). startedAs w task (S .cycle)) a
+
+  tells : hasIdleCycle t (q .task) ≡ true → CycleStates t (q .task) (S .cycle)
+  tells = subst (λ (w : Asked). TellsCycle w (S .cycle)) a (S .tells)
+
+  by-test : (P : Started → Type 0) → (hasIdleCycle t (q .task) ≡ true → P (startedWith (Refused (Input IdleCycle)) (firstRun 0) (S .cycle)))
+      → (hasIdleCycle t (q .task) ≡ false → P (startedWith Ready (firstRun task) [])) → P s
+  by-test P y n = subst P (sym start-as) (go (hasIdleCycle t (q .task)) refl)
+    where
+      go : (b : Bool) → hasIdleCycle t (q .task) ≡ b → P (cond b (startedWith (Refused (Input IdleCycle)) (firstRun 0) (S .cycle)) (startedWith Ready (firstRun task) []))
+      go true e = y e
+      go false e = n e
+
+  -- 12 exactly where there is an idle cycle
+  pub twelve : (startNumber (s .answer) ≡ some 12) ↔ ((x : ℕ) × IdleWalk t (q .task) x x)
+  twelve =
+      by-test (λ z. (startNumber (z .answer) ≡ some 12) ↔ ((x : ℕ) × IdleWalk t (q .task) x x)) (λ h. (λ e. cycle-walk t (q .task) (S .cycle) (tells h), λ w. refl))
+      (λ h. (λ e. absurd (let z : _≡_ {A = ℕ} 0 1 = cc in omega arith), λ w. absurd (none-found t (q .task) U h (w .0) (w .1))))
+
+  -- the states told with it
+  pub twelve-tells : startNumber (s .answer) ≡ some 12 → CycleStates t (q .task) (take (s .length) (s .cycle))
+  twelve-tells =
+      by-test (λ z. startNumber (z .answer) ≡ some 12 → CycleStates t (q .task) (take (z .length) (z .cycle)))
+      (λ h e. subst (λ (l : List ℕ). CycleStates t (q .task) l) (sym (take-append-seam (S .cycle) (replicate (256 - length (S .cycle)) 0))) (tells h))
+      (λ h e. absurd (let z : _≡_ {A = ℕ} 0 1 = cc in omega arith))
+
+  -- the array has 256 cells
+  pub cycle-cells : length (s .cycle) ≡ 256
+  cycle-cells =
+      by-test (λ z. length (z .cycle) ≡ 256)
+      (λ h. length-append (S .cycle) (replicate (256 - length (S .cycle)) 0) ∙ omega (arith, length-replicate {A = ℕ} (256 - length (S .cycle)) 0, cycle-length t (q .task) U (S .cycle) (tells h), U .few-states))
+      (λ h. length-replicate {A = ℕ} 256 0)

@@ -1,0 +1,61 @@
+-- Demand 2: what it means that the accepting entries are report 6486's accepting traces.
+use Prim.Native.Nat.{ℕ}
+use mathlib.Core.Path.{_≡_}
+use mathlib.Core.Bool.{true}
+use mathlib.Core.List.{List, [], _∷_, List·Memᴰ}
+use lib.ListN.{getD}
+use Rattle.table.specs.Table.{Arc, Table}
+use Rattle.machine.specs.Query.{Task, recognition, synthesis, analysis, Query}
+use Rattle.machine.specs.Machine.{Path, start, more, Allowed, accepts, output}
+use Rattle.machine.specs.Transducer.{arcAt, machine}
+use Rattle.machine.specs.Report.{Word, Trace, arcsOf, kernel, Input, Output, φ₋, φ₊}
+
+-- a path's place in the list of initial states, and its arcs, the last one first
+abbrev pub place : Path → ℕ
+place (start i) = i
+place (more p n) = place p
+
+-- its arcs, the last one first
+abbrev pub arcsBack : Table → Path → List Arc
+arcsBack t (start i) = []
+arcsBack t (more p n) = arcAt t n ∷ arcsBack t p
+
+-- a query's words and a reading, as the report has them
+abbrev pub inputOf : (k : Task) → Word → Word → Input k
+inputOf recognition u l = (u, l)
+inputOf synthesis u l = u
+inputOf analysis u l = l
+
+-- a reading, as the report has it; recognition tells ⊤
+abbrev pub outputOf : (k : Task) → Word → Output k
+outputOf recognition o = true
+outputOf synthesis o = o
+outputOf analysis o = o
+
+-- a path that accepts with the reading x
+pub record AcceptingPath (t : Table) (q : Query) (x : Output (q .task)) : Type 0 where
+  pub path : Path
+  pub allowed : Allowed (machine t q) path
+  pub accepted : accepts (machine t q) path ≡ true
+  pub told : outputOf (q .task) (output (machine t q) path) ≡ x
+
+-- a trace from an initial cell that φ₋ feeds with w to a terminal cell of which φ₊ tells x
+pub record AcceptingTrace (t : Table) (k : Task) (w : Input k) (x : Output k) : Type 0 where
+  pub from : ℕ
+  pub to : ℕ
+  pub begin : Word × Word
+  pub end : Word × Word
+  pub initial : List·Memᴰ from (t .initials)
+  pub fed : φ₋ k w begin
+  pub trace : Trace (kernel t k) (begin, from) (end, to)
+  pub terminal : List·Memᴰ to (t .terminals)
+  pub told : φ₊ k end x
+
+-- the traces that a query begins and that tell x
+abbrev pub TraceFor : (t : Table) (q : Query) → Output (q .task) → Type 0
+TraceFor t q x = AcceptingTrace t (q .task) (inputOf (q .task) (q .upperWord) (q .lowerWord)) x
+
+-- a path and a trace have the same initial state and the same arcs
+pub record Same (t : Table) (q : Query) (x : Output (q .task)) (p : Path) (T : TraceFor t q x) : Type 0 where
+  pub from-is : getD (t .initials) (place p) 0 ≡ T .from
+  pub arcs-are : arcsBack t p ≡ arcsOf (T .trace)

@@ -1,0 +1,35 @@
+-- Refusals 20, 11 and 10, in the order in which a start and a call look for them; where there is none, the table and the query.
+use Prim.Native.Nat.{ℕ}
+use mathlib.Core.Bool.{cond}
+use mathlib.Core.Option.{Option, none, some}
+use mathlib.Core.List.{List}
+use Rattle.table.specs.declared.Refusal.{Refusal}
+use Rattle.table.specs.declared.Refusal.the-variants.{Input, State}
+use Rattle.table.specs.declared.InputCause.the-variants.{WordFault, TaskFault}
+use Rattle.table.specs.declared.StateCause.the-variants.{LoadedTable}
+use Rattle.table.specs.Table.{Table}
+use Rattle.table.specs.Loaded.{loaded}
+use Rattle.machine.specs.Query.{Task, taskOf, Query, wordsHold, sidesHold}
+
+-- a refusal, or what is to be run
+pub data Asked : Type 0 where
+  turned : Refusal → Asked
+  runs : Table → Query → Asked
+
+-- 11, a word on a side that the task does not read, then 10
+abbrev pub askedWords : Table → Query → Asked
+askedWords t q = cond (sidesHold q) (cond (wordsHold q) (runs t q) (turned (Input WordFault))) (turned (Input TaskFault))
+
+-- 11, an unknown task
+abbrev pub askedTask : Table → Option Task → List ℕ → List ℕ → Asked
+askedTask t none upper lower = turned (Input TaskFault)
+askedTask t (some k) upper lower = askedWords t (record { task = k; upperWord = upper; lowerWord = lower })
+
+-- 20
+abbrev pub askedTable : Option Table → ℕ → List ℕ → List ℕ → Asked
+askedTable none task upper lower = turned (State LoadedTable)
+askedTable (some t) task upper lower = askedTask t (taskOf task) upper lower
+
+-- the cells of a loaded table, the task's number and the words
+unfoldable pub asked : List ℕ → ℕ → List ℕ → List ℕ → Asked
+asked cells task upper lower = askedTable (loaded cells) task upper lower

@@ -1,0 +1,207 @@
+-- Document 01, "Cases on table K", the starred ones, as rows of one table. A row is right where the definitions of the start, of the call
+-- for a reading and of the search tree, run on a loaded table's cells, give what it says.
+use Prim.Native.Nat.{ℕ, _*_}
+use mathlib.Core.Bool.{Bool, true, false, _&&_}
+use mathlib.Core.Option.{Option, none, some}
+use mathlib.Core.List.{List, [], _∷_, _++_}
+use lib.ListN.{replicate, take}
+use lib.Dec.{eqb}
+use Rattle.table.specs.Table.{Arc, Table}
+use Rattle.table.specs.Loaded.{cellsOf}
+use Rattle.machine.specs.declared.Run.{Run}
+use Rattle.machine.specs.Query.{sameWord}
+use Rattle.machine.specs.Tour.{treeSize}
+use Rattle.machine.specs.Transducer.{machine}
+use Rattle.machine.specs.Answer.{Kind, found, paused, ended, refused, startNumber}
+use Rattle.machine.specs.Asked.{Asked, turned, runs, asked}
+use Rattle.machine.specs.Start.{firstRun, started}
+use Rattle.machine.specs.Reading.{Outcome, kindBy, stepsBy}
+use Rattle.machine.specs.Demand.{Lent, callOn, runAfter, usedAfter}
+
+-- What a row says.
+
+-- a call's allowance, and the lengths of its stack and of its buffer
+pub record Ask : Type 0 where
+  pub allowance : ℕ
+  pub frames : ℕ
+  pub letters : ℕ
+
+-- what is told: Found with its steps and its output, Paused and Ended with their steps, Refused with its steps and number
+pub data Says : Type 0 where
+  finds : ℕ → List ℕ → Says
+  pauses : ℕ → Says
+  ends : ℕ → Says
+  refuses : ℕ → ℕ → Says
+
+-- a start that is refused with a number, or calls with what they tell, and the tree's size
+pub data Course : Type 0 where
+  refusedWith : ℕ → Course
+  goes : List Ask → List Says → ℕ → Course
+
+-- a table, what is asked of it, and what is to be told
+pub record Row : Type 0 where
+  pub table : Table
+  pub task : ℕ
+  pub upper : List ℕ
+  pub lower : List ℕ
+  pub course : Course
+
+-- What the definitions give.
+
+-- an answer with the output as the call left it
+abbrev pub said : Kind → ℕ → List ℕ → Says
+said (found n) steps buffer = finds steps (take n buffer)
+said paused steps buffer = pauses steps
+said ended steps buffer = ends steps
+said (refused n) steps buffer = refuses steps n
+
+-- what a call tells
+abbrev pub saidBy : Outcome → Says
+saidBy o = said (kindBy o) (stepsBy o) (o .output)
+
+-- a stack that holds the used frames, as far as they go in, and 7 in its other cells; a buffer of 9s
+abbrev pub lentFor : Ask → List ℕ → Lent
+lentFor a used = record { stack = take (a .frames * 4) (used ++ replicate (a .frames * 4) 7); allowance = a .allowance; buffer = replicate (a .letters) 9 }
+
+-- what calls tell, one after another, each with the run and the used frames as demand 3 hands them on
+abbrev pub callsGive : List ℕ → List ℕ → List ℕ → Run → List ℕ → List Ask → List Says
+callsGive cells upper lower r used [] = []
+callsGive cells upper lower r used (a ∷ asks) =
+    let x = lentFor a used in
+    saidBy (callOn cells upper lower r x) ∷ callsGive cells upper lower (runAfter cells upper lower r x) (usedAfter cells upper lower r used x) asks
+
+-- the size of the search tree
+abbrev pub treeOf : Asked → ℕ
+treeOf (turned r) = 0
+treeOf (runs t q) = treeSize (machine t q)
+
+-- Whether they agree.
+
+-- what is told as a word, to be compared
+abbrev pub spelled : Says → List ℕ
+spelled (finds n o) = 1 ∷ n ∷ o
+spelled (pauses n) = 2 ∷ n ∷ []
+spelled (ends n) = 3 ∷ n ∷ []
+spelled (refuses n m) = 4 ∷ n ∷ m ∷ []
+
+-- whether the same is told, call by call
+abbrev pub sameSays : List Says → List Says → Bool
+sameSays [] [] = true
+sameSays [] (y ∷ ys) = false
+sameSays (x ∷ xs) [] = false
+sameSays (x ∷ xs) (y ∷ ys) = sameWord (spelled x) (spelled y) && sameSays xs ys
+
+-- whether a start, refused with a number or not, and the calls after it go as the row says
+abbrev pub courseHolds : Row → Option ℕ → Course → Bool
+courseHolds r none (refusedWith n) = false
+courseHolds r (some m) (refusedWith n) = eqb m n
+courseHolds r none (goes asks says tree) =
+    let cells = cellsOf (r .table) in
+    sameSays (callsGive cells (r .upper) (r .lower) (firstRun (r .task)) [] asks) says && eqb (treeOf (asked cells (r .task) (r .upper) (r .lower))) tree
+courseHolds r (some m) (goes asks says tree) = false
+
+-- a row is right
+abbrev pub rowHolds : Row → Bool
+rowHolds r = courseHolds r (startNumber (started (cellsOf (r .table)) (r .task) (r .upper) (r .lower) [] .answer)) (r .course)
+
+-- all rows are right
+abbrev pub rowsHold : List Row → Bool
+rowsHold [] = true
+rowsHold (r ∷ rs) = rowHolds r && rowsHold rs
+
+-- The rows.
+
+-- an arc by its four fields
+abbrev arc : ℕ → ℕ → ℕ → ℕ → Arc
+arc s u l d = record { source = s; upper = u; lower = l; target = d }
+
+-- table K with further arcs of state 0 in front
+abbrev pub tableK : List Arc → Table
+tableK more =
+    record {
+      states = 3;
+      initials = 0 ∷ [];
+      terminals = 1 ∷ 2 ∷ [];
+      arcs = more ++ (arc 0 1 1 1 ∷ arc 0 2 2 2 ∷ arc 1 2 2 2 ∷ arc 1 0 3 0 ∷ arc 2 0 3 0 ∷ []);
+    }
+
+-- a row on table K
+abbrev row : ℕ → List ℕ → List ℕ → Course → Row
+row k u l c = record { table = tableK []; task = k; upper = u; lower = l; course = c }
+
+-- empty words, and state 0 with one arc more, to itself
+abbrev loop : ℕ → ℕ → ℕ → Course → Row
+loop u l k c = record { table = tableK (arc 0 u l 0 ∷ []); task = k; upper = []; lower = []; course = c }
+
+-- empty words, and a table of one state with one arc, to itself
+abbrev lone : ℕ → ℕ → ℕ → Course → Row
+lone u l k c =
+    record {
+      table = record { states = 1; initials = 0 ∷ []; terminals = []; arcs = arc 0 u l 0 ∷ [] };
+      task = k;
+      upper = [];
+      lower = [];
+      course = c;
+    }
+
+-- two initial states, 1 before 0, each with one arc to state 2 that reads 1; synthesis of 01
+abbrev pair : ℕ → ℕ → Course → Row
+pair x y c =
+    record {
+      table = record { states = 3; initials = 1 ∷ 0 ∷ []; terminals = 2 ∷ []; arcs = arc 0 1 x 2 ∷ arc 1 1 y 2 ∷ [] };
+      task = 2;
+      upper = 1 ∷ [];
+      lower = [];
+      course = c;
+    }
+
+-- a call by its allowance, frames and letters
+abbrev ask : ℕ → ℕ → ℕ → Ask
+ask n f l = record { allowance = n; frames = f; letters = l }
+
+-- a call with room enough
+abbrev big : Ask
+big = ask 4294967295 64 64
+
+-- the starred cases, and a few more
+unfoldable pub rows : List Row
+rows =
+    -- "Synthesis of 01 02: Found 01 02 after 3 steps, Found 01 03 02 after 8 more, Ended after 9 more; tree size 20." "After the end: Ended, 0."
+    row 2 (1 ∷ 2 ∷ []) [] (goes (big ∷ big ∷ big ∷ big ∷ ask 0 64 64 ∷ []) (finds 3 (1 ∷ 2 ∷ []) ∷ finds 8 (1 ∷ 3 ∷ 2 ∷ []) ∷ ends 9 ∷ ends 0 ∷ ends 0 ∷ []) 20)
+    -- "Empty word, synthesis: Ended after 4."
+    ∷ row 2 [] [] (goes (big ∷ []) (ends 4 ∷ []) 4)
+    -- "Analysis of 01 03 02: Found 01 02 after 6, Ended after 6."
+    ∷ row 3 [] (1 ∷ 3 ∷ 2 ∷ []) (goes (big ∷ big ∷ []) (finds 6 (1 ∷ 2 ∷ []) ∷ ends 6 ∷ []) 12)
+    -- "Recognition of 01 02 with 01 03 02: Found after 6."
+    ∷ row 1 (1 ∷ 2 ∷ []) (1 ∷ 3 ∷ 2 ∷ []) (goes (big ∷ big ∷ []) (finds 6 [] ∷ ends 6 ∷ []) 12)
+    -- "Synthesis of 01 02, 3 frames: first reading, then 22 after 0 steps; with 9 frames the same run goes on to the second reading after 8."
+    ∷ row 2 (1 ∷ 2 ∷ []) [] (goes (ask 1000 3 64 ∷ ask 1000 3 64 ∷ ask 1000 9 64 ∷ []) (finds 3 (1 ∷ 2 ∷ []) ∷ refuses 0 22 ∷ finds 8 (1 ∷ 3 ∷ 2 ∷ []) ∷ []) 20)
+    -- the same with a stack too short for the used frames between
+    ∷ row 2 (1 ∷ 2 ∷ []) [] (goes (ask 1000 3 64 ∷ ask 1000 2 64 ∷ ask 1000 9 64 ∷ []) (finds 3 (1 ∷ 2 ∷ []) ∷ refuses 0 21 ∷ finds 8 (1 ∷ 3 ∷ 2 ∷ []) ∷ []) 20)
+    -- "Output of 2 letters: second call gives 23 after 7 steps."
+    ∷ row 2 (1 ∷ 2 ∷ []) [] (goes (ask 1000 9 2 ∷ ask 1000 9 2 ∷ []) (finds 3 (1 ∷ 2 ∷ []) ∷ refuses 7 23 ∷ []) 20)
+    -- "Allowance 0 at a start: Paused, 0."
+    ∷ row 2 (1 ∷ 2 ∷ []) [] (goes (ask 0 9 2 ∷ []) (pauses 0 ∷ []) 20)
+    -- "State 0 with the arc 0, 0, 0, 0: 12 in all tasks."
+    ∷ loop 0 0 1 (refusedWith 12)
+    ∷ loop 0 0 2 (refusedWith 12)
+    ∷ loop 0 0 3 (refusedWith 12)
+    ∷ lone 0 0 1 (refusedWith 12)
+    ∷ lone 0 0 2 (refusedWith 12)
+    ∷ lone 0 0 3 (refusedWith 12)
+    -- "With 0, 1, 0, 0: 12 in analysis only."
+    ∷ loop 1 0 1 (goes (big ∷ []) (ends 5 ∷ []) 5)
+    ∷ loop 1 0 2 (goes (big ∷ []) (ends 5 ∷ []) 5)
+    ∷ loop 1 0 3 (refusedWith 12)
+    ∷ lone 1 0 1 (goes (big ∷ []) (ends 3 ∷ []) 3)
+    ∷ lone 1 0 2 (goes (big ∷ []) (ends 3 ∷ []) 3)
+    ∷ lone 1 0 3 (refusedWith 12)
+    -- "Here the first listed goes first."
+    ∷ pair 5 6 (goes (big ∷ big ∷ big ∷ []) (finds 2 (6 ∷ []) ∷ finds 4 (5 ∷ []) ∷ ends 2 ∷ []) 8)
+    -- "two paths with the same output give it twice"
+    ∷ pair 5 5 (goes (big ∷ big ∷ big ∷ []) (finds 2 (5 ∷ []) ∷ finds 4 (5 ∷ []) ∷ ends 2 ∷ []) 8)
+    -- 11 and 10, in this order
+    ∷ row 4 (1 ∷ []) (0 ∷ []) (refusedWith 11)
+    ∷ row 2 (0 ∷ []) (1 ∷ []) (refusedWith 11)
+    ∷ row 2 (0 ∷ []) [] (refusedWith 10)
+    ∷ []

@@ -1,0 +1,90 @@
+-- Document 01, "Tour and demand 3": "a single claim about a start and the list of calls after it, of any length".
+use Prim.Native.Nat.{ℕ, _+_, _*_, _≤_, _<_}
+use mathlib.Core.Path.{_≡_}
+use mathlib.Core.Logic.{_↔_, _⊎_}
+use mathlib.Core.Bool.{cond}
+use mathlib.Core.List.{List, [], _∷_, _++_}
+use lib.ListN.{length, take}
+use lib.Dec.{leb}
+use Rattle.table.specs.Table.{Table}
+use Rattle.machine.specs.declared.Run.{Run}
+use Rattle.machine.specs.Query.{Query}
+use Rattle.machine.specs.Tour.{tour, readings, treeSize}
+use Rattle.machine.specs.Call.{Steps}
+use Rattle.machine.specs.Transducer.{lettersToRead, machine}
+use Rattle.machine.specs.Stack.{framesIn, store}
+use Rattle.machine.specs.Answer.{paused, ended, refused, outputTold}
+use Rattle.machine.specs.Reading.{Outcome, kindBy, stepsBy, heldOf, outcome}
+
+-- what a caller lends to one call: any stack, any allowance and any output buffer
+pub record Lent : Type 0 where
+  pub stack : List ℕ
+  pub allowance : ℕ
+  pub buffer : List ℕ
+
+-- "The used frames are the first depth cells of a stack": the cells of the first d frames
+abbrev pub usedOf : ℕ → List ℕ → List ℕ
+usedOf d stack = take (d * 4) stack
+
+module _ (t : Table) (q : Query) where
+  -- one call's outcome o, where n steps were told before
+  pub record CallTells (n : ℕ) (r : Run) (x : Lent) (o : Outcome) : Type 0 where
+    -- it makes and tells the steps of the step rule, no more than allowed; as many as allowed where it tells Paused, and fewer where a step
+    -- is refused
+    pub steps-made : Steps (machine t q) store (length (x .buffer)) (stepsBy o) (heldOf r (x .stack)) (heldOf (o .called .run) (o .stack))
+    pub within : stepsBy o ≤ x .allowance
+    pub paused-is : kindBy o ≡ paused → stepsBy o ≡ x .allowance
+    pub refused-early : (m : ℕ) → kindBy o ≡ refused m → (m ≡ 21) ⊎ (stepsBy o < x .allowance)
+    -- Ended exactly when the steps told add up to the tree's size
+    pub ended-is : (kindBy o ≡ ended) ↔ (n + stepsBy o ≡ treeSize (machine t q))
+    -- "A shorter stack gives 21 whatever it holds", and nothing else does; no refusal but 21, 22 and 23
+    pub short-is : (kindBy o ≡ refused 21) ↔ (framesIn (x .stack) < r .depth)
+    pub refusals : (m : ℕ) → kindBy o ≡ refused m → (m ≡ 21) ⊎ ((m ≡ 22) ⊎ (m ≡ 23))
+    -- "Never too short": (letters to read + 1) × states frames
+    pub never-short : (lettersToRead q + 1) * t .states ≤ framesIn (x .stack) → (kindBy o ≡ refused 21 → ⊥) × (kindBy o ≡ refused 22 → ⊥)
+
+-- "Every call gets the start's table and words."
+module _ (cells upper lower : List ℕ) where
+  -- one call
+  abbrev pub callOn : Run → Lent → Outcome
+  callOn r x = outcome cells upper lower r (x .stack) (x .allowance) (x .buffer)
+
+  -- the steps that it tells
+  abbrev pub stepsOn : Run → Lent → ℕ
+  stepsOn r x = stepsBy (callOn r x)
+
+  -- the run as it leaves it
+  abbrev pub runAfter : Run → Lent → Run
+  runAfter r x = callOn r x .called .run
+
+  -- the used frames as the last call left them whose stack had them all
+  abbrev pub usedAfter : Run → List ℕ → Lent → List ℕ
+  usedAfter r used x = cond (leb (r .depth) (framesIn (x .stack))) (usedOf (runAfter r x .depth) (callOn r x .stack)) used
+
+  -- "The first gets the run as the start left it, every other as the call before left it, refused or not"; "a call whose stack has that
+  -- many gets them as the last such call left them"
+  abbrev pub Handed : Run → List ℕ → List Lent → Type 0
+  Handed r used [] = Unit {0}
+  Handed r used (x ∷ xs) = (r .depth ≤ framesIn (x .stack) → usedOf (r .depth) (x .stack) ≡ used) × Handed (runAfter r x) (usedAfter r used x) xs
+
+  -- "The readings received are the outputs of the calls that answered Found, each as its call left it, in the order of the calls."
+  abbrev pub received : Run → List Lent → List (List ℕ)
+  received r [] = []
+  received r (x ∷ xs) = outputTold (kindBy (callOn r x)) (callOn r x .output) ++ received (runAfter r x) xs
+
+  -- "The steps told are the numbers in the answers, refusals among them."
+  abbrev pub stepsTold : Run → List Lent → ℕ
+  stepsTold r [] = 0
+  stepsTold r (x ∷ xs) = stepsOn r x + stepsTold (runAfter r x) xs
+
+  module _ (t : Table) (q : Query) where
+    -- every call, where n steps were told before
+    abbrev pub Tells : ℕ → Run → List Lent → Type 0
+    Tells n r [] = Unit {0}
+    Tells n r (x ∷ xs) = CallTells t q n r x (callOn r x) × Tells (n + stepsOn r x) (runAfter r x) xs
+
+    -- the readings received are those of the accepting paths among the first entries of the tour, as many as the steps told
+    pub record Demand3 (r : Run) (xs : List Lent) : Type 0 where
+      pub same-readings : received r xs ≡ readings (machine t q) (take (stepsTold r xs) (tour (machine t q)))
+      pub inside-tree : stepsTold r xs ≤ treeSize (machine t q)
+      pub tells : Tells 0 r xs

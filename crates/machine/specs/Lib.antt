@@ -1,0 +1,19 @@
+-- The theory of the search for readings. Top to bottom: what a reader has to believe.
+pub mod Query
+pub mod Machine
+pub mod Tour
+pub mod Order
+pub mod Frames
+pub mod Step
+pub mod Call
+pub mod Transducer
+pub mod Stack
+pub mod Idle
+pub mod Answer
+pub mod Asked
+pub mod Start
+pub mod Reading
+pub mod Demand
+pub mod Cases
+pub mod Report
+pub mod Agree

@@ -1,0 +1,91 @@
+-- The call for a reading: 20, 11, 10, 21, then steps. It gives the answer and the run, every cell of the lent stack and every cell of the
+-- output buffer.
+use Prim.Native.Nat.{ℕ}
+use mathlib.Core.Path.{_≡_}
+use mathlib.Core.Logic.{_⊎_}
+use mathlib.Core.List.{List, _++_}
+use lib.ListN.{length, drop}
+use Rattle.table.specs.declared.Refusal.{Refusal}
+use Rattle.machine.specs.declared.Run.{Run}
+use Rattle.machine.specs.declared.Answer.{Answer}
+use Rattle.machine.specs.declared.Answer.the-variants.{Found, Paused, Ended, Refused}
+use Rattle.machine.specs.declared.Called.{Called}
+use Rattle.machine.specs.Machine.{Machine}
+use Rattle.machine.specs.Frames.{Frame, Store, Held}
+use Rattle.machine.specs.Step.{refuses, step}
+use Rattle.machine.specs.Call.{Reply, found, paused, ended, refused, Told, call, Steps}
+use Rattle.machine.specs.Transducer.{machine}
+use Rattle.machine.specs.Stack.{store}
+use Rattle.machine.specs.Answer.{Kind, kindOf, stepsOf}
+use Rattle.machine.specs.Asked.{Asked, turned, runs, asked}
+
+-- what a call gives back, and the lent cells at exit
+pub record Outcome : Type 0 where
+  pub called : Called
+  pub stack : List ℕ
+  pub output : List ℕ
+
+-- the kind of its answer
+abbrev pub kindBy : Outcome → Kind
+kindBy o = kindOf (o .called .answer)
+
+-- the steps that it tells
+abbrev pub stepsBy : Outcome → ℕ
+stepsBy o = stepsOf (o .called .answer)
+
+-- a run with the stack that is lent to it
+abbrev pub heldOf : Run → List ℕ → Held (List ℕ)
+heldOf r stack = record { started = r .started; depth = r .depth; cells = stack }
+
+-- "Its answer carries the number of steps made in this call"
+abbrev pub answerAs : Reply → ℕ → Answer
+answerAs (found o) steps = Found steps (length o)
+answerAs paused steps = Paused steps
+answerAs ended steps = Ended steps
+answerAs (refused r) steps = Refused steps r
+
+-- "output written from the front of the lent buffer, the rest untouched"; "only Found writes output"
+abbrev pub outputAs : Reply → List ℕ → List ℕ
+outputAs (found o) buffer = o ++ drop (length o) buffer
+outputAs paused buffer = buffer
+outputAs ended buffer = buffer
+outputAs (refused r) buffer = buffer
+
+-- a call that was begun
+abbrev pub outcomeAs : ℕ → List ℕ → Told (List ℕ) → Outcome
+outcomeAs task buffer r =
+    record {
+      called = record { answer = answerAs (r .reply) (r .steps); run = record { task = task; started = r .after .started; depth = r .after .depth } };
+      stack = r .after .cells;
+      output = outputAs (r .reply) buffer;
+    }
+
+-- 20, 11 and 10 come before 21 and the steps, and leave all as it was
+abbrev pub outcomeOf : Asked → Run → List ℕ → ℕ → List ℕ → Outcome
+outcomeOf (turned r) run stack allowance buffer = record { called = record { answer = Refused 0 r; run = run }; stack = stack; output = buffer }
+outcomeOf (runs t q) run stack allowance buffer = outcomeAs (run .task) buffer (call (machine t q) store allowance (length buffer) (heldOf run stack))
+
+-- a loaded table's cells, the words, the run, the stack, the allowance and the output buffer
+unfoldable pub outcome : List ℕ → List ℕ → List ℕ → Run → List ℕ → ℕ → List ℕ → Outcome
+outcome cells upper lower run stack allowance buffer = outcomeOf (asked cells (run .task) upper lower) run stack allowance buffer
+
+-- "Steps before a refused one stand"; "every lent buffer holds what it held before the refused step, or before the call where no step was
+-- begun". What a refused call leaves:
+
+-- no step was begun
+abbrev pub Unchanged : Run → List ℕ → Outcome → Type 0
+Unchanged run stack o = (o .called .run ≡ run) × (o .stack ≡ stack) × (stepsBy o ≡ 0)
+
+-- the steps told lead to the run and the stack that it leaves, and the step from there is the refused one
+pub record BeforeStep (M : Machine) (S : Store (Frame (M .D))) (l : ℕ) (h d : Held (S .Cells)) (a : Answer) : Type 0 where
+  pub refusal : Refusal
+  pub told : a ≡ Refused (stepsOf a) refusal
+  pub steps-made : Steps M S l (stepsOf a) h d
+  pub refused-there : step M S l d ≡ refuses refusal
+
+-- what a call that is refused leaves, by what was asked
+abbrev pub RefusedLeaves : Asked → Run → List ℕ → List ℕ → Outcome → Type 0
+RefusedLeaves (turned r) run stack buffer o = (o .output ≡ buffer) × Unchanged run stack o
+RefusedLeaves (runs t q) run stack buffer o =
+    (o .output ≡ buffer)
+    × (Unchanged run stack o ⊎ BeforeStep (machine t q) store (length buffer) (heldOf run stack) (heldOf (o .called .run) (o .stack)) (o .called .answer))

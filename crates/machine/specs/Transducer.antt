@@ -1,0 +1,136 @@
+-- Document 01, "Table and paths": the machine of a table and a query. Each side is read or written; its datum is how many of its
+-- letters were passed.
+use Prim.Native.Nat.{ℕ, zero, suc, _+_, _-_, _*_}
+use mathlib.Core.Bool.{Bool, true, false, _&&_}
+use mathlib.Core.Option.{Option, none, some}
+use mathlib.Core.List.{List, [], _∷_, _++_}
+use lib.ListN.{length, getD}
+use lib.Dec.{eqb}
+use Rattle.table.specs.Table.{Arc, Table}
+use Rattle.table.specs.Rules.{any}
+use Rattle.table.specs.Index.{below}
+use Rattle.machine.specs.Query.{Side, upperSide, lowerSide, reads, letter, Query, word}
+use Rattle.machine.specs.Machine.{Machine}
+
+-- what stands for an arc beyond the last
+abbrev pub noArc : Arc
+noArc = record { source = 0; upper = 0; lower = 0; target = 0 }
+
+-- "Arcs are numbered from 0 in file order"
+abbrev pub arcAt : Table → ℕ → Arc
+arcAt t n = getD (t .arcs) n noArc
+
+-- a state is in a list
+abbrev pub member : ℕ → List ℕ → Bool
+member s l = any (λ x. eqb x s) l
+
+-- a count, where the letter fits
+abbrev pub somewhen : Bool → ℕ → Option ℕ
+somewhen true n = some n
+somewhen false n = none
+
+-- One side, read (true) or written (false), with its word w, a letter x of an arc, and n letters passed.
+
+-- "Each nonzero letter of the arc must be the next letter of its word"; "a nonzero lower letter is appended to the output"
+abbrev pub sideFollow : Bool → List ℕ → ℕ → ℕ → Option ℕ
+sideFollow r w zero n = some n
+sideFollow true w (suc x) n = somewhen (eqb (getD w n 0) (suc x)) (suc n)
+sideFollow false w (suc x) n = some (suc n)
+
+-- "a nonzero lower letter is appended to the output"
+abbrev pub sideWrites : Bool → ℕ → List ℕ
+sideWrites true x = []
+sideWrites false zero = []
+sideWrites false (suc x) = suc x ∷ []
+
+-- "every given word is read to its end"
+abbrev pub sideDone : Bool → List ℕ → ℕ → Bool
+sideDone true w n = eqb n (length w)
+sideDone false w n = true
+
+-- the letters to read
+abbrev pub sideToRead : Bool → List ℕ → ℕ
+sideToRead true w = length w
+sideToRead false w = 0
+
+-- how many letters of the output n passed letters are
+abbrev pub sideWritten : Bool → ℕ → ℕ
+sideWritten true n = 0
+sideWritten false n = n
+
+-- Both sides.
+
+-- "how many letters were passed, read or written, on the upper and on the lower side"
+pub record Passed : Type 0 where
+  pub up : ℕ
+  pub low : ℕ
+
+-- what was passed on a side
+abbrev pub passed : Passed → Side → ℕ
+passed d upperSide = d .up
+passed d lowerSide = d .low
+
+-- "with nothing passed on either side"
+abbrev pub nothingPassed : Passed
+nothingPassed = record { up = 0; low = 0 }
+
+-- both sides fit
+abbrev pub both : Option ℕ → Option ℕ → Option Passed
+both none o = none
+both (some u) none = none
+both (some u) (some l) = some (record { up = u; low = l })
+
+module _ (q : Query) where
+  -- an arc on a side
+  abbrev pub followOn : Side → Arc → Passed → Option ℕ
+  followOn s a d = sideFollow (reads (q .task) s) (word s q) (letter s a) (passed d s)
+
+  -- an arc fits where it fits on both sides
+  abbrev pub followArc : Arc → Passed → Option Passed
+  followArc a d = both (followOn upperSide a d) (followOn lowerSide a d)
+
+  -- what an arc writes on a side
+  abbrev pub writesOn : Side → Arc → List ℕ
+  writesOn s a = sideWrites (reads (q .task) s) (letter s a)
+
+  -- what it writes; at most one side is written
+  abbrev pub writesArc : Arc → List ℕ
+  writesArc a = writesOn upperSide a ++ writesOn lowerSide a
+
+  -- a side's word is read to its end, if it is read
+  abbrev pub doneOn : Side → Passed → Bool
+  doneOn s d = sideDone (reads (q .task) s) (word s q) (passed d s)
+
+  -- the letters to read on a side
+  abbrev pub toReadOn : Side → ℕ
+  toReadOn s = sideToRead (reads (q .task) s) (word s q)
+
+  -- "The letters to read are those of every word that the task reads."
+  abbrev pub lettersToRead : ℕ
+  lettersToRead = toReadOn upperSide + toReadOn lowerSide
+
+  -- the output's length, from the counts (written-length)
+  abbrev pub writtenOn : Side → Passed → ℕ
+  writtenOn s d = sideWritten (reads (q .task) s) (passed d s)
+
+  -- of both sides
+  abbrev pub writtenBy : Passed → ℕ
+  writtenBy d = writtenOn upperSide d + writtenOn lowerSide d
+
+-- the machine of a table and a query
+abbrev pub machine : Table → Query → Machine
+machine t q =
+    record {
+      D = Passed;
+      initials = t .initials;
+      first = λ s. below s (t .arcs);
+      arity = λ s. below (suc s) (t .arcs) - below s (t .arcs);
+      target = λ n. arcAt t n .target;
+      terminal = λ s. member s (t .terminals);
+      d₀ = nothingPassed;
+      follow = λ n d. followArc q (arcAt t n) d;
+      writes = λ n d. writesArc q (arcAt t n);
+      done = λ d. doneOn q upperSide d && doneOn q lowerSide d;
+      same = λ d e. eqb (d .up) (e .up) && eqb (d .low) (e .low);
+      limit = (lettersToRead q + 1) * t .states;
+    }
