@@ -1,9 +1,10 @@
 -- Every element of a list has a property.
 use Prim.Native.Nat.{ℕ, zero, suc, _<_}
 use native.Mathlib.Omega.{arith}
-use mathlib.Core.Path.{_≡_}
+use mathlib.Core.Path.{_≡_, sym, subst}
+use mathlib.Core.Logic.{⊎-elim}
 use mathlib.Core.Bool.{Bool, true, and-eq-true-iff}
-use mathlib.Core.List.{List, [], _∷_, _++_, map}
+use mathlib.Core.List.{List, [], _∷_, _++_, map, List·Memᴰ, List·Memᴰ·not-nil, List·Memᴰ·cases-cons}
 use lib.ListN.{length, getD}
 use Rattle.table.specs.Rules.{each}
 
@@ -32,6 +33,11 @@ module _ {A : Type 0} (P : A → Type 0) where
   all-at [] i d p h = absurd (omega arith)
   all-at (x ∷ xs) zero d p h = p .0
   all-at (x ∷ xs) (suc i) d p h = all-at xs i d (p .1) (omega arith)
+
+  -- an element of the list
+  pub all-mem : (xs : List A) → All P xs → (x : A) → List·Memᴰ x xs → P x
+  all-mem [] p x m = absurd (List·Memᴰ·not-nil m)
+  all-mem (y ∷ ys) p x m = ⊎-elim (λ u. subst P (sym u) (p .0)) (λ u. all-mem ys (p .1) x u) (List·Memᴰ·cases-cons m)
 
   -- a test that each element passes gives the property
   pub all-each : (test : List A → A → Bool) → ((before : List A) (x : A) → test before x ≡ true → P x)

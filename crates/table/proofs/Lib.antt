@@ -4,10 +4,10 @@ pub mod All
 pub mod Any
 pub mod Each
 pub mod Rules
-pub mod Ruled
 pub mod Turn
 pub mod Arcs
 pub mod Faults
+pub mod Ruled
 pub mod Index
 pub mod Loaded
 pub mod Parts
