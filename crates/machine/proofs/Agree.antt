@@ -15,7 +15,7 @@ use Rattle.table.proofs.Ruled.{Ruled}
 use Rattle.machine.specs.Query.{Task, recognition, synthesis, analysis, Side, upperSide, lowerSide, reads, Query}
 use Rattle.machine.specs.Transducer.{arcAt, member, sideWrites, sideDone, sideToRead, Passed, followArc, doneOn, machine}
 use Rattle.machine.specs.Machine.{Path, start, more, final, datum, listed, tested, output, Allowed}
-use Rattle.machine.specs.Report.{Kernel, Cell, Trace, null, thence, Walk, stay, along, label, arcsOf, Word, kernel, Output, bothEmpty, φ₋, φ₊, Solution}
+use Rattle.machine.specs.Report.{Kernel, Cell, Trace, null, thence, Walk, stay, along, label, arcsOf, Word, kernel, Output, bothEmpty, φ₋, φ₊, Solves}
 use Rattle.machine.specs.Agree.{place, inputOf, outputOf, AcceptingPath, TraceFor, Same}
 use Rattle.machine.proofs.Transducer.{at-mem, mem-at, onward-parts}
 use Rattle.machine.proofs.Bound.{countIf, within, has-datum}
@@ -230,15 +230,15 @@ module _ (t : Table) (q : Query) where
         arcs = sym (e .arcs-are) ∙ f .arcs-are
 
     -- the readings are the report's relation
-    pub solves : (v : Word) → AcceptingPath t q (outputOf (q .task) v) ↔ Solution t (q .task) (inputOf (q .task) (q .upperWord) (q .lowerWord)) (outputOf (q .task) v)
+    pub solves : (v : Word) → AcceptingPath t q (outputOf (q .task) v) ↔ Solves t (q .task) (inputOf (q .task) (q .upperWord) (q .lowerWord)) (outputOf (q .task) v)
     solves v = (to, from)
       where
-        to : AcceptingPath t q (outputOf (q .task) v) → Solution t (q .task) (inputOf (q .task) (q .upperWord) (q .lowerWord)) (outputOf (q .task) v)
+        to : AcceptingPath t q (outputOf (q .task) v) → Solves t (q .task) (inputOf (q .task) (q .upperWord) (q .lowerWord)) (outputOf (q .task) v)
         to P =
             let T = trace-of (outputOf (q .task) v) P .0 in
             (T .end, (T .begin, T .fed, (T .from, T .to, T .initial, T .terminal, trace-walk (kernel t (q .task)) (T .trace))), T .told)
 
-        from : Solution t (q .task) (inputOf (q .task) (q .upperWord) (q .lowerWord)) (outputOf (q .task) v) → AcceptingPath t q (outputOf (q .task) v)
+        from : Solves t (q .task) (inputOf (q .task) (q .upperWord) (q .lowerWord)) (outputOf (q .task) v) → AcceptingPath t q (outputOf (q .task) v)
         from S =
             let C = S .1 .2 in
             path-of v

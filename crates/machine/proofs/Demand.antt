@@ -25,7 +25,7 @@ use Rattle.machine.specs.Answer.{refused, kindOf, stepsOf, outputTold}
 use Rattle.machine.specs.Asked.{Asked, runs, asked}
 use Rattle.machine.specs.Start.{firstRun}
 use Rattle.machine.specs.Reading.{Outcome, kindBy, stepsBy, heldOf, answerAs, outcomeAs, outcomeOf, outcome}
-use Rattle.machine.specs.Demand.{Lent, usedOf, callOn, stepsOn, runAfter, usedAfter, Handed, received, stepsTold, CallTells, Tells, Demand3}
+use Rattle.machine.specs.Demand.{Lent, usedOf, callOn, stepsOn, runAfter, usedAfter, Handed, received, stepsTold, CallTells, Tells, Demand3, LastEnds}
 use Rattle.machine.proofs.Frames.{Placed, depth-law}
 use Rattle.machine.proofs.Tour.{unrolls, tree-law}
 use Rattle.machine.proofs.Step.{restBy}
@@ -250,3 +250,11 @@ pub whole-list : (cells upper lower : List ℕ) (t : Table) (q : Query) (r : Run
     → stepsTold cells upper lower r xs ≡ treeSize (machine t q) → received cells upper lower r xs ≡ readings (machine t q) (tour (machine t q))
 whole-list cells upper lower t q r xs D e =
     D .same-readings ∙ ap (readings (machine t q)) (ap (λ (n : ℕ). take n (tour (machine t q))) (e ∙ sym (tree-law (machine t q))) ∙ take-length (tour (machine t q)))
+
+-- where the last call answers Ended, the steps told are the tree's size
+pub ended-steps : (cells upper lower : List ℕ) (t : Table) (q : Query) (xs : List Lent) (n : ℕ) (r : Run) → Tells cells upper lower t q n r xs → LastEnds cells upper lower r xs
+    → n + stepsTold cells upper lower r xs ≡ treeSize (machine t q)
+ended-steps cells upper lower t q [] n r T e = absurd e
+ended-steps cells upper lower t q (x ∷ []) n r T e = let f = T .0 .ended-is .0 e in omega arith
+ended-steps cells upper lower t q (x ∷ y ∷ ys) n r T e =
+    let f = ended-steps cells upper lower t q (y ∷ ys) (n + stepsOn cells upper lower r x) (runAfter cells upper lower r x) (T .1) e in omega arith

@@ -1,11 +1,12 @@
 -- The theorems that carry the mission, stated together. What each one means is in specs/; how it is shown is in the files that it names.
 use Prim.Native.Nat.{ℕ, _+_, _*_, _<_, _≤_}
-use mathlib.Core.Path.{_≡_, refl, sym, subst}
+use native.Mathlib.Nat.{zero-add}
+use mathlib.Core.Path.{_≡_, refl, sym, subst, _∙_}
 use mathlib.Core.Logic.{_↔_}
 use mathlib.Core.Bool.{true, false}
 use mathlib.Core.Option.{some}
 use mathlib.Core.List.{List, [], List·Memᴰ}
-use lib.ListN.{length, take}
+use lib.ListN.{length, take, drop}
 use lib.Dec.{T}
 use Rattle.table.specs.Table.{Arc, Table}
 use Rattle.table.specs.Rules.{keepsRules}
@@ -14,17 +15,17 @@ use Rattle.machine.specs.declared.Run.{Run}
 use Rattle.machine.specs.declared.StartAnswer.the-variants.{Ready}
 use Rattle.machine.specs.declared.Started.{Started}
 use Rattle.machine.specs.Query.{Task, Query}
-use Rattle.machine.specs.Machine.{Machine, Path, size, final, datum, output, Allowed, Bounded}
+use Rattle.machine.specs.Machine.{Machine, Path, size, final, datum, output, ArcOf, Allowed, Bounded}
 use Rattle.machine.specs.Tour.{pathsIn, trail, after, tour, readings, allowedPaths, treeSize}
 use Rattle.machine.specs.Order.{accepting, outputs, ListsAllowed, Lists}
-use Rattle.machine.specs.Transducer.{Passed, lettersToRead, writtenBy, machine}
+use Rattle.machine.specs.Transducer.{arcAt, Passed, lettersToRead, writtenBy, machine}
 use Rattle.machine.specs.Idle.{IdleWalk, NoIdleCycle, CycleStates, hasIdleCycle}
-use Rattle.machine.specs.Answer.{refused, startNumber}
+use Rattle.machine.specs.Answer.{found, refused, startNumber}
 use Rattle.machine.specs.Asked.{runs, asked}
 use Rattle.machine.specs.Start.{firstRun, StartIs}
 use Rattle.machine.specs.Reading.{kindBy, outcome, RefusedLeaves}
-use Rattle.machine.specs.Demand.{Lent, Handed, received, stepsTold, Demand3}
-use Rattle.machine.specs.Report.{_∘_, Word, α, upperAlone, lowerAlone, Output, Cell, arcsOf, kernel, Noetherian, Solution}
+use Rattle.machine.specs.Demand.{Lent, Handed, received, stepsTold, LastEnds, Demand3}
+use Rattle.machine.specs.Report.{_∘_, Word, α, upperAlone, lowerAlone, Output, Cell, arcsOf, kernel, Noetherian, Solves}
 use Rattle.machine.specs.Agree.{inputOf, outputOf, TraceFor, Same}
 use Rattle.machine.specs.Cases.{rows, rowsHold}
 use Rattle.machine.proofs.Tour as tours
@@ -118,11 +119,16 @@ module _ (t : Table) (rules : keepsRules t ≡ true) (q : Query) (none : NoIdleC
 
   -- a reading is told exactly when the report's machine solves it
   pub solved : (v : Word) → ((p : Path) × List·Memᴰ p entries × (outputOf (q .task) (output M p) ≡ outputOf (q .task) v))
-      ↔ Solution t (q .task) (inputOf (q .task) (q .upperWord) (q .lowerWord)) (outputOf (q .task) v)
+      ↔ Solves t (q .task) (inputOf (q .task) (q .upperWord) (q .lowerWord)) (outputOf (q .task) v)
   solved v = (
     λ E. let A = listed M bound .members (E .0) .0 (E .1) in agree.solves t q (ruled t rules) v .0 (record { path = E .0; allowed = A .0; accepted = A .1; told = E .2 }),
     λ S. let P = agree.solves t q (ruled t rules) v .1 S in (P .path, listed M bound .members (P .path) .1 (P .allowed, P .accepted), P .told),
   )
+
+-- THE ARCS OF A STATE are those whose source it is: the numbers from its first arc on, as many as it has.
+
+pub arcs-of : (t : Table) → keepsRules t ≡ true → (q : Query) (s n : ℕ) → ArcOf (machine t q) s n ↔ ((n < length (t .arcs)) × (arcAt t n .source ≡ s))
+arcs-of t rules q = transducer.arc-of t q (ruled t rules .rising)
 
 -- THE OUTPUT'S LENGTH is what was passed on the written side.
 
@@ -182,10 +188,53 @@ module _ (cells : List ℕ) (task : ℕ) (upper lower : List ℕ) where
       U : Ruled t
       U = ruled t (F .keeps-rules)
 
--- Where the steps told add up to the tree's size, which is where Ended is told, all readings were received.
+-- Where the steps told add up to the tree's size, all readings were received.
 pub whole-list : (cells upper lower : List ℕ) (t : Table) (q : Query) (r : Run) (xs : List Lent) → Demand3 cells upper lower t q r xs
     → stepsTold cells upper lower r xs ≡ treeSize (machine t q) → received cells upper lower r xs ≡ readings (machine t q) (tour (machine t q))
 whole-list = demand.whole-list
+
+-- Where the last call answers Ended, all readings were received.
+pub ended-whole : (cells upper lower : List ℕ) (t : Table) (q : Query) (r : Run) (xs : List Lent) → Demand3 cells upper lower t q r xs → LastEnds cells upper lower r xs
+    → received cells upper lower r xs ≡ readings (machine t q) (tour (machine t q))
+ended-whole cells upper lower t q r xs D e =
+    whole-list cells upper lower t q r xs D (sym (zero-add (stepsTold cells upper lower r xs)) ∙ demand.ended-steps cells upper lower t q xs 0 r (D .tells) e)
+
+-- FROM THE START TO THE END: what was received is the outputs of the accepting paths, which are report 6486's accepting traces (DEMAND 2), each
+-- once and in order.
+module _ (cells : List ℕ) (task : ℕ) (upper lower : List ℕ) (s : Started) (S : StartIs cells task upper lower s) where
+  pub start-to-end : s .answer ≡ Ready
+      → (t : Table) × (q : Query) × (asked cells task upper lower ≡ runs t q) × (keepsRules t ≡ true) × NoIdleCycle t (q .task)
+      × ((xs : List Lent) → Handed cells upper lower (s .run) [] xs → LastEnds cells upper lower (s .run) xs
+      → received cells upper lower (s .run) xs ≡ outputs (machine t q) (accepting (machine t q) (pathsIn (tour (machine t q)))))
+  unfolding demand-three
+  start-to-end e =
+      let D = demand-three cells task upper lower s S e in
+      let R = starts.ready-facts cells task upper lower s S e in
+      let F = asks.asked-facts cells task upper lower (R .table) (R .query) (R .is) in
+      (
+        R .table,
+        R .query,
+        R .is,
+        F .keeps-rules,
+        idles.none-found (R .table) (R .query .task) (ruled (R .table) (F .keeps-rules)) (R .no-cycle),
+        λ xs H L. ended-whole cells upper lower (R .table) (R .query) (s .run) xs (D .3 xs H) L ∙ order.readings-outputs (machine (R .table) (R .query)) (tour (machine (R .table) (R .query))),
+      )
+
+  -- a start is ready exactly where 20, 11 and 10 are not given and there is no idle cycle
+  pub ready-is : (s .answer ≡ Ready) ↔ ((t : Table) × (q : Query) × (asked cells task upper lower ≡ runs t q) × NoIdleCycle t (q .task))
+  ready-is = (
+    λ e. let E = start-to-end e in (E .0, E .1, E .2, E .4),
+    λ w. starts.ready-where cells task upper lower s S (w .0) (w .1) (w .2) (idles.none-there (w .0) (w .1 .task) (w .3)),
+  )
+
+-- THE BUFFER: only Found writes output, and it leaves what stands behind it.
+
+module _ (cells upper lower : List ℕ) (run : Run) (stack : List ℕ) (n : ℕ) (buffer : List ℕ) where
+  pub buffer-left : ((m : ℕ) → kindBy (outcome cells upper lower run stack n buffer) ≡ found m → ⊥) → outcome cells upper lower run stack n buffer .output ≡ buffer
+  buffer-left = calls.buffer-left cells upper lower run stack n buffer
+
+  pub found-left : (m : ℕ) → kindBy (outcome cells upper lower run stack n buffer) ≡ found m → drop m (outcome cells upper lower run stack n buffer .output) ≡ drop m buffer
+  found-left = calls.found-left cells upper lower run stack n buffer
 
 -- A REFUSED CALL leaves everything as it was before the refused step, or before the call; for any run, stack and buffer.
 

@@ -3,9 +3,9 @@ use Prim.Native.Nat.{ℕ}
 use native.Mathlib.Omega.{arith}
 use mathlib.Core.Path.{_≡_, refl, sym, ap, subst, _∙_}
 use mathlib.Core.Logic.{_↔_, inl, inr, ⊎-elim}
-use mathlib.Core.List.{List, []}
-use lib.ListN.{length}
-use lib.Seq.{take-append-seam}
+use mathlib.Core.List.{List, [], _++_}
+use lib.ListN.{length, drop}
+use lib.Seq.{take-append-seam, drop-append-seam}
 use Rattle.table.specs.declared.Refusal.{Refusal}
 use Rattle.table.specs.Table.{Table}
 use Rattle.table.specs.Refusal.{numberOf}
@@ -91,3 +91,34 @@ refused-leaves cells upper lower run stack n buffer m e = go (asked cells (run .
     go : (w : Asked) → kindBy (outcomeOf w run stack n buffer) ≡ refused m → RefusedLeaves w run stack buffer (outcomeOf w run stack n buffer)
     go (turned r) e = (refl, (refl, refl, refl))
     go (runs t q) e = runs-leaves t q run stack n buffer m e
+
+-- only Found writes output, from the front, and leaves the rest
+pub buffer-left : (cells upper lower : List ℕ) (run : Run) (stack : List ℕ) (n : ℕ) (buffer : List ℕ) → ((m : ℕ) → kindBy (outcome cells upper lower run stack n buffer) ≡ found m → ⊥)
+    → outcome cells upper lower run stack n buffer .output ≡ buffer
+unfolding outcome
+buffer-left cells upper lower run stack n buffer h = go (asked cells (run .task) upper lower) h
+  where
+    reply : (a : Reply) (k : ℕ) → ((m : ℕ) → kindOf (answerAs a k) ≡ found m → ⊥) → outputAs a buffer ≡ buffer
+    reply (R.found o) k f = absurd (f (length o) refl)
+    reply R.paused k f = refl
+    reply R.ended k f = refl
+    reply (R.refused c) k f = refl
+
+    go : (w : Asked) → ((m : ℕ) → kindBy (outcomeOf w run stack n buffer) ≡ found m → ⊥) → outcomeOf w run stack n buffer .output ≡ buffer
+    go (turned c) f = refl
+    go (runs t q) f = let T = call (machine t q) store n (length buffer) (heldOf run stack) in reply (T .reply) (T .steps) f
+
+pub found-left : (cells upper lower : List ℕ) (run : Run) (stack : List ℕ) (n : ℕ) (buffer : List ℕ) (m : ℕ) → kindBy (outcome cells upper lower run stack n buffer) ≡ found m
+    → drop m (outcome cells upper lower run stack n buffer .output) ≡ drop m buffer
+unfolding outcome
+found-left cells upper lower run stack n buffer m h = go (asked cells (run .task) upper lower) h
+  where
+    reply : (a : Reply) (k : ℕ) → kindOf (answerAs a k) ≡ found m → drop m (outputAs a buffer) ≡ drop m buffer
+    reply (R.found o) k e = let q : length o ≡ m = cc in ap (λ (j : ℕ). drop j (o ++ drop (length o) buffer)) (sym q) ∙ drop-append-seam o (drop (length o) buffer) ∙ ap (λ (j : ℕ). drop j buffer) q
+    reply R.paused k e = cc
+    reply R.ended k e = cc
+    reply (R.refused c) k e = cc
+
+    go : (w : Asked) → kindBy (outcomeOf w run stack n buffer) ≡ found m → drop m (outcomeOf w run stack n buffer .output) ≡ drop m buffer
+    go (turned c) e = cc
+    go (runs t q) e = let T = call (machine t q) store n (length buffer) (heldOf run stack) in reply (T .reply) (T .steps) e

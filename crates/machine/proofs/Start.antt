@@ -49,6 +49,14 @@ module _ (cells : List ℕ) (task : ℕ) (upper lower : List ℕ) where
   ready-facts s S e =
       subst (λ (z : Started). ReadyFacts (asked cells task upper lower) task z) (sym (S .is)) (ready-as (asked cells task upper lower) task (S .cycle) (ap (λ (z : Started). z .answer) (sym (S .is)) ∙ e))
 
+  -- a start is ready where nothing is refused and there is no idle cycle
+  pub ready-where : (s : Started) → StartIs cells task upper lower s → (t : Table) (q : Query) → asked cells task upper lower ≡ runs t q → hasIdleCycle t (q .task) ≡ false
+      → s .answer ≡ Ready
+  unfolding started
+  ready-where s S t q a h =
+      ap (λ (z : Started). z .answer) (S .is) ∙ ap (λ (w : Asked). startedAs w task (S .cycle) .answer) a
+      ∙ ap (λ (b : Bool). cond b (startedWith (Refused (Input IdleCycle)) (firstRun 0) (S .cycle)) (startedWith Ready (firstRun task) []) .answer) h
+
   -- what a start ensures can be had
   pub start-there : (s : Started) × StartIs cells task upper lower s
   start-there = go (asked cells task upper lower) refl

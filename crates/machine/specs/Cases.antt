@@ -155,6 +155,10 @@ pair x y c =
       course = c;
     }
 
+-- one state, initial and terminal, without arcs; synthesis of the empty word
+abbrev bare : Course → Row
+bare c = record { table = record { states = 1; initials = 0 ∷ []; terminals = 0 ∷ []; arcs = [] }; task = 2; upper = []; lower = []; course = c }
+
 -- a call by its allowance, frames and letters
 abbrev ask : ℕ → ℕ → ℕ → Ask
 ask n f l = record { allowance = n; frames = f; letters = l }
@@ -200,6 +204,13 @@ rows =
     ∷ pair 5 6 (goes (big ∷ big ∷ big ∷ []) (finds 2 (6 ∷ []) ∷ finds 4 (5 ∷ []) ∷ ends 2 ∷ []) 8)
     -- "two paths with the same output give it twice"
     ∷ pair 5 5 (goes (big ∷ big ∷ big ∷ []) (finds 2 (5 ∷ []) ∷ finds 4 (5 ∷ []) ∷ ends 2 ∷ []) 8)
+    -- "The path of no arcs counts": the push of an initial state accepts
+    ∷ bare (goes (ask 0 1 0 ∷ ask 1 0 0 ∷ ask 1 1 0 ∷ ask 9 1 0 ∷ ask 0 0 0 ∷ []) (pauses 0 ∷ refuses 0 22 ∷ finds 1 [] ∷ ends 1 ∷ ends 0 ∷ []) 2)
+    -- "then in a step 22, 23"
+    ∷ row 2 (1 ∷ 2 ∷ []) [] (goes (ask 1000 2 0 ∷ ask 1000 3 0 ∷ ask 1000 3 1 ∷ ask 1000 3 2 ∷ []) (refuses 2 22 ∷ refuses 0 23 ∷ refuses 0 23 ∷ finds 1 (1 ∷ 2 ∷ []) ∷ []) 20)
+    -- letter 63 is a letter, 64 is none
+    ∷ row 2 (63 ∷ []) [] (goes (big ∷ []) (ends 4 ∷ []) 4)
+    ∷ row 2 (64 ∷ []) [] (refusedWith 10)
     -- 11 and 10, in this order
     ∷ row 4 (1 ∷ []) (0 ∷ []) (refusedWith 11)
     ∷ row 2 (0 ∷ []) (1 ∷ []) (refusedWith 11)

@@ -77,6 +77,12 @@ module _ (cells upper lower : List ℕ) where
   stepsTold r [] = 0
   stepsTold r (x ∷ xs) = stepsOn r x + stepsTold (runAfter r x) xs
 
+  -- the last call answers Ended
+  abbrev pub LastEnds : Run → List Lent → Type 0
+  LastEnds r [] = ⊥
+  LastEnds r (x ∷ []) = kindBy (callOn r x) ≡ ended
+  LastEnds r (x ∷ y ∷ ys) = LastEnds (runAfter r x) (y ∷ ys)
+
   module _ (t : Table) (q : Query) where
     -- every call, where n steps were told before
     abbrev pub Tells : ℕ → Run → List Lent → Type 0

@@ -34,7 +34,7 @@ abbrev pub letter : Side → Arc → ℕ
 letter upperSide a = a .upper
 letter lowerSide a = a .lower
 
--- a task with its words; the word of a side that is not read is empty
+-- a task with its words; where 11 is not given, the word of a side that is not read is empty
 pub record Query : Type 0 where
   pub task : Task
   pub upperWord : List ℕ

@@ -151,5 +151,5 @@ abbrev pub φ₊ : (k : Task) → Rel (Word × Word) (Output k)
 φ₊ analysis d w = (d .0 ≡ w) × (d .1 ≡ [])
 
 -- "A machine kernel with its interface defines a relation": φ₋ ∘ ‖M‖ ∘ φ₊
-abbrev pub Solution : (t : Table) (k : Task) → Rel (Input k) (Output k)
-Solution t k = φ₋ k ∘ Characteristic (kernel t k) ∘ φ₊ k
+abbrev pub Solves : (t : Table) (k : Task) → Rel (Input k) (Output k)
+Solves t k = φ₋ k ∘ Characteristic (kernel t k) ∘ φ₊ k

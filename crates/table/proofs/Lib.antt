@@ -18,6 +18,7 @@ pub mod Told
 pub mod Parse
 pub mod Draft
 pub mod Items
+pub mod Lowest
 pub mod Determine
 pub mod Calls
 pub mod Finish

@@ -16,7 +16,7 @@ abbrev pub tabulate : (ℕ → ℕ) → ℕ → ℕ → List ℕ
 tabulate f i zero = []
 tabulate f i (suc n) = f i ∷ tabulate f (suc i) n
 
--- the first-arc index, for q from 0 to the count of states, filled up with 0 to 257 cells
+-- the first-arc index, for q from 0 to the count of states, filled up with zeros to 257 cells
 unfoldable pub firstIndex : ℕ → List Arc → List ℕ
 firstIndex states arcs = tabulate (λ q. below q arcs) 0 (states + 1) ++ replicate (256 - states) 0
 

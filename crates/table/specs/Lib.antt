@@ -1,4 +1,5 @@
--- What a table is, its rules, its loaded form and its text. Top to bottom: what a reader has to believe.
+-- What a table is, its rules, its loaded form and its text: what a reader has to believe. Judge, Scan and Draft say only what inner functions
+-- promise to one another.
 pub mod Refusal
 pub mod Table
 pub mod Rules

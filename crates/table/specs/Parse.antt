@@ -1,5 +1,6 @@
 -- Document 01, "Turned down for the input": reading a text. Each line earns the refusals of the rules that it breaks, lowest number
--- first; the first line that earns any decides. A missing line counts as standing at the end.
+-- first; one that breaks 1 or 2 says nothing that the others could judge. The first line that earns any decides. A missing line counts as
+-- standing at the end.
 use Prim.Native.Nat.{ℕ, _+_, _*_}
 use mathlib.Core.Bool.{Bool, true, false, cond, _&&_}
 use mathlib.Core.List.{List, [], _∷_, _++_}
