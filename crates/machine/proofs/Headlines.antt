@@ -210,8 +210,7 @@ module _ (cells : List ℕ) (task : ℕ) (upper lower : List ℕ) (s : Started) 
   start-to-end e =
       let D = demand-three cells task upper lower s S e in
       let R = starts.ready-facts cells task upper lower s S e in
-      let F = asks.asked-facts cells task upper lower (R .table) (R .query) (R .is) in
-      (
+      let F = asks.asked-facts cells task upper lower (R .table) (R .query) (R .is) in (
         R .table,
         R .query,
         R .is,

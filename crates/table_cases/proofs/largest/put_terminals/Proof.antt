@@ -1,0 +1,48 @@
+-- `table_cases::largest::put_terminals` is safe and ends: the slice keeps its length, and the measure is how many states are left. Assumes nothing.
+use borrow.Author.Needs.{needs}
+use mathlib.Core.Path.{_≡_}
+use Prim.Native.Nat.{_-_}
+use lib.ListN.{length}
+use Rattle.table_cases.proofs.largest.put_terminals.Statement.{statement}
+use Rattle.table_cases.proofs.largest.put_terminals.Tie as tie
+
+abbrev Inv-loop : tie.InvT-loop
+Inv-loop cells₀ start at₀ q₀ cells at q = length cells ≡ length cells₀
+
+abbrev μ-loop : tie.MeasureT-loop
+μ-loop cells₀ start at₀ q₀ cells at q = 256 - q
+
+loop-holds : tie.Need-loop-holds Inv-loop μ-loop
+loop-holds c = search needs
+
+put-requires : tie.Need-put-requires Inv-loop μ-loop
+put-requires c κs = search needs
+
+add-q : tie.Need-add-q Inv-loop μ-loop
+add-q c = search needs
+
+loop-less : tie.Need-loop-less Inv-loop μ-loop
+loop-less c = search needs
+
+loop-again : tie.Need-loop-again Inv-loop μ-loop
+loop-again c = search needs
+
+same-length : tie.Need-same-length Inv-loop μ-loop
+same-length c = search needs
+
+returns : tie.Need-returns Inv-loop μ-loop
+returns c = search needs
+
+pub put-terminals-spec : {M : Type 1} → statement M
+put-terminals-spec =
+    tie.close
+    (tie.spec
+    Inv-loop
+    μ-loop
+    loop-holds
+    put-requires
+    add-q
+    loop-less
+    loop-again
+    same-length
+    returns)
