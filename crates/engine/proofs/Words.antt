@@ -1,0 +1,216 @@
+-- Laws of the refusals 20, 11 and 10: letters by their places, the sides that a task's number reads, and each refusal in its turn.
+use Prim.Native.Nat.{ℕ, zero, suc, _<_, _≤_}
+use native.Mathlib.Omega.{arith}
+use mathlib.Core.Path.{_≡_, refl, sym, ap, subst, _∙_}
+use mathlib.Core.Logic.{_⊎_, ⊎-elim}
+use mathlib.Core.Bool.{Bool, true, false, cond, not, _&&_, _||_, and-false}
+use mathlib.Core.Option.{Option, none, some}
+use mathlib.Core.List.{List, [], _∷_}
+use lib.Dec.{eqb, leb}
+use lib.ListN.{length, getD}
+use borrow.Author.Tests.{eqb-true, ne-eqb, le-leb, lt-leb}
+use Rattle.table.specs.declared.Refusal.{Refusal}
+use Rattle.table.specs.declared.Refusal.the-variants.{Input, State}
+use Rattle.table.specs.declared.InputCause.the-variants.{WordFault, TaskFault}
+use Rattle.table.specs.declared.StateCause.the-variants.{LoadedTable}
+use Rattle.table.specs.Table.{Table}
+use Rattle.table.specs.Rules.{isEmpty}
+use Rattle.table.specs.Loaded.{tableIn, loaded}
+use Rattle.table.specs.Calls.{checked}
+use Rattle.table.proofs.Tests.{and-both}
+use Rattle.table.proofs.TableCheck.{passed, failed}
+use Rattle.machine.specs.Query.{Task, recognition, synthesis, analysis, upperSide, lowerSide, taskOf, reads, Query, lettersHold, wordHolds, sidesHold, wordsHold}
+use Rattle.machine.specs.Asked.{Asked, turned, runs, askedWords, askedTask, askedTable, asked}
+use Rattle.engine.specs.declared.Asking.{Asking}
+use Rattle.engine.specs.declared.Asking.the-variants.{Passes, Refused}
+use Rattle.engine.specs.Asking.{askingOf}
+
+-- Letters.
+
+letters-all : (w : List ℕ) → ((i : ℕ) → i < length w → (leb 1 (getD w i 0) && leb (getD w i 0) 63) ≡ true) → lettersHold w ≡ true
+letters-all [] f = refl
+letters-all (x ∷ xs) f = and-both (f 0 (omega arith)) (letters-all xs (λ i h. f (suc i) (omega arith)))
+
+letters-not : (w : List ℕ) (k : ℕ) → k < length w → (leb 1 (getD w k 0) && leb (getD w k 0) 63) ≡ false → lettersHold w ≡ false
+letters-not [] k h e = absurd (omega arith)
+letters-not (x ∷ xs) zero h e = ap (λ (b : Bool). b && lettersHold xs) e
+letters-not (x ∷ xs) (suc k) h e = go (leb 1 x && leb x 63) (letters-not xs k (omega arith) e)
+  where
+    go : (b : Bool) → lettersHold xs ≡ false → (b && lettersHold xs) ≡ false
+    go true f = f
+    go false f = refl
+
+-- a letter that fails, and letters that all hold
+module _ (w : List ℕ) where
+  word-not : (k : ℕ) → k < length w → (leb 1 (getD w k 0) && leb (getD w k 0) 63) ≡ false → wordHolds w ≡ false
+  word-not k h e = go (leb (length w) 64)
+    where
+      go : (b : Bool) → (b && lettersHold w) ≡ false
+      go true = letters-not w k h e
+      go false = refl
+
+  pub word-low : (k : ℕ) → k < length w → getD w k 0 < 1 → wordHolds w ≡ false
+  word-low k h l = word-not k h (ap (λ (b : Bool). b && leb (getD w k 0) 63) (lt-leb 1 (getD w k 0) l))
+
+  pub word-high : (k : ℕ) → k < length w → 63 < getD w k 0 → wordHolds w ≡ false
+  word-high k h l = word-not k h (ap (λ (b : Bool). leb 1 (getD w k 0) && b) (lt-leb (getD w k 0) 63 l) ∙ and-false (leb 1 (getD w k 0)))
+
+  pub word-all : length w ≤ 64 → ((i : ℕ) → i < length w → (leb 1 (getD w i 0) && leb (getD w i 0) 63) ≡ true) → wordHolds w ≡ true
+  word-all h f = and-both (le-leb (length w) 64 h) (letters-all w f)
+
+  pub word-long : 64 < length w → wordHolds w ≡ false
+  word-long h = ap (λ (b : Bool). b && lettersHold w) (lt-leb (length w) 64 h)
+
+pub letter-holds : (x : ℕ) → 1 ≤ x → x ≤ 63 → (leb 1 x && leb x 63) ≡ true
+letter-holds x h g = and-both (le-leb 1 x h) (le-leb x 63 g)
+
+-- no letter: the side's word is empty
+pub empty-length : (w : List ℕ) → isEmpty w ≡ eqb (length w) 0
+empty-length [] = refl
+empty-length (x ∷ xs) = sym (ne-eqb (suc (length xs)) 0 (λ e. omega arith))
+
+-- Tasks.
+
+abbrev pub taskNumber : Task → ℕ
+taskNumber recognition = 1
+taskNumber synthesis = 2
+taskNumber analysis = 3
+
+pub task-number : (n : ℕ) (k : Task) → taskOf n ≡ some k → n ≡ taskNumber k
+task-number n k = go (eqb n 1) (eqb n 2) (eqb n 3) refl refl refl
+  where
+    go : (a b c : Bool) → eqb n 1 ≡ a → eqb n 2 ≡ b → eqb n 3 ≡ c → cond a (some recognition) (cond b (some synthesis) (cond c (some analysis) none)) ≡ some k → n ≡ taskNumber k
+    go true b c p q r e = let z : recognition ≡ k = cc in eqb-true n 1 p ∙ ap taskNumber z
+    go false true c p q r e = let z : synthesis ≡ k = cc in eqb-true n 2 q ∙ ap taskNumber z
+    go false false true p q r e = let z : analysis ≡ k = cc in eqb-true n 3 r ∙ ap taskNumber z
+    go false false false p q r e = absurd (let z : _≡_ {A = ℕ} 0 1 = cc in omega arith)
+
+pub task-there : (n : ℕ) → 1 ≤ n → n ≤ 3 → (k : Task) × (taskOf n ≡ some k)
+task-there zero h g = absurd (omega arith)
+task-there (suc zero) h g = (recognition, refl)
+task-there (suc (suc zero)) h g = (synthesis, refl)
+task-there (suc (suc (suc zero))) h g = (analysis, refl)
+task-there (suc (suc (suc (suc n)))) h g = absurd (omega arith)
+
+pub task-none : (n : ℕ) → (n < 1) ⊎ (3 < n) → taskOf n ≡ none
+task-none n h = go (taskOf n) refl
+  where
+    big : (k : Task) → (taskNumber k < 1) ⊎ (3 < taskNumber k) → ⊥
+    big recognition w = ⊎-elim (λ u. omega arith) (λ u. omega arith) w
+    big synthesis w = ⊎-elim (λ u. omega arith) (λ u. omega arith) w
+    big analysis w = ⊎-elim (λ u. omega arith) (λ u. omega arith) w
+
+    go : (o : Option Task) → taskOf n ≡ o → taskOf n ≡ none
+    go none e = e
+    go (some k) e = absurd (big k (subst (λ (m : ℕ). (m < 1) ⊎ (3 < m)) (task-number n k e) h))
+
+pub upper-read : (n : ℕ) (k : Task) → taskOf n ≡ some k → not (eqb n 3) ≡ reads k upperSide
+upper-read n k e = ap (λ (m : ℕ). not (eqb m 3)) (task-number n k e) ∙ go k
+  where
+    go : (j : Task) → not (eqb (taskNumber j) 3) ≡ reads j upperSide
+    go recognition = refl
+    go synthesis = refl
+    go analysis = refl
+
+pub lower-read : (n : ℕ) (k : Task) → taskOf n ≡ some k → not (eqb n 2) ≡ reads k lowerSide
+lower-read n k e = ap (λ (m : ℕ). not (eqb m 2)) (task-number n k e) ∙ go k
+  where
+    go : (j : Task) → not (eqb (taskNumber j) 2) ≡ reads j lowerSide
+    go recognition = refl
+    go synthesis = refl
+    go analysis = refl
+
+-- Each refusal in its turn, where ok is what the table check says.
+
+module _ (task : ℕ) (upper lower cells : List ℕ) (ok : Bool) (e : ok ≡ checked cells .ok) where
+  abbrev queryOf : Task → Query
+  queryOf k = record { task = k; upperWord = upper; lowerWord = lower }
+
+  pub asking-table : ok ≡ false → Refused (State LoadedTable) ≡ askingOf (asked cells task upper lower)
+  unfolding asked
+  asking-table o = ap (λ (x : Option Table). askingOf (askedTable x task upper lower)) (sym (failed cells (checked cells) refl (sym e ∙ o)))
+
+  by-task : ok ≡ true → asked cells task upper lower ≡ askedTask (tableIn cells) (taskOf task) upper lower
+  unfolding asked
+  by-task o = ap (λ (x : Option Table). askedTable x task upper lower) (passed cells (checked cells) refl (sym e ∙ o))
+
+  pub asking-task : ok ≡ true → taskOf task ≡ none → Refused (Input TaskFault) ≡ askingOf (asked cells task upper lower)
+  asking-task o n = ap askingOf (sym (by-task o ∙ ap (λ (x : Option Task). askedTask (tableIn cells) x upper lower) n))
+
+  module _ (o : ok ≡ true) (low : 1 ≤ task) (high : task ≤ 3) where
+    by-words : (a : Asking) → ((k : Task) → taskOf task ≡ some k → askingOf (askedWords (tableIn cells) (queryOf k)) ≡ a) → a ≡ askingOf (asked cells task upper lower)
+    by-words a f =
+        let K = task-there task low high in
+        sym (ap askingOf (by-task o ∙ ap (λ (x : Option Task). askedTask (tableIn cells) x upper lower) (K .1)) ∙ f (K .0) (K .1))
+
+    sides-not : (k : Task) → sidesHold (queryOf k) ≡ false → askingOf (askedWords (tableIn cells) (queryOf k)) ≡ Refused (Input TaskFault)
+    sides-not k h = ap (λ (b : Bool). askingOf (cond b (cond (wordsHold (queryOf k)) (runs (tableIn cells) (queryOf k)) (turned (Input WordFault))) (turned (Input TaskFault)))) h
+
+    module _ (u l : Bool) (U : (k : Task) → taskOf task ≡ some k → u ≡ reads k upperSide) (s : Bool) (S : s ≡ (u || isEmpty upper)) where
+      upper-holds : (k : Task) → taskOf task ≡ some k → s ≡ (reads k upperSide || isEmpty upper)
+      upper-holds k t = S ∙ ap (λ (b : Bool). b || isEmpty upper) (U k t)
+
+      pub asking-upper : s ≡ false → Refused (Input TaskFault) ≡ askingOf (asked cells task upper lower)
+      asking-upper n = by-words _ (λ k t. sides-not k (ap (λ (b : Bool). b && (reads k lowerSide || isEmpty lower)) (sym (upper-holds k t) ∙ n)))
+
+      module _ (y : s ≡ true) (L : (k : Task) → taskOf task ≡ some k → l ≡ reads k lowerSide) (r : Bool) (R : r ≡ (l || isEmpty lower)) where
+        sides-are : (k : Task) → taskOf task ≡ some k → sidesHold (queryOf k) ≡ r
+        sides-are k t =
+            ap (λ (b : Bool). b && (reads k lowerSide || isEmpty lower)) (sym (upper-holds k t) ∙ y) ∙ ap (λ (b : Bool). b || isEmpty lower) (sym (L k t)) ∙ sym R
+
+        pub asking-lower : r ≡ false → Refused (Input TaskFault) ≡ askingOf (asked cells task upper lower)
+        asking-lower n = by-words _ (λ k t. sides-not k (sides-are k t ∙ n))
+
+        -- by what the words are
+        abbrev worded : Bool → Asking
+        worded true = Passes
+        worded false = Refused (Input WordFault)
+
+        pub asking-words : r ≡ true → (b : Bool) → (wordHolds upper && wordHolds lower) ≡ b → worded b ≡ askingOf (asked cells task upper lower)
+        asking-words z b w =
+            by-words (worded b)
+            (λ k t. ap (λ (x : Bool). askingOf (cond x (cond (wordHolds upper && wordHolds lower) (runs (tableIn cells) (queryOf k)) (turned (Input WordFault))) (turned (Input TaskFault)))) (sides-are k t ∙ z)
+            ∙ ap (λ (x : Bool). askingOf (cond x (runs (tableIn cells) (queryOf k)) (turned (Input WordFault)))) w ∙ last k b)
+          where
+            last : (k : Task) (x : Bool) → askingOf (cond x (runs (tableIn cells) (queryOf k)) (turned (Input WordFault))) ≡ worded x
+            last k true = refl
+            last k false = refl
+
+-- What the caller learns.
+
+pub asking-turned : (w : Asked) (r : Refusal) → Refused r ≡ askingOf w → w ≡ turned r
+asking-turned (turned s) r e = let z : s ≡ r = cc in ap turned z
+asking-turned (runs t q) r e = absurd (let z : _≡_ {A = ℕ} 0 1 = cc in omega arith)
+
+-- a search that may run: its table is the one that the cells hold
+pub record Asks (cells : List ℕ) (task : ℕ) (upper lower : List ℕ) : Type 0 where
+  pub asks : Task
+  pub task-is : taskOf task ≡ some asks
+  pub loads : loaded cells ≡ some (tableIn cells)
+  pub runs-is : asked cells task upper lower ≡ runs (tableIn cells) (record { task = asks; upperWord = upper; lowerWord = lower })
+
+passes-refused : (r : Refusal) → Passes ≡ Refused r → ⊥
+passes-refused r e = let z : _≡_ {A = ℕ} 0 1 = cc in omega arith
+
+pub asking-passes : (task : ℕ) (upper lower cells : List ℕ) (ok : Bool) → ok ≡ checked cells .ok → Passes ≡ askingOf (asked cells task upper lower) → Asks cells task upper lower
+asking-passes task upper lower cells ok e p = by-table ok refl
+  where
+    by-words : (k : Task) → (a b : Bool) → cond a (cond b (runs (tableIn cells) (queryOf task upper lower cells ok e k)) (turned (Input WordFault))) (turned (Input TaskFault)) ≡ asked cells task upper lower
+        → runs (tableIn cells) (queryOf task upper lower cells ok e k) ≡ asked cells task upper lower
+    by-words k true true w = w
+    by-words k true false w = absurd (passes-refused (Input WordFault) (p ∙ ap askingOf (sym w)))
+    by-words k false b w = absurd (passes-refused (Input TaskFault) (p ∙ ap askingOf (sym w)))
+
+    by-number : ok ≡ true → (o : Option Task) → taskOf task ≡ o → Asks cells task upper lower
+    by-number z none w = absurd (passes-refused (Input TaskFault) (p ∙ sym (asking-task task upper lower cells ok e z w)))
+    by-number z (some k) w =
+        record {
+          asks = k;
+          task-is = w;
+          loads = passed cells (checked cells) refl (sym e ∙ z);
+          runs-is = sym (by-words k (sidesHold (queryOf task upper lower cells ok e k)) (wordsHold (queryOf task upper lower cells ok e k)) (sym (by-task task upper lower cells ok e z ∙ ap (λ (x : Option Task). askedTask (tableIn cells) x upper lower) w)));
+        }
+
+    by-table : (b : Bool) → ok ≡ b → Asks cells task upper lower
+    by-table true z = by-number z (taskOf task) refl
+    by-table false z = absurd (passes-refused (State LoadedTable) (p ∙ sym (asking-table task upper lower cells ok e z)))

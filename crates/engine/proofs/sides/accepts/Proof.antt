@@ -1,0 +1,41 @@
+use borrow.Author.Needs.{needs}
+use mathlib.Core.Path.{sym, _∙_}
+use denote.Ref.{now}
+use borrow.Author.Tests.{not-true, not-false}
+use Rattle.machine.specs.Transducer.{member, sideDone}
+use Rattle.engine.proofs.Following.{upper-unread, lower-unread, all-read}
+use Rattle.engine.proofs.sides.accepts.Statement.{statement}
+use Rattle.engine.proofs.sides.accepts.Tie as tie
+use Rattle.engine.proofs.sides.accepts.Reads as reads
+use Rattle.engine.proofs.sides.accepts.Lts as lts
+use Rattle.engine.proofs.sides.is_done.Reads as is-done-reads
+use Rattle.engine.proofs.sides.is_member.Reads as is-member-reads
+
+-- src/sides.rt:91:9
+is-done-requires : tie.Need-is-done-requires
+is-done-requires c κs = search needs
+
+-- src/sides.rt:92:9
+returns : tie.Need-returns
+returns c = upper-unread (member (c .before .before .before .before .before .args .state) (now (c .before .before .before .before .before .args .terminals))) (sideDone (c .before .before .before .before .before .args .setup .up) (now (c .before .before .before .before .before .args .upper)) (c .before .before .before .before .before .args .up)) (sideDone (c .before .before .before .before .before .args .setup .low) (now (c .before .before .before .before .before .args .lower)) (c .before .before .before .before .before .args .low)) (sym (c .before .is-done .ensures) ∙ not-true _ (c .if1 .taken))
+
+-- src/sides.rt:94:9
+is-done-requires-2 : tie.Need-is-done-requires-2
+is-done-requires-2 c κs = search needs
+
+-- src/sides.rt:95:9
+returns-2 : tie.Need-returns-2
+returns-2 c = lower-unread (member (c .before .before .before .before .before .before .before .args .state) (now (c .before .before .before .before .before .before .before .args .terminals))) (sideDone (c .before .before .before .before .before .before .before .args .setup .up) (now (c .before .before .before .before .before .before .before .args .upper)) (c .before .before .before .before .before .before .before .args .up)) (sideDone (c .before .before .before .before .before .before .before .args .setup .low) (now (c .before .before .before .before .before .before .before .args .lower)) (c .before .before .before .before .before .before .before .args .low)) (sym (c .before .is-done2 .ensures) ∙ not-true _ (c .if2 .taken))
+
+-- src/sides.rt:97:5
+is-member-requires : tie.Need-is-member-requires
+is-member-requires c κs = search needs
+
+-- src/sides.rt:80:1
+returns-3 : tie.Need-returns-3
+returns-3 c = c .is-member .ensures ∙ all-read (member (c .before .before .before .before .before .before .before .before .args .state) (now (c .before .before .before .before .before .before .before .before .args .terminals))) (sideDone (c .before .before .before .before .before .before .before .before .args .setup .up) (now (c .before .before .before .before .before .before .before .before .args .upper)) (c .before .before .before .before .before .before .before .before .args .up)) (sideDone (c .before .before .before .before .before .before .before .before .args .setup .low) (now (c .before .before .before .before .before .before .before .before .args .lower)) (c .before .before .before .before .before .before .before .before .args .low)) (sym (c .before .before .before .before .is-done .ensures) ∙ not-false _ (c .before .before .before .if1 .left)) (sym (c .before .before .is-done2 .ensures) ∙ not-false _ (c .before .if2 .left))
+
+pub accepts-spec : {M : Type 1} → statement M
+accepts-spec =
+    tie.close
+    (tie.spec is-done-requires returns is-done-requires-2 returns-2 is-member-requires returns-3)

@@ -1,0 +1,24 @@
+-- What a call for a reading answers and leaves.
+use Prim.Native.Nat.{ℕ}
+use mathlib.Core.Path.{_≡_}
+use mathlib.Core.Option.{some}
+use mathlib.Core.List.{List}
+use Rattle.table.specs.Loaded.{tableIn, loaded}
+use Rattle.table.specs.Index.{firstArcs}
+use Rattle.machine.specs.declared.Called.{Called}
+use Rattle.machine.specs.declared.Run.{Run}
+use Rattle.machine.specs.Query.{Task, taskOf}
+use Rattle.machine.specs.Asked.{runs, asked}
+use Rattle.machine.specs.Reading.{Outcome}
+
+-- the answer with the run, the cells e of the stack and the output o at exit
+abbrev pub OutcomeIs : Outcome → Called → List ℕ → List ℕ → Type 0
+OutcomeIs x r e o = (r ≡ x .called) × (e ≡ x .stack) × (o ≡ x .output)
+
+-- none of 20, 11 and 10 is given, and `first` is the table's first-arc index
+pub record Passed (cells : List ℕ) (task : ℕ) (upper lower first : List ℕ) : Type 0 where
+  pub asks : Task
+  pub task-is : taskOf task ≡ some asks
+  pub loads : loaded cells ≡ some (tableIn cells)
+  pub runs-is : asked cells task upper lower ≡ runs (tableIn cells) (record { task = asks; upperWord = upper; lowerWord = lower })
+  pub index : first ≡ firstArcs (tableIn cells)

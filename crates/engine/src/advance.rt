@@ -1,0 +1,103 @@
+// The core of a call for a reading: the run goes in by value, and comes back by value.
+use crate::Asking;
+use crate::Setup;
+use crate::place;
+use crate::query;
+use crate::search;
+use machine::Answer;
+use machine::Called;
+use machine::Run;
+use table::Refusal;
+use table::StateCause;
+use table::checker;
+ghost use mathlib.Core.Path.{_≡_};
+ghost use Rattle.machine.specs.Reading.{outcome};
+ghost use Rattle.engine.specs.Advancing.{OutcomeIs, Passed};
+
+// 21, then the steps, where 20, 11 and 10 are not given.
+fn resume(
+    table: &[u16],
+    first: &[u16],
+    upper: &[u8],
+    lower: &[u8],
+    run: Run,
+    stack: &mut [u32],
+    allowance: u32,
+    output: &mut [u8],
+) -> Called
+    requires { ⌜ Passed (now table) (run .task) (now upper) (now lower) (now first) ⌝ }
+    ensures { λ r. ⌜ OutcomeIs (outcome (now (table .entry)) (now (upper .entry)) (now (lower .entry)) run (now (stack .entry)) allowance (now (output .entry))) r (now (stack .exit)) (now (output .exit)) ⌝ }
+{
+    let at = checker::layout(table);
+    let terminals = at.terminals;
+    let arcs = at.arcs;
+    let end = at.end;
+    let task = run.task;
+    let setup = Setup {
+        states: at.states,
+        up: query::reads_upper(task),
+        low: query::reads_lower(task),
+    };
+    let started = run.started;
+    let depth = run.depth;
+    if !place::place_holds(
+        setup,
+        first,
+        &table[4..terminals],
+        &table[arcs..end],
+        upper,
+        lower,
+        started,
+        depth,
+        stack,
+    ) {
+        return Called {
+            answer: Answer::Refused {
+                steps: 0,
+                refusal: Refusal::State(StateCause::Place),
+            },
+            run,
+        };
+    }
+    search::search(
+        setup,
+        first,
+        &table[4..terminals],
+        &table[terminals..arcs],
+        &table[arcs..end],
+        upper,
+        lower,
+        run,
+        stack,
+        allowance,
+        output,
+    )
+}
+
+pub fn advance(
+    table: &[u16],
+    upper: &[u8],
+    lower: &[u8],
+    run: Run,
+    stack: &mut [u32],
+    allowance: u32,
+    output: &mut [u8],
+) -> Called
+    ensures { λ r. ⌜ (r ≡ outcome (now (table .entry)) (now (upper .entry)) (now (lower .entry)) run (now (stack .entry)) allowance (now (output .entry)) .called)
+        × (now (stack .exit) ≡ outcome (now (table .entry)) (now (upper .entry)) (now (lower .entry)) run (now (stack .entry)) allowance (now (output .entry)) .stack)
+        × (now (output .exit) ≡ outcome (now (table .entry)) (now (upper .entry)) (now (lower .entry)) run (now (stack .entry)) allowance (now (output .entry)) .output) ⌝ }
+{
+    let checked = checker::check(table);
+    let task = run.task;
+    let found = query::asked(checked.ok, task, upper, lower);
+    match found {
+        Asking::Refused(refusal) => Called {
+            answer: Answer::Refused { steps: 0, refusal },
+            run,
+        },
+        Asking::Passes => {
+            let first = checked.first;
+            resume(table, &first, upper, lower, run, stack, allowance, output)
+        }
+    }
+}

@@ -1,0 +1,88 @@
+// Refusals 20, 11 and 10, which a start and a call look for in this order; and the sides that a task reads.
+use crate::Asking;
+use table::InputCause;
+use table::Refusal;
+use table::StateCause;
+ghost use mathlib.Core.Path.{_≡_};
+ghost use mathlib.Core.Bool.{_||_};
+ghost use mathlib.Core.Option.{some};
+ghost use mathlib.Core.List.{List};
+ghost use Prim.Native.Nat.{ℕ};
+ghost use Rattle.table.specs.Rules.{isEmpty};
+ghost use Rattle.table.specs.Calls.{checked};
+ghost use Rattle.machine.specs.Query.{Task, taskOf, upperSide, lowerSide, reads, wordHolds};
+ghost use Rattle.machine.specs.Asked.{asked};
+ghost use Rattle.engine.specs.Asking.{askingOf};
+
+// Whether a task, 1 to 3, reads the upper side.
+pub fn reads_upper(task: u32) -> bool
+    ensures { λ r. ⌜ ((k : Task) → taskOf task ≡ some k → r ≡ reads k upperSide) ⌝ }
+{
+    task != 3
+}
+
+// Whether it reads the lower side.
+pub fn reads_lower(task: u32) -> bool
+    ensures { λ r. ⌜ ((k : Task) → taskOf task ≡ some k → r ≡ reads k lowerSide) ⌝ }
+{
+    task != 2
+}
+
+// 10, of one word.
+fn word_holds(w: &[u8]) -> bool
+    ensures { λ r. ⌜ r ≡ wordHolds (now (w .entry)) ⌝ }
+{
+    if 64 < w.len() {
+        return false;
+    }
+    let mut k = 0;
+    while k < w.len() {
+        let x = w[k];
+        if x < 1 {
+            return false;
+        }
+        if 63 < x {
+            return false;
+        }
+        k += 1;
+    }
+    true
+}
+
+// 11, of one side.
+fn side_holds(read: bool, w: &[u8]) -> bool
+    ensures { λ r. ⌜ r ≡ (read || isEmpty (now (w .entry))) ⌝ }
+{
+    if read {
+        return true;
+    }
+    w.len() == 0
+}
+
+// 20, 11 and 10, where `ok` is what the table check says.
+pub fn asked(ok: bool, task: u32, upper: &[u8], lower: &[u8]) -> Asking
+    ensures { λ r. ⌜ ((cells : List ℕ) → ok ≡ checked cells .ok → r ≡ askingOf (asked cells task (now (upper .entry)) (now (lower .entry)))) ⌝ }
+{
+    if !ok {
+        return Asking::Refused(Refusal::State(StateCause::LoadedTable));
+    }
+    if task < 1 {
+        return Asking::Refused(Refusal::Input(InputCause::TaskFault));
+    }
+    if 3 < task {
+        return Asking::Refused(Refusal::Input(InputCause::TaskFault));
+    }
+    if !side_holds(reads_upper(task), upper) {
+        return Asking::Refused(Refusal::Input(InputCause::TaskFault));
+    }
+    if !side_holds(reads_lower(task), lower) {
+        return Asking::Refused(Refusal::Input(InputCause::TaskFault));
+    }
+    if !word_holds(upper) {
+        return Asking::Refused(Refusal::Input(InputCause::WordFault));
+    }
+    if !word_holds(lower) {
+        return Asking::Refused(Refusal::Input(InputCause::WordFault));
+    }
+    Asking::Passes
+}

@@ -1,0 +1,82 @@
+// The start of a search: 20, 11, 10, then 12.
+use crate::Asking;
+use crate::idle;
+use crate::query;
+use machine::Run;
+use machine::StartAnswer;
+use machine::Started;
+use table::InputCause;
+use table::Refusal;
+ghost use mathlib.Core.Path.{_≡_};
+ghost use mathlib.Core.List.{[]};
+ghost use Rattle.machine.specs.declared.StartAnswer.the-variants.{Ready, Refused};
+ghost use Rattle.machine.specs.Start.{firstRun, startedWith, StartIs};
+
+// A start that is turned down by 20, 11 or 10.
+fn refused(refusal: Refusal) -> Started
+    ensures { λ r. ⌜ r ≡ startedWith (Refused refusal) (firstRun 0) [] ⌝ }
+{
+    Started {
+        answer: StartAnswer::Refused(refusal),
+        run: Run {
+            task: 0,
+            started: 0,
+            depth: 0,
+        },
+        cycle: [0u16; 256],
+        length: 0,
+    }
+}
+
+// A start that passes.
+fn ready(task: u32) -> Started
+    ensures { λ r. ⌜ r ≡ startedWith Ready (firstRun task) [] ⌝ }
+{
+    Started {
+        answer: StartAnswer::Ready,
+        run: Run {
+            task,
+            started: 0,
+            depth: 0,
+        },
+        cycle: [0u16; 256],
+        length: 0,
+    }
+}
+
+// The start on a loaded table.
+pub fn start(table: &[u16], task: u32, upper: &[u8], lower: &[u8]) -> Started
+    ensures { λ r. ⌜ StartIs (now (table .entry)) task (now (upper .entry)) (now (lower .entry)) r ⌝ }
+{
+    let checked = table::checker::check(table);
+    let asking = query::asked(checked.ok, task, upper, lower);
+    if let Asking::Refused(refusal) = asking {
+        return refused(refusal);
+    }
+    let first = checked.first;
+    let at = table::checker::layout(table);
+    let states = at.states as usize;
+    let arcs = at.arcs;
+    let end = at.end;
+    let found = idle::find(
+        &table[arcs..end],
+        &first,
+        states,
+        query::reads_upper(task),
+        query::reads_lower(task),
+    );
+    if found.length == 0 {
+        return ready(task);
+    }
+    let cycle = found.states;
+    Started {
+        answer: StartAnswer::Refused(Refusal::Input(InputCause::IdleCycle)),
+        run: Run {
+            task: 0,
+            started: 0,
+            depth: 0,
+        },
+        cycle,
+        length: found.length,
+    }
+}
