@@ -1,15 +1,15 @@
 // The engine: a start, and the call for a reading.
 pub mod advance;
-pub mod frames;
+mod frames;
 mod idle;
-pub mod output;
-pub mod place;
-pub mod query;
+mod output;
+mod place;
+mod query;
 pub mod reading;
-pub mod search;
-pub mod sides;
+mod search;
+mod sides;
 pub mod starter;
-pub mod step;
+mod step;
 
 use table::StateCause;
 
