@@ -1,15 +1,13 @@
 -- A call that 20, 11 and 10 let pass: the parts of the loaded table and the flags of the task are the machine's.
-use Prim.Native.Nat.{ℕ, _+_, _*_, _-_, _<_, _≤_}
+use Prim.Native.Nat.{ℕ, _-_, _≤_}
 use native.Mathlib.Omega.{arith}
 use mathlib.Core.Path.{_≡_, refl, sym, ap, ap₂, subst, _∙_}
-use mathlib.Core.Bool.{Bool, true, false, _||_}
+use mathlib.Core.Bool.{Bool, true, _||_}
 use mathlib.Core.Option.{Option, some}
-use mathlib.Core.List.{List, []}
-use lib.ListN.{length, getD, take, drop}
+use mathlib.Core.List.{List}
+use lib.ListN.{length, take, drop}
 use Rattle.table.specs.declared.Layout.{Layout}
 use Rattle.table.specs.declared.Refusal.{Refusal}
-use Rattle.table.specs.declared.Refusal.the-variants.{State}
-use Rattle.table.specs.declared.StateCause.the-variants.{Place}
 use Rattle.table.specs.Table.{Table}
 use Rattle.table.specs.Rules.{keepsRules}
 use Rattle.table.specs.Loaded.{countsIn, tableIn}
@@ -21,27 +19,23 @@ use Rattle.machine.specs.declared.Called.{Called}
 use Rattle.machine.specs.declared.Answer.the-variants.{Refused}
 use Rattle.machine.specs.Query.{Task, recognition, synthesis, analysis, taskOf, upperSide, lowerSide, reads, Query}
 use Rattle.machine.specs.Machine.{Machine}
-use Rattle.machine.specs.Frames.{Held, placeHolds}
-use Rattle.machine.specs.Call.{Told, advance, entered, call}
+use Rattle.machine.specs.Call.{call}
 use Rattle.machine.specs.Transducer.{machine}
-use Rattle.machine.specs.Stack.{roomIn, store}
+use Rattle.machine.specs.Stack.{store}
 use Rattle.machine.specs.Asked.{Asked, turned, asked}
 use Rattle.machine.specs.Reading.{Outcome, heldOf, outcomeAs, outcomeOf, outcome}
-use Rattle.machine.proofs.Frames.{place-placed}
-use Rattle.machine.proofs.Held.{Good}
-use Rattle.machine.proofs.Stack.{same-is}
-use Rattle.engine.specs.declared.Setup.{Setup}
-use Rattle.engine.specs.Setting.{taskBy, queryBy, tableBy, machineBy, held, Ready}
-use Rattle.engine.specs.Searching.{SearchIs}
+use Rattle.frames.specs.declared.Setup.{Setup}
+use Rattle.step.specs.Setting.{taskBy, queryBy, tableBy, machineBy, Ready}
+use Rattle.search.specs.Searching.{calledWith, SearchIs}
 use Rattle.engine.proofs.Words.{Asks}
 use Rattle.engine.specs.Advancing.{OutcomeIs, Passed}
 
 -- 20, 11 and 10 leave all as it was
 pub turned-outcome : (cells upper lower : List ℕ) (run : Run) (stack : List ℕ) (n : ℕ) (buffer : List ℕ) (r : Refusal) → asked cells (run .task) upper lower ≡ turned r
-    → OutcomeIs (outcome cells upper lower run stack n buffer) (record { answer = Refused 0 r; run = run }) stack buffer
+    → (d : Called) → d ≡ calledWith (Refused 0 r) run → OutcomeIs (outcome cells upper lower run stack n buffer) d stack buffer
 unfolding outcome
-turned-outcome cells upper lower run stack n buffer r e =
-    subst (λ (w : Asked). OutcomeIs (outcomeOf w run stack n buffer) (record { answer = Refused 0 r; run = run }) stack buffer) (sym e) (refl, refl, refl)
+turned-outcome cells upper lower run stack n buffer r e d k =
+    subst (λ (w : Asked). OutcomeIs (outcomeOf w run stack n buffer) d stack buffer) (sym e) (k, refl, refl)
 
 by-flags : (k : Task) → taskBy (reads k upperSide) (reads k lowerSide) ≡ k
 by-flags recognition = refl
@@ -106,36 +100,15 @@ module _ (cells upper lower first : List ℕ) (run : Run) (P : Passed cells (run
   abbrev M : Machine
   M = machineBy setup initials terminals arcs upper lower
 
-  same-place : (h : Held (List ℕ)) → placeHolds (machineBy setup initials [] arcs upper lower) store h ≡ placeHolds M store h
-  unfolding placeHolds
-  same-place h = refl
+  outcome-is : (stack : List ℕ) (n : ℕ) (buffer : List ℕ) → outcomeAs (run .task) buffer (call M store n (length buffer) (heldOf run stack)) ≡ outcome cells upper lower run stack n buffer
+  unfolding outcome
+  outcome-is stack n buffer =
+      ap₂ (λ (t : Table) (q : Query). outcomeAs (run .task) buffer (call (machine t q) store n (length buffer) (heldOf run stack))) table-is query-is
+      ∙ ap (λ (w : Asked). outcomeOf w run stack n buffer) (sym (P .runs-is))
 
-  module _ (stack : List ℕ) (n : ℕ) (buffer : List ℕ) where
-    abbrev h : Held (List ℕ)
-    h = held (run .started) (run .depth) stack
-
-    outcome-is : outcomeAs (run .task) buffer (call M store n (length buffer) h) ≡ outcome cells upper lower run stack n buffer
-    unfolding outcome
-    outcome-is =
-        ap₂ (λ (t : Table) (q : Query). outcomeAs (run .task) buffer (call (machine t q) store n (length buffer) h)) table-is query-is
-        ∙ ap (λ (w : Asked). outcomeOf w run stack n buffer) (sym (P .runs-is))
-
-    call-by : (b : Bool) → placeHolds (machineBy setup initials [] arcs upper lower) store h ≡ b → outcomeAs (run .task) buffer (entered M store b n (length buffer) h) ≡ outcome cells upper lower run stack n buffer
-    unfolding call
-    call-by b e = ap (λ (x : Bool). outcomeAs (run .task) buffer (entered M store x n (length buffer) h)) (sym (sym (same-place h) ∙ e)) ∙ outcome-is
-
-    pub place-refused : placeHolds (machineBy setup initials [] arcs upper lower) store h ≡ false
-        → OutcomeIs (outcome cells upper lower run stack n buffer) (record { answer = Refused 0 (State Place); run = run }) stack buffer
-    place-refused e = subst (λ (x : Outcome). OutcomeIs x (record { answer = Refused 0 (State Place); run = run }) stack buffer) (call-by false e) (refl, refl, refl)
-
-    module _ (e : placeHolds (machineBy setup initials [] arcs upper lower) store h ≡ true) where
-      pub place-good : Good M store (roomIn stack) h
-      place-good =
-          let W = place-placed M (same-is (tableBy setup initials terminals arcs) (queryBy setup upper lower)) store h (sym (same-place h) ∙ e) in
-          record { placed = W .1; deep = W .0; room = refl }
-
-      pub place-searched : (r : Called) (c o : List ℕ) → SearchIs (run .task) buffer (advance M store (length buffer) n h) r c o → OutcomeIs (outcome cells upper lower run stack n buffer) r c o
-      place-searched r c o S = subst (λ (x : Outcome). OutcomeIs x r c o) (call-by true e) S
+  pub call-outcome : (stack : List ℕ) (n : ℕ) (buffer : List ℕ) (r : Called) (c o : List ℕ)
+      → SearchIs (run .task) buffer (call M store n (length buffer) (heldOf run stack)) r c o → OutcomeIs (outcome cells upper lower run stack n buffer) r c o
+  call-outcome stack n buffer r c o S = subst (λ (x : Outcome). OutcomeIs x r c o) (outcome-is stack n buffer) S
 
 -- what the table check and the query tell
 pub passed-by : (cells : List ℕ) (task : ℕ) (upper lower first : List ℕ) → Asks cells task upper lower → first ≡ checked cells .first → Passed cells task upper lower first

@@ -22,10 +22,10 @@ use Rattle.machine.specs.Idle.{CycleStates, hasIdleCycle}
 use Rattle.machine.specs.Asked.{Asked, turned, asked}
 use Rattle.machine.specs.Start.{firstRun, startedWith, startedAs, started, TellsCycle, StartIs}
 use Rattle.machine.proofs.Asked.{loaded-rules}
-use Rattle.engine.specs.declared.Cycle.{Cycle}
-use Rattle.engine.specs.Graph.{Graph, FoundCycle, CycleOrNone, cycleCells}
+use Rattle.idle.specs.declared.Cycle.{Cycle}
+use Rattle.idle.specs.Graph.{Graph, FoundCycle, CycleOrNone, cycleCells}
 use Rattle.engine.proofs.Words.{Asks}
-use Rattle.engine.proofs.TableGraph.{loaded-laid, loaded-index, graph-of, found-none, found-some, found-states}
+use Rattle.idle.proofs.TableGraph.{loaded-laid, loaded-index, graph-of, found-none, found-some, found-states}
 
 module _ (cells : List ℕ) (task : ℕ) (upper lower : List ℕ) where
   -- 20, 11 and 10

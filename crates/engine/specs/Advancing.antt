@@ -6,7 +6,6 @@ use mathlib.Core.List.{List}
 use Rattle.table.specs.Loaded.{tableIn, loaded}
 use Rattle.table.specs.Index.{firstArcs}
 use Rattle.machine.specs.declared.Called.{Called}
-use Rattle.machine.specs.declared.Run.{Run}
 use Rattle.machine.specs.Query.{Task, taskOf}
 use Rattle.machine.specs.Asked.{runs, asked}
 use Rattle.machine.specs.Reading.{Outcome}

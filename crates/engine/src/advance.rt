@@ -1,14 +1,9 @@
 // The core of a call for a reading: the run goes in by value, and comes back by value.
 use crate::Asking;
-use crate::Setup;
-use crate::place;
 use crate::query;
-use crate::search;
-use machine::Answer;
+use frames::Setup;
 use machine::Called;
 use machine::Run;
-use table::Refusal;
-use table::StateCause;
 use table::checker;
 ghost use mathlib.Core.Path.{_≡_};
 ghost use Rattle.machine.specs.Reading.{outcome};
@@ -38,28 +33,7 @@ fn resume(
         up: query::reads_upper(task),
         low: query::reads_lower(task),
     };
-    let started = run.started;
-    let depth = run.depth;
-    if !place::place_holds(
-        setup,
-        first,
-        &table[4..terminals],
-        &table[arcs..end],
-        upper,
-        lower,
-        started,
-        depth,
-        stack,
-    ) {
-        return Called {
-            answer: Answer::Refused {
-                steps: 0,
-                refusal: Refusal::State(StateCause::Place),
-            },
-            run,
-        };
-    }
-    search::search(
+    search::call(
         setup,
         first,
         &table[4..terminals],
@@ -74,6 +48,7 @@ fn resume(
     )
 }
 
+// The call for a reading: 20, 11, 10, 21, then steps until the end, a reading, the allowance or a refusal.
 pub fn advance(
     table: &[u16],
     upper: &[u8],
@@ -91,10 +66,7 @@ pub fn advance(
     let task = run.task;
     let found = query::asked(checked.ok, task, upper, lower);
     match found {
-        Asking::Refused(refusal) => Called {
-            answer: Answer::Refused { steps: 0, refusal },
-            run,
-        },
+        Asking::Refused(refusal) => search::refused(0, refusal, run),
         Asking::Passes => {
             let first = checked.first;
             resume(table, &first, upper, lower, run, stack, allowance, output)

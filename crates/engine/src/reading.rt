@@ -5,6 +5,7 @@ use machine::Run;
 ghost use mathlib.Core.Path.{_≡_};
 ghost use Rattle.machine.specs.Reading.{outcome};
 
+// `advance`, with the run lent: what it comes back as is put into the caller's record.
 pub fn next_reading(
     table: &[u16],
     upper: &[u8],

@@ -1,6 +1,5 @@
 // The start of a search: 20, 11, 10, then 12.
 use crate::Asking;
-use crate::idle;
 use crate::query;
 use machine::Run;
 use machine::StartAnswer;

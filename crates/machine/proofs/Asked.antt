@@ -2,7 +2,7 @@
 use Prim.Native.Nat.{ℕ, _+_, _*_, _≤_}
 use native.Mathlib.Omega.{arith}
 use native.Mathlib.Nat.{mul-le-mul-right}
-use mathlib.Core.Path.{_≡_, refl, sym, ap, subst, _∙_}
+use mathlib.Core.Path.{_≡_, refl, ap, subst, _∙_}
 use mathlib.Core.Bool.{Bool, true, false, cond, _&&_}
 use mathlib.Core.Option.{Option, none, some}
 use mathlib.Core.List.{List}
@@ -24,9 +24,6 @@ use Rattle.machine.specs.Asked.{turned, runs, askedWords, askedTask, ask
 pub record AskedFacts (t : Table) (q : Query) (task : ℕ) (upper lower : List ℕ) : Type 0 where
   pub keeps-rules : keepsRules t ≡ true
   pub task-is : taskOf task ≡ some (q .task)
-  pub upper-is : q .upperWord ≡ upper
-  pub lower-is : q .lowerWord ≡ lower
-  pub sides-hold : sidesHold q ≡ true
   pub words-hold : wordsHold q ≡ true
 
 -- two askings that run
@@ -69,9 +66,6 @@ asked-facts cells task upper lower t q e = by-table (loaded cells) refl e
         record {
           keeps-rules = subst (λ (z : Table). keepsRules z ≡ true) (F .0) k;
           task-is = w ∙ ap (λ (z : Query). some (z .task)) (F .1);
-          upper-is = ap (λ (z : Query). z .upperWord) (sym (F .1));
-          lower-is = ap (λ (z : Query). z .lowerWord) (sym (F .1));
-          sides-hold = subst (λ (z : Query). sidesHold z ≡ true) (F .1) (F .2);
           words-hold = subst (λ (z : Query). wordsHold z ≡ true) (F .1) (F .3);
         }
 

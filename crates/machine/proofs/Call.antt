@@ -17,10 +17,11 @@ use Rattle.machine.specs.Frames.{Frame, Store, framesOf, Held, viewOf, p
 use Rattle.machine.specs.Step.{Move, over, drops, begins, skips, pushes, Stepped, ends, moves, finds, refuses, move, effect, offered, arrived, pushed, made, step}
 use Rattle.machine.specs.Call.{Reply, found, paused, ended, refused, Told, still, tell, spent, advance, entered, call, Steps, here, moved, finding}
 use Rattle.machine.specs.Tour.{Entry, reading, readings, readingIf}
-use Rattle.machine.proofs.Frames.{StoreLaws, frames-length, Placed, depth-law, placed-place, short-place}
+use Rattle.machine.proofs.Frames.{StoreLaws, frames-length, depth-law, placed-place, short-place}
+use Rattle.machine.specs.Place.{Placed, Good}
 use Rattle.machine.proofs.Tour.{Unrolls}
 use Rattle.machine.proofs.Step.{startedBy, framesBy, restBy, StepLaw, Open, move-placed, step-law, trail-open}
-use Rattle.machine.proofs.Held.{RoomFor, Possible, possible, Good, view-after, move-good}
+use Rattle.machine.proofs.Held.{RoomFor, Possible, possible, view-after, move-good}
 
 -- Replies.
 

@@ -26,7 +26,8 @@ use Rattle.machine.specs.Asked.{Asked, runs, asked}
 use Rattle.machine.specs.Start.{firstRun}
 use Rattle.machine.specs.Reading.{Outcome, kindBy, stepsBy, heldOf, answerAs, outcomeAs, outcomeOf, outcome}
 use Rattle.machine.specs.Demand.{Lent, usedOf, callOn, stepsOn, runAfter, usedAfter, Handed, received, stepsTold, CallTells, Tells, Demand3, LastEnds}
-use Rattle.machine.proofs.Frames.{Placed, depth-law}
+use Rattle.machine.proofs.Frames.{depth-law}
+use Rattle.machine.specs.Place.{Placed}
 use Rattle.machine.proofs.Tour.{unrolls, tree-law}
 use Rattle.machine.proofs.Step.{restBy}
 use Rattle.machine.proofs.Call.{EndLaw, stack-full, output-full, CallRefusal, too-short, in-step, RefusedBy, readings-append, short-call, call-counted, call-refused, Counted, OneLaw, one-law}

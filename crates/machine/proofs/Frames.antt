@@ -1,4 +1,4 @@
--- Frames: the laws of a store, what is a place in a search, and refusal 21, which tells exactly that.
+-- Frames: the laws of a store, and refusal 21, which tells exactly what is a place in a search.
 use Prim.Native.Nat.{ℕ, zero, suc, pred, _+_, _<_, _≤_}
 use native.Mathlib.Omega.{arith}
 use mathlib.Core.Path.{_≡_, refl, ap}
@@ -9,8 +9,9 @@ use lib.ListN.{length, getD}
 use lib.Dec.{eqb, ltb, leb}
 use borrow.Author.Tests.{eqb-true, ltb-true, leb-true, lt-ltb, le-leb, lt-leb, eq-eqb}
 use Rattle.table.proofs.Tests.{and-left, and-right, and-both}
-use Rattle.machine.specs.Machine.{Machine, more, final, size, datum, tested, accepts, output, Allowed, Bounded, SameIs}
+use Rattle.machine.specs.Machine.{Machine, more, size, datum, tested, accepts, output, Bounded, SameIs}
 use Rattle.machine.specs.Frames.{Frame, Store, Held, framesOf, walkTo, viewOf, bottomHolds, nextHolds, linkHolds, chainHolds, framesHold, placeHolds}
+use Rattle.machine.specs.Place.{Placed}
 
 -- what a store must do
 pub record StoreLaws {F : Type 0} (S : Store F) : Type 0 where
@@ -32,25 +33,7 @@ module _ {F : Type 0} (S : Store F) where
     frames-put c d f h = rw (L .look-same c d f h, frames-above c d d f (omega arith))
 
 module _ (M : Machine) where
-  abbrev pub Linked : ℕ → List (Frame (M .D)) → Type 0
-  Linked n [] = 0 < n
-  Linked n (g ∷ fs) = M .first (g .state) < g .next
-
-  -- the frames are a place in a search with n initial states started
-  abbrev pub Placed : ℕ → List (Frame (M .D)) → Type 0
-  Placed n [] = n ≤ length (M .initials)
-  Placed n (f ∷ fs) =
-      record {
-        state-is : f .state ≡ final M (walkTo n fs);
-        datum-is : datum M (walkTo n fs) ≡ some (f .datum);
-        allowed : Allowed M (walkTo n fs);
-        low : M .first (f .state) ≤ f .next;
-        high : f .next ≤ M .first (f .state) + M .arity (f .state);
-        link : Linked n fs;
-        below : Placed n fs;
-      }
-
-  pub placed-started : (n : ℕ) (fs : List (Frame (M .D))) → Placed n fs → n ≤ length (M .initials)
+  pub placed-started : (n : ℕ) (fs : List (Frame (M .D))) → Placed M n fs → n ≤ length (M .initials)
   placed-started n [] P = P
   placed-started n (f ∷ fs) P = placed-started n fs (P .below)
 
@@ -59,16 +42,16 @@ module _ (M : Machine) where
   walk-size n (f ∷ fs) = ap suc (walk-size n fs)
 
   -- the depth of a place is at most the bound
-  pub depth-law : Bounded M → (n : ℕ) (fs : List (Frame (M .D))) → Placed n fs → length fs ≤ M .limit
+  pub depth-law : Bounded M → (n : ℕ) (fs : List (Frame (M .D))) → Placed M n fs → length fs ≤ M .limit
   depth-law B n [] P = omega arith
   depth-law B n (f ∷ fs) P = omega (arith, walk-size n fs, B (walkTo n fs) (P .allowed))
 
   -- the top frame tells whether its path accepts
-  pub accepts-top : (n : ℕ) (f : Frame (M .D)) (fs : List (Frame (M .D))) → Placed n (f ∷ fs) → accepts M (walkTo n fs) ≡ (M .terminal (f .state) && M .done (f .datum))
+  pub accepts-top : (n : ℕ) (f : Frame (M .D)) (fs : List (Frame (M .D))) → Placed M n (f ∷ fs) → accepts M (walkTo n fs) ≡ (M .terminal (f .state) && M .done (f .datum))
   accepts-top n f fs P = rw (P .datum-is, ← (P .state-is))
 
   -- and what the arc that it just tried adds to the output
-  pub output-top : (n : ℕ) (f : Frame (M .D)) (fs : List (Frame (M .D))) → Placed n (f ∷ fs)
+  pub output-top : (n : ℕ) (f : Frame (M .D)) (fs : List (Frame (M .D))) → Placed M n (f ∷ fs)
       → output M (walkTo n (f ∷ fs)) ≡ output M (walkTo n fs) ++ M .writes (pred (f .next)) (f .datum)
   output-top n f fs P = rw (P .datum-is)
 
@@ -80,7 +63,7 @@ module _ (M : Machine) where
     next-facts : (f : Frame (M .D)) → nextHolds M f ≡ true → (M .first (f .state) ≤ f .next) × (f .next ≤ M .first (f .state) + M .arity (f .state))
     next-facts f e = (leb-true _ _ (and-left _ _ e), leb-true _ _ (and-right (leb (M .first (f .state)) (f .next)) _ e))
 
-    bottom-placed : (n : ℕ) (f : Frame (M .D)) → n ≤ length (M .initials) → 0 < n → nextHolds M f ≡ true → bottomHolds M n f ≡ true → Placed n (f ∷ [])
+    bottom-placed : (n : ℕ) (f : Frame (M .D)) → n ≤ length (M .initials) → 0 < n → nextHolds M f ≡ true → bottomHolds M n f ≡ true → Placed M n (f ∷ [])
     bottom-placed n f high low e k =
         let N = next-facts f e in
         record {
@@ -93,7 +76,7 @@ module _ (M : Machine) where
           below = high;
         }
 
-    link-placed : (n : ℕ) (g f : Frame (M .D)) (fs : List (Frame (M .D))) → Placed n (g ∷ fs) → nextHolds M f ≡ true → linkHolds M g f ≡ true → Placed n (f ∷ g ∷ fs)
+    link-placed : (n : ℕ) (g f : Frame (M .D)) (fs : List (Frame (M .D))) → Placed M n (g ∷ fs) → nextHolds M f ≡ true → linkHolds M g f ≡ true → Placed M n (f ∷ g ∷ fs)
     link-placed n g f fs P e k =
         let N = next-facts f e in
         let m = pred (g .next) in
@@ -113,19 +96,19 @@ module _ (M : Machine) where
           below = P;
         }
 
-    chain-placed : (n : ℕ) (fs : List (Frame (M .D))) (f : Frame (M .D)) → n ≤ length (M .initials) → 0 < n → chainHolds M n fs f ≡ true → Placed n (f ∷ fs)
+    chain-placed : (n : ℕ) (fs : List (Frame (M .D))) (f : Frame (M .D)) → n ≤ length (M .initials) → 0 < n → chainHolds M n fs f ≡ true → Placed M n (f ∷ fs)
     chain-placed n [] f h k e = bottom-placed n f h k (and-left _ _ e) (and-right (nextHolds M f) _ e)
     chain-placed n (g ∷ fs) f h k e =
         let r = and-right (nextHolds M f) (linkHolds M g f && chainHolds M n fs g) e in
         link-placed n g f fs (chain-placed n fs g h k (and-right (linkHolds M g f) (chainHolds M n fs g) r)) (and-left (nextHolds M f) (linkHolds M g f && chainHolds M n fs g) e)
         (and-left (linkHolds M g f) (chainHolds M n fs g) r)
 
-    frames-placed : (n : ℕ) (fs : List (Frame (M .D))) → n ≤ length (M .initials) → framesHold M n fs ≡ true → Placed n fs
+    frames-placed : (n : ℕ) (fs : List (Frame (M .D))) → n ≤ length (M .initials) → framesHold M n fs ≡ true → Placed M n fs
     frames-placed n [] h e = h
     frames-placed n (f ∷ fs) h e = chain-placed n fs f h (ltb-true _ _ (and-left _ _ e)) (and-right (ltb 0 n) _ e)
 
     -- and back
-    placed-chain : (n : ℕ) (fs : List (Frame (M .D))) (f : Frame (M .D)) → Placed n (f ∷ fs) → (0 < n) × (chainHolds M n fs f ≡ true)
+    placed-chain : (n : ℕ) (fs : List (Frame (M .D))) (f : Frame (M .D)) → Placed M n (f ∷ fs) → (0 < n) × (chainHolds M n fs f ≡ true)
     placed-chain n [] f P = (P .link, and-both (and-both (le-leb _ _ (P .low)) (le-leb _ _ (P .high))) (and-both (eq-eqb _ _ (P .state-is)) same))
       where
         same : M .same (M .d₀) (f .datum) ≡ true
@@ -140,13 +123,13 @@ module _ (M : Machine) where
         fits : tested (M .follow (pred (g .next)) (g .datum)) (λ d. M .same d (f .datum)) ≡ true
         fits = rw followed (I .same-refl (f .datum))
 
-    placed-frames : (n : ℕ) (fs : List (Frame (M .D))) → Placed n fs → framesHold M n fs ≡ true
+    placed-frames : (n : ℕ) (fs : List (Frame (M .D))) → Placed M n fs → framesHold M n fs ≡ true
     placed-frames n [] P = refl
     placed-frames n (f ∷ fs) P = let R = placed-chain n fs f P in and-both (lt-ltb _ _ (R .0)) (R .1)
 
     module _ (S : Store (Frame (M .D))) (h : Held (S .Cells)) where
       -- 21 is not given exactly where the used frames are there and are a place in a search
-      pub place-placed : placeHolds M S h ≡ true → (h .depth ≤ S .room (h .cells)) × Placed (h .started) (viewOf M S h)
+      pub place-placed : placeHolds M S h ≡ true → (h .depth ≤ S .room (h .cells)) × Placed M (h .started) (viewOf M S h)
       unfolding placeHolds
       place-placed e =
           let d = leb (h .depth) (S .room (h .cells)) in
@@ -154,7 +137,7 @@ module _ (M : Machine) where
           let r = and-right (leb (h .started) (length (M .initials))) (d && f) e in
           (leb-true _ _ (and-left d f r), frames-placed (h .started) (viewOf M S h) (leb-true _ _ (and-left _ _ e)) (and-right d f r))
 
-      pub placed-place : h .depth ≤ S .room (h .cells) → Placed (h .started) (viewOf M S h) → placeHolds M S h ≡ true
+      pub placed-place : h .depth ≤ S .room (h .cells) → Placed M (h .started) (viewOf M S h) → placeHolds M S h ≡ true
       unfolding placeHolds
       placed-place k P = and-both (le-leb _ _ (placed-started (h .started) (viewOf M S h) P)) (and-both (le-leb _ _ k) (placed-frames (h .started) (viewOf M S h) P))
 

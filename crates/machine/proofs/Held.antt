@@ -11,7 +11,8 @@ use borrow.Author.Tests.{ltb-true, ltb-false}
 use Rattle.machine.specs.Machine.{Machine, accepts, output}
 use Rattle.machine.specs.Frames.{Frame, Store, framesOf, Held, viewOf, pathOf, untried}
 use Rattle.machine.specs.Step.{Move, over, drops, begins, skips, pushes, Stepped, ends, moves, finds, refuses, tryArc, moveTop, moveStart, moveBy, move, effect, offered, arrived, pushed, made, step}
-use Rattle.machine.proofs.Frames.{StoreLaws, frames-put, Placed}
+use Rattle.machine.proofs.Frames.{StoreLaws, frames-put}
+use Rattle.machine.specs.Place.{Placed, Good}
 use Rattle.machine.proofs.Step.{startedBy, framesBy, move-placed}
 
 -- what a move needs of the room N at depth d
@@ -36,12 +37,6 @@ Possible (suc d) (skips f) = Unit {0}
 Possible (suc d) (pushes f e) = Unit {0}
 
 module _ (M : Machine) (S : Store (Frame (M .D))) where
-  -- a place in a search with the room N
-  pub record Good (N : ℕ) (h : Held (S .Cells)) : Type 0 where
-    pub placed : Placed M (h .started) (viewOf M S h)
-    pub deep : h .depth ≤ N
-    pub room : S .room (h .cells) ≡ N
-
   possible-by : (n d : ℕ) (c : S .Cells) → Possible d (moveBy M n (framesOf S c d))
   possible-by n zero c = by-start (length (M .initials) - n)
     where
@@ -109,13 +104,13 @@ module _ (M : Machine) (S : Store (Frame (M .D))) where
         frames-put S L (S .put c d f) (suc d) g (subst (λ (N : ℕ). suc d < N) (sym (L .room-put c d f)) r)
         ∙ ap (λ (x : List (Frame (M .D))). g ∷ x) (frames-put S L c d f k)
 
-    pub view-after : (N : ℕ) (h : Held (S .Cells)) → Good N h → (m : Move (Frame (M .D))) → Possible (h .depth) m → RoomFor N (h .depth) m
+    pub view-after : (N : ℕ) (h : Held (S .Cells)) → Good M S N h → (m : Move (Frame (M .D))) → Possible (h .depth) m → RoomFor N (h .depth) m
         → viewOf M S (effect M S m h) ≡ framesBy (tail (viewOf M S h)) m
     view-after N h G m p r =
         view-by (h .started) (h .depth) (h .cells) (subst (λ (k : ℕ). h .depth ≤ k) (sym (G .room)) (G .deep)) m p (subst (λ (k : ℕ). RoomFor k (h .depth) m) (sym (G .room)) r)
 
     -- a move that finds room keeps the place
-    pub move-good : (N : ℕ) (h : Held (S .Cells)) → Good N h → RoomFor N (h .depth) (move M S h) → Good N (effect M S (move M S h) h)
+    pub move-good : (N : ℕ) (h : Held (S .Cells)) → Good M S N h → RoomFor N (h .depth) (move M S h) → Good M S N (effect M S (move M S h) h)
     unfolding move
     move-good N h G r =
         record {
@@ -128,12 +123,12 @@ module _ (M : Machine) (S : Store (Frame (M .D))) where
     -- what a step leads to; where it finds, the new path accepts and its output is told and fits
     abbrev pub GoodStep : ℕ → ℕ → Stepped (S .Cells) → Type 0
     GoodStep N l ends = Unit {0}
-    GoodStep N l (moves d) = Good N d
-    GoodStep N l (finds d o) = Good N d × (accepts M (pathOf M S d) ≡ true) × (output M (pathOf M S d) ≡ o) × (length o ≤ l)
+    GoodStep N l (moves d) = Good M S N d
+    GoodStep N l (finds d o) = Good M S N d × (accepts M (pathOf M S d) ≡ true) × (output M (pathOf M S d) ≡ o) × (length o ≤ l)
     GoodStep N l (refuses r) = Unit {0}
 
     module _ (N l : ℕ) (d : Held (S .Cells)) where
-      pushed-good : (b : Bool) → (b ≡ true → Good N d) → GoodStep N l (pushed M S b l d)
+      pushed-good : (b : Bool) → (b ≡ true → Good M S N d) → GoodStep N l (pushed M S b l d)
       pushed-good false G = tt
       pushed-good true G = by-accept (accepts M (pathOf M S d)) refl
         where
@@ -145,13 +140,13 @@ module _ (M : Machine) (S : Store (Frame (M .D))) where
           by-accept false a = G refl
           by-accept true a = by-length a (ltb l (length (output M (pathOf M S d)))) refl
 
-    made-good : (N l : ℕ) (h : Held (S .Cells)) → S .room (h .cells) ≡ N → (m : Move (Frame (M .D))) → (RoomFor N (h .depth) m → Good N (effect M S m h)) → GoodStep N l (made M S l h m)
+    made-good : (N l : ℕ) (h : Held (S .Cells)) → S .room (h .cells) ≡ N → (m : Move (Frame (M .D))) → (RoomFor N (h .depth) m → Good M S N (effect M S m h)) → GoodStep N l (made M S l h m)
     made-good N l h e over G = tt
     made-good N l h e drops G = G tt
     made-good N l h e (begins f) G = pushed-good N l (effect M S (begins f) h) (ltb (h .depth) (S .room (h .cells))) (λ z. G (subst (λ (k : ℕ). h .depth < k) e (ltb-true _ _ z)))
     made-good N l h e (skips f) G = G tt
     made-good N l h e (pushes f g) G = pushed-good N l (effect M S (pushes f g) h) (ltb (h .depth) (S .room (h .cells))) (λ z. G (subst (λ (k : ℕ). h .depth < k) e (ltb-true _ _ z)))
 
-    pub step-good : (N l : ℕ) (h : Held (S .Cells)) → Good N h → GoodStep N l (step M S l h)
+    pub step-good : (N l : ℕ) (h : Held (S .Cells)) → Good M S N h → GoodStep N l (step M S l h)
     unfolding step
     step-good N l h G = made-good N l h (G .room) (move M S h) (move-good N h G)

@@ -309,6 +309,3 @@ module _ (M : Machine) where
 
   pub lists-same : (a b : List Path) → Lists M a → Lists M b → a ≡ b
   lists-same a b A B = rising-unique a b (A .rising) (B .rising) (λ p. (λ m. B .members p .1 (A .members p .0 m), λ m. A .members p .1 (B .members p .0 m)))
-
-  pub readings-listed : Bounded M → (ps : List Path) → Lists M ps → readings M (tour M) ≡ outputs M ps
-  readings-listed B ps P = readings-outputs (tour M) ∙ ap (outputs M) (lists-same (accepting M (pathsIn (tour M))) ps (tour-lists B) P)

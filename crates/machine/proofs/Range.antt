@@ -14,7 +14,8 @@ use Rattle.machine.specs.Query.{Side, Query}
 use Rattle.machine.specs.Machine.{Path, start, more, final, Allowed}
 use Rattle.machine.specs.Frames.{Frame, walkTo}
 use Rattle.machine.specs.Transducer.{noArc, Passed, passed, machine}
-use Rattle.machine.proofs.Frames.{Placed, walk-size}
+use Rattle.machine.proofs.Frames.{walk-size}
+use Rattle.machine.specs.Place.{Placed}
 use Rattle.machine.proofs.Transducer.{arc-of, at-mem, passed-size}
 
 pub below-length : (s : ℕ) (l : List Arc) → below s l ≤ length l

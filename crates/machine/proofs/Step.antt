@@ -9,7 +9,7 @@ use Rattle.machine.specs.Machine.{Machine, Path, start, more, datum, All
 use Rattle.machine.specs.Tour.{Entry, trail, branch, tourFrom}
 use Rattle.machine.specs.Frames.{Frame, walkTo, untried}
 use Rattle.machine.specs.Step.{Move, over, drops, begins, skips, pushes, triedOf, tryArc, moveTop, moveStart, moveBy}
-use Rattle.machine.proofs.Frames.{Placed}
+use Rattle.machine.specs.Place.{Placed}
 use Rattle.machine.proofs.Tour.{Unrolls}
 
 -- the count of initial states started and the frames after a move, where fs are the frames below the top one

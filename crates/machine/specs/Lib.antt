@@ -4,6 +4,7 @@ pub mod Machine
 pub mod Tour
 pub mod Order
 pub mod Frames
+pub mod Place
 pub mod Step
 pub mod Call
 pub mod Transducer

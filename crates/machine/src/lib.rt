@@ -22,6 +22,7 @@ pub struct Called {
     pub run: Run,
 }
 
+// What a start answers.
 pub enum StartAnswer {
     Ready,
     Refused(table::Refusal),

@@ -10,51 +10,40 @@ use Rattle.hex.proofs.decode.Reads as reads
 use Rattle.hex.proofs.decode.Lts as lts
 use Rattle.hex.proofs.value.Reads as value-reads
 
--- src/lib.rt:38:29
 value-requires : tie.Need-value-requires
 value-requires c κs = search needs
 
--- src/lib.rt:38:24
 enum-known-h : tie.Need-enum-known-h
 enum-known-h c = search needs
 
--- src/lib.rt:39:9
 enum-told : tie.Need-enum-told
 enum-told c = search needs
 
--- src/lib.rt:39:9
 returns : tie.Need-returns
 unfolding decoded joined
 returns c = sym (ap (λ (x : Decoded). joined x (valueOf (c .before .before .before .args .low))) (sym (c .before .before .value .ensures) ∙ c .enum-told .given .1))
 
--- src/lib.rt:41:29
 value-requires-2 : tie.Need-value-requires-2
 value-requires-2 c κs = search needs
 
--- src/lib.rt:41:24
 enum-known-l : tie.Need-enum-known-l
 enum-known-l c = search needs
 
--- src/lib.rt:42:9
 enum-told-2 : tie.Need-enum-told-2
 enum-told-2 c = search needs
 
--- src/lib.rt:42:9
 returns-2 : tie.Need-returns-2
 unfolding decoded joined
 returns-2 c =
     sym (ap₂ joined (sym (c .before .before .before .before .before .before .value .ensures) ∙ c .before .before .before .before .h .given .1) (sym (c .before .before .value2 .ensures) ∙ c .enum-told2 .given .1))
 
--- src/lib.rt:44:20
 mul-t7 : tie.Need-mul-t7
 mul-t7 c = omega (arith, value-small _ _ (sym (c .before .before .before .before .before .before .before .value .ensures) ∙ c .before .before .before .before .before .h .given .1))
 
--- src/lib.rt:44:20
 add-t8 : tie.Need-add-t8
 add-t8 c =
     omega (arith, value-small _ _ (sym (c .before .before .before .before .before .before .before .value .ensures) ∙ c .before .before .before .before .before .h .given .1), value-small _ _ (sym (c .before .before .before .value2 .ensures) ∙ c .before .l .given .1))
 
--- src/lib.rt:35:1
 returns-3 : tie.Need-returns-3
 returns-3 c = sym (decoded-of _ _ _ _ (sym (c .before .before .before .before .before .before .before .value .ensures) ∙ c .before .before .before .before .before .h .given .1) (sym (c .before .before .before .value2 .ensures) ∙ c .before .l .given .1))
 

@@ -6,19 +6,15 @@ use Rattle.hex.proofs.digit.Tie as tie
 use Rattle.hex.proofs.digit.Reads as reads
 use Rattle.hex.proofs.digit.Lts as lts
 
--- src/lib.rt:52:17
 add-result : tie.Need-add-result
 add-result c = search needs
 
--- src/lib.rt:52:33
 add-result-2 : tie.Need-add-result-2
 add-result-2 c = search needs
 
--- src/lib.rt:48:1
 returns : tie.Need-returns
 returns c = sym (digit-low _ (c .if1 .taken))
 
--- src/lib.rt:48:1
 returns-2 : tie.Need-returns-2
 returns-2 c = sym (digit-high _ (c .if1 .left))
 

@@ -6,15 +6,12 @@ use Rattle.hex.proofs.encode.Reads as reads
 use Rattle.hex.proofs.encode.Lts as lts
 use Rattle.hex.proofs.digit.Reads as digit-reads
 
--- src/lib.rt:60:15
 digit-requires : tie.Need-digit-requires
 digit-requires c κs = search needs
 
--- src/lib.rt:61:14
 digit-requires-2 : tie.Need-digit-requires-2
 digit-requires-2 c κs = search needs
 
--- src/lib.rt:56:1
 returns : tie.Need-returns
 unfolding encoded
 returns c = cc (c .before .digit .ensures, c .digit2 .ensures)

@@ -6,27 +6,21 @@ use Rattle.hex.proofs.value.Tie as tie
 use Rattle.hex.proofs.value.Reads as reads
 use Rattle.hex.proofs.value.Lts as lts
 
--- src/lib.rt:23:13
 returns : tie.Need-returns
 returns c = sym (value-low _ (c .before .if1 .taken) (c .if2 .taken))
 
--- src/lib.rt:27:39
 sub-t6 : tie.Need-sub-t6
 sub-t6 c = search needs
 
--- src/lib.rt:27:17
 returns-2 : tie.Need-returns-2
 returns-2 c = sym (value-high _ (c .before .if3 .taken) (c .if4 .taken))
 
--- src/lib.rt:18:1
 returns-3 : tie.Need-returns-3
 returns-3 c = sym (value-above _ (c .if4 .left))
 
--- src/lib.rt:18:1
 returns-4 : tie.Need-returns-4
 returns-4 c = sym (value-between _ (c .before .if2 .left) (c .if3 .left))
 
--- src/lib.rt:18:1
 returns-5 : tie.Need-returns-5
 returns-5 c = sym (value-below _ (c .if1 .left))
 

@@ -25,60 +25,46 @@ Inv-loop cells states top₀ at₀ top at = (at ≤ length cells) × (at ≡ 4 *
 abbrev μ-loop : tie.MeasureT-loop
 μ-loop cells states top₀ at₀ top at = length cells - at
 
--- src/checker.rt:53:5
 loop-holds : tie.Need-loop-holds Inv-loop μ-loop
 unfolding largest each arcsIn
 loop-holds c = (omega arith, omega arith, omega arith, refl)
 
--- src/checker.rt:54:22
 mul-source : tie.Need-mul-source Inv-loop μ-loop
 mul-source c = search needs
 
--- src/checker.rt:54:22
 shared-slice-read-source : tie.Need-shared-slice-read-source Inv-loop μ-loop
 shared-slice-read-source c = search needs
 
--- src/checker.rt:55:27
 add-upper : tie.Need-add-upper Inv-loop μ-loop
 add-upper c = search needs
 
--- src/checker.rt:55:21
 mul-upper : tie.Need-mul-upper Inv-loop μ-loop
 mul-upper c = search needs
 
--- src/checker.rt:55:21
 shared-slice-read-upper : tie.Need-shared-slice-read-upper Inv-loop μ-loop
 shared-slice-read-upper c = search needs
 
--- src/checker.rt:56:27
 add-lower : tie.Need-add-lower Inv-loop μ-loop
 add-lower c = search needs
 
--- src/checker.rt:56:21
 mul-lower : tie.Need-mul-lower Inv-loop μ-loop
 mul-lower c = search needs
 
--- src/checker.rt:56:21
 shared-slice-read-lower : tie.Need-shared-slice-read-lower Inv-loop μ-loop
 shared-slice-read-lower c = search needs
 
--- src/checker.rt:57:28
 add-target : tie.Need-add-target Inv-loop μ-loop
 add-target c = search needs
 
--- src/checker.rt:57:22
 mul-target : tie.Need-mul-target Inv-loop μ-loop
 mul-target c = search needs
 
--- src/checker.rt:57:22
 shared-slice-read-target : tie.Need-shared-slice-read-target Inv-loop μ-loop
 shared-slice-read-target c = search needs
 
--- src/checker.rt:58:45
 slice-aggregate-arc-fault : tie.Need-slice-aggregate-arc-fault Inv-loop μ-loop
 slice-aggregate-arc-fault c = sym (length-take-le (c .before .before .before .before .before .before .loop .at) (now (c .before .before .before .before .before .before .before .before .args .cells)) (omega arith))
 
--- src/checker.rt:58:28
 arc-fault-requires : tie.Need-arc-fault-requires Inv-loop μ-loop
 arc-fault-requires c κs =
     let w = whole (now (c .before .before .before .before .before .before .before .before .args .cells)) (c .before .before .before .before .before .before .loop .at) (omega arith) (omega arith) in
@@ -88,30 +74,24 @@ arc-fault-requires c κs =
 enum-told : tie.Need-enum-told Inv-loop μ-loop
 enum-told c = search needs
 
--- src/checker.rt:59:13
 enum-told-2 : tie.Need-enum-told-2 Inv-loop μ-loop
 enum-told-2 c = search needs
 
--- src/checker.rt:59:13
 returns : tie.Need-returns Inv-loop μ-loop
 returns c =
     sym
     (fail-arc (c .before .before .before .before .before .before .before .before .before .before .before .args .states) (now (c .before .before .before .before .before .before .before .before .before .before .before .args .cells)) (c .before .before .before .before .before .before .before .before .before .loop .at) (omega arith) (omega arith) (c .enum-told2 .given .0 .0) (length (now (c .before .before .before .before .before .before .before .before .before .before .before .args .cells)) / 4) (omega (arith, c .before .before .before .before .before .before .before .before .before .before .before .pre))
     (sym (c .before .before .arc-fault .ensures) ∙ c .enum-told2 .given .1))
 
--- src/checker.rt:61:13
 arc-key-requires : tie.Need-arc-key-requires Inv-loop μ-loop
 arc-key-requires c κs = search needs
 
--- src/checker.rt:65:9
 add-at : tie.Need-add-at Inv-loop μ-loop
 add-at c = search needs
 
--- src/checker.rt:53:5
 loop-less : tie.Need-loop-less Inv-loop μ-loop
 loop-less c = search needs
 
--- src/checker.rt:53:5
 loop-again : tie.Need-loop-again Inv-loop μ-loop
 loop-again c =
     let below : largest arcKey (arcsIn (c .before .before .before .before .before .before .before .before .before .before .before .loop .at / 4) (now (c .before .before .before .before .before .before .before .before .before .before .before .before .before .args .cells))) ≤ c .if1 .top = ⊎-elim (λ w. omega arith) (λ w. omega arith) (c .if1 .came) in
@@ -123,7 +103,6 @@ loop-again c =
       keep-arc (c .before .before .before .before .before .before .before .before .before .before .before .before .before .args .states) (now (c .before .before .before .before .before .before .before .before .before .before .before .before .before .args .cells)) (c .before .before .before .before .before .before .before .before .before .before .before .loop .at) (omega arith) (omega arith) (c .before .before .before .before .before .before .before .before .before .before .before .loop .inv .3) (sym (c .before .before .before .before .arc-fault .ensures) ∙ c .before .before .enum-told .given .1),
     )
 
--- src/checker.rt:47:1
 returns-2 : tie.Need-returns-2 Inv-loop μ-loop
 returns-2 c = sym (sym (at-equal (λ n. arcsKeep (c .before .before .before .args .states) (arcsIn n (now (c .before .before .before .args .cells)))) (c .before .loop .at / 4) (length (now (c .before .before .before .args .cells)) / 4) (omega arith)) ∙ c .before .loop .inv .3)
 

@@ -19,43 +19,35 @@ use Rattle.table.proofs.checker.layout.Reads as layout-reads
 abbrev indexed : List ℕ → Checked
 indexed f = record { ok = true; first = f }
 
--- src/checker.rt:138:9
 layout-requires : tie.Need-layout-requires
 layout-requires c κs = search needs
 
--- src/checker.rt:142:12
 keeps-rules-requires : tie.Need-keeps-rules-requires
 keeps-rules-requires c κs = laid-out (now (c .before .before .before .args .cells)) (c .before .layout .result) (c .before .layout .ensures) (c .if1 .taken)
 
--- src/checker.rt:145:35
 mul-first-arcs : tie.Need-mul-first-arcs
 mul-first-arcs c =
     let l = laid-out (now (c .before .before .before .before .before .args .cells)) (c .before .before .before .layout .result) (c .before .before .before .layout .ensures) (c .before .before .if1 .taken) in
     omega (arith, l .arcs-is, l .end-is, l .whole)
 
--- src/checker.rt:145:35
 sub-first-arcs : tie.Need-sub-first-arcs
 sub-first-arcs c =
     let l = laid-out (now (c .before .before .before .before .before .args .cells)) (c .before .before .before .layout .result) (c .before .before .before .layout .ensures) (c .before .before .if1 .taken) in
     omega (arith, l .arcs-is, l .end-is, l .whole)
 
--- src/checker.rt:145:35
 part-first-arcs-start : tie.Need-part-first-arcs-start
 part-first-arcs-start c =
     let l = laid-out (now (c .before .before .before .before .before .args .cells)) (c .before .before .before .layout .result) (c .before .before .before .layout .ensures) (c .before .before .if1 .taken) in
     omega (arith, l .arcs-is, l .end-is, l .whole)
 
--- src/checker.rt:145:35
 part-first-arcs-end : tie.Need-part-first-arcs-end
 part-first-arcs-end c =
     let l = laid-out (now (c .before .before .before .before .before .args .cells)) (c .before .before .before .layout .result) (c .before .before .before .layout .ensures) (c .before .before .if1 .taken) in
     omega (arith, l .arcs-is, l .end-is, l .whole)
 
--- src/checker.rt:145:24
 first-arcs-requires : tie.Need-first-arcs-requires
 first-arcs-requires c κs = index-ready (now (c .before .before .before .before .before .before .args .cells)) (c .before .before .before .before .layout .result) (laid-out (now (c .before .before .before .before .before .before .args .cells)) (c .before .before .before .before .layout .result) (c .before .before .before .before .layout .ensures) (c .before .before .before .if1 .taken)) (sym (c .before .before .keeps-rules .ensures) ∙ c .before .if2 .taken)
 
--- src/checker.rt:143:13
 returns : tie.Need-returns
 unfolding checked
 returns c =
@@ -63,12 +55,10 @@ returns c =
     ap (λ (f : List ℕ). indexed f) (c .first-arcs .ensures ∙ index-part (now (c .before .before .before .before .before .before .before .args .cells)) (c .before .before .before .before .before .layout .result) l)
     ∙ ap checkedAs (sym (loaded-kept (now (c .before .before .before .before .before .before .before .args .cells)) (l .whole) (sym (c .before .before .before .keeps-rules .ensures) ∙ c .before .before .if2 .taken)))
 
--- src/checker.rt:135:1
 returns-2 : tie.Need-returns-2
 unfolding checked
 returns-2 c = ap checkedAs (sym (loaded-broken (now (c .before .before .before .before .before .args .cells)) (sym (c .before .keeps-rules .ensures) ∙ c .if2 .left)))
 
--- src/checker.rt:135:1
 returns-3 : tie.Need-returns-3
 unfolding checked
 returns-3 c = ap checkedAs (sym (loaded-short (now (c .before .before .before .args .cells)) (omega (arith, ap (λ x. x .end) (c .before .layout .ensures)))))

@@ -28,36 +28,28 @@ Inv-loop2 cells states first₀ at q₀ first q = (q ≤ states) × Sums (arcsAs
 abbrev μ-loop2 : tie.MeasureT-loop2
 μ-loop2 cells states first₀ at q₀ first q = states - q
 
--- src/loaded.rt:79:5
 loop-holds : tie.Need-loop-holds Inv-loop μ-loop Inv-loop2 μ-loop2
 unfolding arcsIn
 loop-holds c = (omega arith, omega arith, counts-none)
 
--- src/loaded.rt:80:20
 mul-next : tie.Need-mul-next Inv-loop μ-loop Inv-loop2 μ-loop2
 mul-next c = search needs
 
--- src/loaded.rt:80:20
 shared-slice-read-next : tie.Need-shared-slice-read-next Inv-loop μ-loop Inv-loop2 μ-loop2
 shared-slice-read-next c = search needs
 
--- src/loaded.rt:80:20
 cast-next : tie.Need-cast-next Inv-loop μ-loop Inv-loop2 μ-loop2
 cast-next c = omega (arith, source-inside (c .before .before .before .args .states) (now (c .before .before .before .args .cells)) (length (now (c .before .before .before .args .cells)) / 4) (c .before .before .loop .at) (omega arith) (omega (arith, c .before .before .before .pre .0)) (c .before .before .before .pre .1 .1))
 
--- src/loaded.rt:80:20
 add-next : tie.Need-add-next Inv-loop μ-loop Inv-loop2 μ-loop2
 add-next c = omega (arith, source-inside (c .before .before .before .args .states) (now (c .before .before .before .args .cells)) (length (now (c .before .before .before .args .cells)) / 4) (c .before .before .loop .at) (omega arith) (omega (arith, c .before .before .before .pre .0)) (c .before .before .before .pre .1 .1))
 
--- src/loaded.rt:81:23
 mul-first : tie.Need-mul-first Inv-loop μ-loop Inv-loop2 μ-loop2
 mul-first c = omega (arith, source-inside (c .before .before .before .args .states) (now (c .before .before .before .args .cells)) (length (now (c .before .before .before .args .cells)) / 4) (c .before .before .loop .at) (omega arith) (omega (arith, c .before .before .before .pre .0)) (c .before .before .before .pre .1 .1))
 
--- src/loaded.rt:81:23
 array-read-first : tie.Need-array-read-first Inv-loop μ-loop Inv-loop2 μ-loop2
 array-read-first c = omega (arith, source-inside (c .before .before .before .args .states) (now (c .before .before .before .args .cells)) (length (now (c .before .before .before .args .cells)) / 4) (c .before .before .loop .at) (omega arith) (omega (arith, c .before .before .before .pre .0)) (c .before .before .before .pre .1 .1))
 
--- src/loaded.rt:81:23
 add-first : tie.Need-add-first Inv-loop μ-loop Inv-loop2 μ-loop2
 add-first c =
     omega (
@@ -68,23 +60,18 @@ add-first c =
       length-arcs (c .before .before .loop .at / 4) (now (c .before .before .before .args .cells)),
     )
 
--- src/loaded.rt:81:9
 mul-first-2 : tie.Need-mul-first-2 Inv-loop μ-loop Inv-loop2 μ-loop2
 mul-first-2 c = omega (arith, source-inside (c .before .before .before .args .states) (now (c .before .before .before .args .cells)) (length (now (c .before .before .before .args .cells)) / 4) (c .before .before .loop .at) (omega arith) (omega (arith, c .before .before .before .pre .0)) (c .before .before .before .pre .1 .1))
 
--- src/loaded.rt:81:9
 array-write-first : tie.Need-array-write-first Inv-loop μ-loop Inv-loop2 μ-loop2
 array-write-first c = omega (arith, source-inside (c .before .before .before .args .states) (now (c .before .before .before .args .cells)) (length (now (c .before .before .before .args .cells)) / 4) (c .before .before .loop .at) (omega arith) (omega (arith, c .before .before .before .pre .0)) (c .before .before .before .pre .1 .1))
 
--- src/loaded.rt:82:9
 add-at : tie.Need-add-at Inv-loop μ-loop Inv-loop2 μ-loop2
 add-at c = search needs
 
--- src/loaded.rt:79:5
 loop-less : tie.Need-loop-less Inv-loop μ-loop Inv-loop2 μ-loop2
 loop-less c = search needs
 
--- src/loaded.rt:79:5
 loop-again : tie.Need-loop-again Inv-loop μ-loop Inv-loop2 μ-loop2
 loop-again c = (
   omega arith,
@@ -93,7 +80,6 @@ loop-again c = (
       (counts-more (arcsIn (c .before .before .loop .at / 4) (now (c .before .before .before .args .cells))) (arcHere (now (c .before .before .before .args .cells)) (c .before .before .loop .at)) (c .before .before .loop .first) (omega (arith, source-inside (c .before .before .before .args .states) (now (c .before .before .before .args .cells)) (length (now (c .before .before .before .args .cells)) / 4) (c .before .before .loop .at) (omega arith) (omega (arith, c .before .before .before .pre .0)) (c .before .before .before .pre .1 .1))) (c .before .before .loop .inv .2)),
 )
 
--- src/loaded.rt:85:5
 loop2-holds : tie.Need-loop2-holds Inv-loop μ-loop Inv-loop2 μ-loop2
 loop2-holds c = (
   omega arith,
@@ -101,27 +87,21 @@ loop2-holds c = (
       (subst (λ (n : ℕ). Counts (arcsIn n (now (c .before .before .args .cells))) (c .before .loop .first)) (omega (arith, c .before .before .pre .0)) (c .before .loop .inv .2)),
 )
 
--- src/loaded.rt:86:30
 add-first-2 : tie.Need-add-first-2 Inv-loop μ-loop Inv-loop2 μ-loop2
 add-first-2 c = search needs
 
--- src/loaded.rt:86:24
 mul-first-3 : tie.Need-mul-first-3 Inv-loop μ-loop Inv-loop2 μ-loop2
 mul-first-3 c = search needs
 
--- src/loaded.rt:86:24
 array-read-first-2 : tie.Need-array-read-first-2 Inv-loop μ-loop Inv-loop2 μ-loop2
 array-read-first-2 c = omega arith
 
--- src/loaded.rt:86:39
 mul-first-4 : tie.Need-mul-first-4 Inv-loop μ-loop Inv-loop2 μ-loop2
 mul-first-4 c = search needs
 
--- src/loaded.rt:86:39
 array-read-first-3 : tie.Need-array-read-first-3 Inv-loop μ-loop Inv-loop2 μ-loop2
 array-read-first-3 c = omega arith
 
--- src/loaded.rt:86:24
 add-first-3 : tie.Need-add-first-3 Inv-loop μ-loop Inv-loop2 μ-loop2
 add-first-3 c =
     omega (
@@ -133,31 +113,24 @@ add-first-3 c =
       length-arcs (length (now (c .before .before .before .before .args .cells)) / 4) (now (c .before .before .before .before .args .cells)),
     )
 
--- src/loaded.rt:86:15
 add-first-4 : tie.Need-add-first-4 Inv-loop μ-loop Inv-loop2 μ-loop2
 add-first-4 c = search needs
 
--- src/loaded.rt:86:9
 mul-first-5 : tie.Need-mul-first-5 Inv-loop μ-loop Inv-loop2 μ-loop2
 mul-first-5 c = search needs
 
--- src/loaded.rt:86:9
 array-write-first-2 : tie.Need-array-write-first-2 Inv-loop μ-loop Inv-loop2 μ-loop2
 array-write-first-2 c = omega arith
 
--- src/loaded.rt:87:9
 add-q : tie.Need-add-q Inv-loop μ-loop Inv-loop2 μ-loop2
 add-q c = search needs
 
--- src/loaded.rt:85:5
 loop2-less : tie.Need-loop2-less Inv-loop μ-loop Inv-loop2 μ-loop2
 loop2-less c = search needs
 
--- src/loaded.rt:85:5
 loop2-again : tie.Need-loop2-again Inv-loop μ-loop Inv-loop2 μ-loop2
 loop2-again c = (omega arith, sums-more (arcsAs (now (c .before .before .before .before .args .cells))) (c .before .loop2 .q) (c .before .loop2 .first) (omega arith) (c .before .loop2 .inv .1))
 
--- src/loaded.rt:71:1
 returns : tie.Need-returns Inv-loop μ-loop Inv-loop2 μ-loop2
 returns c =
     sums-all (c .before .before .before .before .args .states) (arcsAs (now (c .before .before .before .before .args .cells))) (c .before .loop2 .first) (omega arith) (c .before .before .before .before .pre .1 .1)

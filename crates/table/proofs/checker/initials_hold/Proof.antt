@@ -24,51 +24,40 @@ Inv-loop list states top₀ k₀ top k = (k ≤ length list) × (largest stateKe
 abbrev μ-loop : tie.MeasureT-loop
 μ-loop list states top₀ k₀ top k = length list - k
 
--- src/checker.rt:21:5
 loop-holds : tie.Need-loop-holds Inv-loop μ-loop
 unfolding largest each
 loop-holds c = (omega arith, omega arith, refl)
 
--- src/checker.rt:22:17
 mul-s : tie.Need-mul-s Inv-loop μ-loop
 mul-s c = search needs
 
--- src/checker.rt:22:17
 shared-slice-read-s : tie.Need-shared-slice-read-s Inv-loop μ-loop
 shared-slice-read-s c = search needs
 
--- src/checker.rt:23:49
 slice-aggregate-initial-fault : tie.Need-slice-aggregate-initial-fault Inv-loop μ-loop
 slice-aggregate-initial-fault c = sym (length-take-le (c .before .before .before .loop .k) (now (c .before .before .before .before .before .args .list)) (omega arith))
 
--- src/checker.rt:23:28
 initial-fault-requires : tie.Need-initial-fault-requires Inv-loop μ-loop
 initial-fault-requires c κs = search needs
 
 enum-told : tie.Need-enum-told Inv-loop μ-loop
 enum-told c = search needs
 
--- src/checker.rt:24:13
 enum-told-2 : tie.Need-enum-told-2 Inv-loop μ-loop
 enum-told-2 c = search needs
 
--- src/checker.rt:24:13
 returns : tie.Need-returns Inv-loop μ-loop
 returns c = sym (keep-fails (initialFaults (c .before .before .before .before .before .before .before .before .args .states)) 0 (now (c .before .before .before .before .before .before .before .before .args .list)) (c .before .before .before .before .before .before .loop .k) (c .enum-told2 .given .0 .0) (c .before .before .before .before .before .loop-test .taken) (sym (c .before .before .initial-fault .ensures) ∙ c .enum-told2 .given .1))
 
--- src/checker.rt:26:13
 state-key-requires : tie.Need-state-key-requires Inv-loop μ-loop
 state-key-requires c κs = search needs
 
--- src/checker.rt:30:9
 add-k : tie.Need-add-k Inv-loop μ-loop
 add-k c = search needs
 
--- src/checker.rt:21:5
 loop-less : tie.Need-loop-less Inv-loop μ-loop
 loop-less c = search needs
 
--- src/checker.rt:21:5
 loop-again : tie.Need-loop-again Inv-loop μ-loop
 loop-again c =
     let kept : initialsKeep (c .before .before .before .before .before .before .before .before .before .before .args .states) (take (c .before .before .before .before .before .before .before .before .loop .k + 1) (now (c .before .before .before .before .before .before .before .before .before .before .args .list))) ≡ true =
@@ -79,7 +68,6 @@ loop-again c =
     ⊎-elim (λ w. omega (arith, c .before .state-key .ensures)) (λ w. omega (arith, c .before .state-key .ensures)) (c .if1 .came) in
     (omega arith, top-more stateKey 0 (now (c .before .before .before .before .before .before .before .before .before .before .args .list)) (c .before .before .before .before .before .before .before .before .loop .k) (c .if1 .top) (c .before .before .before .before .before .before .before .loop-test .taken) below own, kept)
 
--- src/checker.rt:16:1
 returns-2 : tie.Need-returns-2 Inv-loop μ-loop
 returns-2 c = sym (each-done _ (now (c .before .before .before .args .list)) (c .before .loop .k) (c .loop-test .left) (c .before .loop .inv .2))
 

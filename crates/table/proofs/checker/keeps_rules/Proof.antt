@@ -12,79 +12,60 @@ use Rattle.table.proofs.checker.initials_hold.Reads as initials-hold-re
 use Rattle.table.proofs.checker.terminals_hold.Reads as terminals-hold-reads
 use Rattle.table.proofs.judge.counts_hold.Reads as counts-hold-reads
 
--- src/checker.rt:124:35
 shared-slice-read-counts-hold : tie.Need-shared-slice-read-counts-hold
 shared-slice-read-counts-hold c = search needs
 
--- src/checker.rt:124:45
 shared-slice-read-counts-hold-2 : tie.Need-shared-slice-read-counts-hold-2
 shared-slice-read-counts-hold-2 c = search needs
 
--- src/checker.rt:124:55
 shared-slice-read-counts-hold-3 : tie.Need-shared-slice-read-counts-hold-3
 shared-slice-read-counts-hold-3 c = search needs
 
--- src/checker.rt:124:8
 counts-hold-requires : tie.Need-counts-hold-requires
 counts-hold-requires c κs = search needs
 
--- src/checker.rt:125:26
 sub-initials-hold : tie.Need-sub-initials-hold
 sub-initials-hold c = search needs
 
--- src/checker.rt:125:26
 part-initials-hold-start : tie.Need-part-initials-hold-start
 part-initials-hold-start c = search needs
 
--- src/checker.rt:125:26
 part-initials-hold-end : tie.Need-part-initials-hold-end
 part-initials-hold-end c = search needs
 
--- src/checker.rt:125:12
 initials-hold-requires : tie.Need-initials-hold-requires
 initials-hold-requires c κs = search needs
 
--- src/checker.rt:126:31
 mul-terminals-hold : tie.Need-mul-terminals-hold
 mul-terminals-hold c = search needs
 
--- src/checker.rt:126:31
 sub-terminals-hold : tie.Need-sub-terminals-hold
 sub-terminals-hold c = search needs
 
--- src/checker.rt:126:31
 part-terminals-hold-start : tie.Need-part-terminals-hold-start
 part-terminals-hold-start c = search needs
 
--- src/checker.rt:126:31
 part-terminals-hold-end : tie.Need-part-terminals-hold-end
 part-terminals-hold-end c = search needs
 
--- src/checker.rt:126:16
 terminals-hold-requires : tie.Need-terminals-hold-requires
 terminals-hold-requires c κs = search needs
 
--- src/checker.rt:127:34
 mul-arcs-hold : tie.Need-mul-arcs-hold
 mul-arcs-hold c = search needs
 
--- src/checker.rt:127:34
 sub-arcs-hold : tie.Need-sub-arcs-hold
 sub-arcs-hold c = search needs
 
--- src/checker.rt:127:34
 part-arcs-hold-start : tie.Need-part-arcs-hold-start
 part-arcs-hold-start c = search needs
 
--- src/checker.rt:127:34
 part-arcs-hold-end : tie.Need-part-arcs-hold-end
 part-arcs-hold-end c = search needs
 
--- src/checker.rt:127:17
 arcs-hold-requires : tie.Need-arcs-hold-requires
 arcs-hold-requires c κs = arcs-whole (now (c .before .before .before .before .before .before .before .before .before .before .before .before .before .args .cells)) (c .before .before .before .before .before .before .before .before .before .before .before .before .before .args .at) (c .before .before .before .before .before .before .before .before .before .before .before .before .before .pre)
 
--- src/checker.rt:127:17
 returns : tie.Need-returns
 returns c =
     c .arcs-hold .ensures
@@ -92,20 +73,17 @@ returns c =
     (rules-parts (now (c .before .before .before .before .before .before .before .before .before .before .before .before .before .before .args .cells)) (c .before .before .before .before .before .before .before .before .before .before .before .before .before .before .args .at) (c .before .before .before .before .before .before .before .before .before .before .before .before .before .before .pre)
     ∙ simp (sym (c .before .before .before .before .before .before .before .before .before .counts-hold .ensures) ∙ c .before .before .before .before .before .before .before .before .if1 .taken, sym (c .before .before .before .before .before .before .initials-hold .ensures) ∙ c .before .before .before .before .before .if2 .taken, sym (c .before .before .before .terminals-hold .ensures) ∙ c .before .before .if3 .taken))
 
--- src/checker.rt:116:1
 returns-2 : tie.Need-returns-2
 returns-2 c =
     sym
     (rules-parts (now (c .before .before .before .before .before .before .before .before .before .before .before .before .args .cells)) (c .before .before .before .before .before .before .before .before .before .before .before .before .args .at) (c .before .before .before .before .before .before .before .before .before .before .before .before .pre)
     ∙ simp (sym (c .before .before .before .before .before .before .before .counts-hold .ensures) ∙ c .before .before .before .before .before .before .if1 .taken, sym (c .before .before .before .before .initials-hold .ensures) ∙ c .before .before .before .if2 .taken, sym (c .before .terminals-hold .ensures) ∙ c .if3 .left))
 
--- src/checker.rt:116:1
 returns-3 : tie.Need-returns-3
 returns-3 c =
     sym
     (rules-parts (now (c .before .before .before .before .before .before .before .before .before .args .cells)) (c .before .before .before .before .before .before .before .before .before .args .at) (c .before .before .before .before .before .before .before .before .before .pre) ∙ simp (sym (c .before .before .before .before .counts-hold .ensures) ∙ c .before .before .before .if1 .taken, sym (c .before .initials-hold .ensures) ∙ c .if2 .left))
 
--- src/checker.rt:116:1
 returns-4 : tie.Need-returns-4
 returns-4 c = sym (rules-parts (now (c .before .before .before .before .before .before .args .cells)) (c .before .before .before .before .before .before .args .at) (c .before .before .before .before .before .before .pre) ∙ simp (sym (c .before .counts-hold .ensures) ∙ c .if1 .left))
 

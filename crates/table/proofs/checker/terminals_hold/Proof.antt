@@ -22,47 +22,37 @@ Inv-loop list states k₀ k = (k ≤ length list) × (terminalsKeep states (take
 abbrev μ-loop : tie.MeasureT-loop
 μ-loop list states k₀ k = length list - k
 
--- src/loaded.rt:38:5
 loop-holds : tie.Need-loop-holds Inv-loop μ-loop
 unfolding each
 loop-holds c = (omega arith, refl)
 
--- src/loaded.rt:39:50
 slice-aggregate-terminal-fault : tie.Need-slice-aggregate-terminal-fault Inv-loop μ-loop
 slice-aggregate-terminal-fault c = sym (length-take-le (c .before .before .loop .k) (now (c .before .before .before .before .args .list)) (omega arith))
 
--- src/loaded.rt:39:70
 mul-terminal-fault : tie.Need-mul-terminal-fault Inv-loop μ-loop
 mul-terminal-fault c = search needs
 
--- src/loaded.rt:39:70
 shared-slice-read-terminal-fault : tie.Need-shared-slice-read-terminal-fault Inv-loop μ-loop
 shared-slice-read-terminal-fault c = search needs
 
--- src/loaded.rt:39:28
 terminal-fault-requires : tie.Need-terminal-fault-requires Inv-loop μ-loop
 terminal-fault-requires c κs = search needs
 
 enum-told : tie.Need-enum-told Inv-loop μ-loop
 enum-told c = search needs
 
--- src/loaded.rt:40:13
 enum-told-2 : tie.Need-enum-told-2 Inv-loop μ-loop
 enum-told-2 c = search needs
 
--- src/loaded.rt:40:13
 returns : tie.Need-returns Inv-loop μ-loop
 returns c = sym (keep-fails (terminalFaults (c .before .before .before .before .before .before .before .before .args .states)) 0 (now (c .before .before .before .before .before .before .before .before .args .list)) (c .before .before .before .before .before .before .loop .k) (c .enum-told2 .given .0 .0) (c .before .before .before .before .before .loop-test .taken) (sym (c .before .before .terminal-fault .ensures) ∙ c .enum-told2 .given .1))
 
--- src/loaded.rt:42:9
 add-k : tie.Need-add-k Inv-loop μ-loop
 add-k c = search needs
 
--- src/loaded.rt:38:5
 loop-less : tie.Need-loop-less Inv-loop μ-loop
 loop-less c = search needs
 
--- src/loaded.rt:38:5
 loop-again : tie.Need-loop-again Inv-loop μ-loop
 loop-again c = (
   omega arith,
@@ -70,7 +60,6 @@ loop-again c = (
       (sym (c .before .before .terminal-fault .ensures) ∙ c .enum-told .given .1),
 )
 
--- src/loaded.rt:34:1
 returns-2 : tie.Need-returns-2 Inv-loop μ-loop
 returns-2 c = sym (each-done _ (now (c .before .before .before .args .list)) (c .before .loop .k) (c .loop-test .left) (c .before .loop .inv .1))
 

@@ -13,38 +13,30 @@ use Rattle.table.proofs.judge.arc_key.Reads as arc-key-reads
 use Rattle.table.proofs.judge.is_repeated.Reads as is-repeated-reads
 use Rattle.table.proofs.judge.last_source.Reads as last-source-reads
 
--- src/judge.rt:142:9
 returns : tie.Need-returns
 returns c = sym (arc-source-out (c .before .before .args .states) (arcsAs (now (c .before .before .args .before))) (arcAs (c .before .before .args .source) (c .before .before .args .upper) (c .before .before .args .lower) (c .before .before .args .target)) (c .if1 .taken))
 
--- src/judge.rt:145:9
 returns-2 : tie.Need-returns-2
 returns-2 c = sym (arc-target-out (c .before .before .before .args .states) (arcsAs (now (c .before .before .before .args .before))) (arcAs (c .before .before .before .args .source) (c .before .before .before .args .upper) (c .before .before .before .args .lower) (c .before .before .before .args .target)) (c .before .if1 .left) (c .if2 .taken))
 
--- src/judge.rt:148:9
 returns-3 : tie.Need-returns-3
 returns-3 c = sym (arc-upper-out (c .before .before .before .before .args .states) (arcsAs (now (c .before .before .before .before .args .before))) (arcAs (c .before .before .before .before .args .source) (c .before .before .before .before .args .upper) (c .before .before .before .before .args .lower) (c .before .before .before .before .args .target)) (c .before .before .if1 .left) (c .before .if2 .left) (c .if3 .taken))
 
--- src/judge.rt:151:9
 returns-4 : tie.Need-returns-4
 returns-4 c = sym (arc-lower-out (c .before .before .before .before .before .args .states) (arcsAs (now (c .before .before .before .before .before .args .before))) (arcAs (c .before .before .before .before .before .args .source) (c .before .before .before .before .before .args .upper) (c .before .before .before .before .before .args .lower) (c .before .before .before .before .before .args .target)) (c .before .before .before .if1 .left) (c .before .before .if2 .left) (c .before .if3 .left) (c .if4 .taken))
 
--- src/judge.rt:153:17
 last-source-requires : tie.Need-last-source-requires
 last-source-requires c κs = search needs
 
--- src/judge.rt:154:9
 returns-5 : tie.Need-returns-5
 returns-5 c =
     sym
     (arc-falls (c .before .before .before .before .before .before .before .args .states) (arcsAs (now (c .before .before .before .before .before .before .before .args .before))) (arcAs (c .before .before .before .before .before .before .before .args .source) (c .before .before .before .before .before .before .before .args .upper) (c .before .before .before .before .before .before .before .args .lower) (c .before .before .before .before .before .before .before .args .target)) (c .before .before .before .before .before .if1 .left) (c .before .before .before .before .if2 .left) (c .before .before .before .if3 .left) (c .before .before .if4 .left)
     (source-falls (arcsAs (now (c .before .before .before .before .before .before .before .args .before))) (arcAs (c .before .before .before .before .before .before .before .args .source) (c .before .before .before .before .before .before .before .args .upper) (c .before .before .before .before .before .before .before .args .lower) (c .before .before .before .before .before .before .before .args .target)) (omega (arith, c .before .last-source .ensures))))
 
--- src/judge.rt:156:14
 arc-key-requires : tie.Need-arc-key-requires
 arc-key-requires c κs = search needs
 
--- src/judge.rt:157:9
 returns-6 : tie.Need-returns-6
 returns-6 c =
     sym
@@ -52,18 +44,15 @@ returns-6 c =
     (source-rises (arcsAs (now (c .before .before .before .before .before .before .before .before .before .args .before))) (arcAs (c .before .before .before .before .before .before .before .before .before .args .source) (c .before .before .before .before .before .before .before .before .before .args .upper) (c .before .before .before .before .before .before .before .before .before .args .lower) (c .before .before .before .before .before .before .before .before .before .args .target)) (omega (arith, c .before .before .before .last-source .ensures)))
     (new-arc _ _ (c .before .before .before .before .before .before .before .before .before .args .top) (c .before .before .before .before .before .before .before .before .before .pre .1 .1) (omega (arith, c .before .arc-key .ensures))))
 
--- src/judge.rt:159:8
 is-repeated-requires : tie.Need-is-repeated-requires
 is-repeated-requires c κs = (c .before .before .before .before .before .before .before .before .before .pre .0, (arcs-rise (c .before .before .before .before .before .before .before .before .before .args .states) (arcsAs (now (c .before .before .before .before .before .before .before .before .before .args .before))) (c .before .before .before .before .before .before .before .before .before .pre .1 .0), omega (arith, c .before .before .before .last-source .ensures)))
 
--- src/judge.rt:135:1
 returns-7 : tie.Need-returns-7
 returns-7 c =
     sym
     (arc-old (c .before .before .before .before .before .before .before .before .before .before .before .args .states) (arcsAs (now (c .before .before .before .before .before .before .before .before .before .before .before .args .before))) (arcAs (c .before .before .before .before .before .before .before .before .before .before .before .args .source) (c .before .before .before .before .before .before .before .before .before .before .before .args .upper) (c .before .before .before .before .before .before .before .before .before .before .before .args .lower) (c .before .before .before .before .before .before .before .before .before .before .before .args .target)) (c .before .before .before .before .before .before .before .before .before .if1 .left) (c .before .before .before .before .before .before .before .before .if2 .left) (c .before .before .before .before .before .before .before .if3 .left) (c .before .before .before .before .before .before .if4 .left)
     (source-rises (arcsAs (now (c .before .before .before .before .before .before .before .before .before .before .before .args .before))) (arcAs (c .before .before .before .before .before .before .before .before .before .before .before .args .source) (c .before .before .before .before .before .before .before .before .before .before .before .args .upper) (c .before .before .before .before .before .before .before .before .before .before .before .args .lower) (c .before .before .before .before .before .before .before .before .before .before .before .args .target)) (omega (arith, c .before .before .before .before .before .last-source .ensures))) (sym (c .before .is-repeated .ensures) ∙ c .if7 .taken))
 
--- src/judge.rt:135:1
 returns-8 : tie.Need-returns-8
 returns-8 c =
     sym

@@ -5,32 +5,26 @@ use Rattle.table.proofs.judge.counts_hold.Tie as tie
 use Rattle.table.proofs.judge.counts_hold.Reads as reads
 use Rattle.table.proofs.judge.counts_hold.Lts as lts
 
--- src/rules.rt:18:9
 returns : tie.Need-returns
 unfolding countsHold
 returns c = simp (lt-leb 1 _ (c .if1 .taken))
 
--- src/rules.rt:21:9
 returns-2 : tie.Need-returns-2
 unfolding countsHold
 returns-2 c = simp (le-leb 1 _ (c .before .if1 .left), lt-leb _ 256 (c .if2 .taken))
 
--- src/rules.rt:24:9
 returns-3 : tie.Need-returns-3
 unfolding countsHold
 returns-3 c = simp (le-leb 1 _ (c .before .before .if1 .left), le-leb _ 256 (c .before .if2 .left), lt-leb 1 _ (c .if3 .taken))
 
--- src/rules.rt:27:9
 returns-4 : tie.Need-returns-4
 unfolding countsHold
 returns-4 c = simp (le-leb 1 _ (c .before .before .before .if1 .left), le-leb _ 256 (c .before .before .if2 .left), le-leb 1 _ (c .before .if3 .left), lt-leb _ _ (c .if4 .taken))
 
--- src/rules.rt:30:9
 returns-5 : tie.Need-returns-5
 unfolding countsHold
 returns-5 c = simp (le-leb 1 _ (c .before .before .before .before .if1 .left), le-leb _ 256 (c .before .before .before .if2 .left), le-leb 1 _ (c .before .before .if3 .left), le-leb _ _ (c .before .if4 .left), lt-leb _ _ (c .if5 .taken))
 
--- src/rules.rt:14:1
 returns-6 : tie.Need-returns-6
 unfolding countsHold
 returns-6 c = simp (le-leb 1 _ (c .before .before .before .before .if1 .left), le-leb _ 256 (c .before .before .before .if2 .left), le-leb 1 _ (c .before .before .if3 .left), le-leb _ _ (c .before .if4 .left), le-leb _ _ (c .if5 .left))

@@ -20,35 +20,27 @@ Inv-loop list state k₀ k = (k ≤ length list) × ((i : ℕ) → i < k → eqb
 abbrev μ-loop : tie.MeasureT-loop
 μ-loop list state k₀ k = length list - k
 
--- src/rules.rt:40:5
 loop-holds : tie.Need-loop-holds Inv-loop μ-loop
 loop-holds c = (omega arith, λ i h. absurd (omega arith))
 
--- src/rules.rt:41:12
 mul-if1 : tie.Need-mul-if1 Inv-loop μ-loop
 mul-if1 c = search needs
 
--- src/rules.rt:41:12
 shared-slice-read-if1 : tie.Need-shared-slice-read-if1 Inv-loop μ-loop
 shared-slice-read-if1 c = search needs
 
--- src/rules.rt:42:13
 returns : tie.Need-returns Inv-loop μ-loop
 returns c = sym (any-some (λ r. eqb r (c .before .before .before .before .args .state)) 0 (now (c .before .before .before .before .args .list)) (c .before .before .before .loop .k) (search needs) (eq-eqb _ _ (c .if1 .taken)))
 
--- src/rules.rt:44:9
 add-k : tie.Need-add-k Inv-loop μ-loop
 add-k c = search needs
 
--- src/rules.rt:40:5
 loop-less : tie.Need-loop-less Inv-loop μ-loop
 loop-less c = search needs
 
--- src/rules.rt:40:5
 loop-again : tie.Need-loop-again Inv-loop μ-loop
 loop-again c = (omega arith, below-more _ _ (c .before .before .before .loop .inv .1) (ne-eqb _ _ (c .if1 .left)))
 
--- src/rules.rt:36:1
 returns-2 : tie.Need-returns-2 Inv-loop μ-loop
 returns-2 c = sym (any-none (λ r. eqb r (c .before .before .args .state)) 0 (now (c .before .before .args .list)) (λ k h. c .before .loop .inv .1 k (omega arith)))
 

@@ -9,27 +9,21 @@ use Rattle.table.proofs.judge.initial_fault.Lts as lts
 use Rattle.table.proofs.judge.has_state.Reads as has-state-reads
 use Rattle.table.proofs.judge.state_key.Reads as state-key-reads
 
--- src/rules.rt:62:9
 returns : tie.Need-returns
 returns c = sym (initial-out _ _ _ (c .if1 .taken))
 
--- src/rules.rt:64:14
 state-key-requires : tie.Need-state-key-requires
 state-key-requires c κs = search needs
 
--- src/rules.rt:65:9
 returns-2 : tie.Need-returns-2
 returns-2 c = sym (initial-new _ _ _ (c .before .before .if1 .left) (new-state _ _ (c .before .before .before .before .args .top) (c .before .before .before .before .pre) (omega (arith, c .before .state-key .ensures))))
 
--- src/rules.rt:67:8
 has-state-requires : tie.Need-has-state-requires
 has-state-requires c κs = search needs
 
--- src/rules.rt:57:1
 returns-3 : tie.Need-returns-3
 returns-3 c = sym (initial-old _ _ _ (c .before .before .before .before .if1 .left) (sym (c .before .has-state .ensures) ∙ c .if3 .taken))
 
--- src/rules.rt:57:1
 returns-4 : tie.Need-returns-4
 returns-4 c = sym (initial-new _ _ _ (c .before .before .before .before .if1 .left) (sym (c .before .has-state .ensures) ∙ c .if3 .left))
 

@@ -22,87 +22,66 @@ Inv-loop before source upper lower target at₀ at = (at ≤ length before) × (
 abbrev μ-loop : tie.MeasureT-loop
 μ-loop before source upper lower target at₀ at = at
 
--- src/rules.rt:99:5
 loop-holds : tie.Need-loop-holds Inv-loop μ-loop
 loop-holds c = (omega arith, c .pre .0, refl)
 
--- src/rules.rt:101:12
 mul-if1 : tie.Need-mul-if1 Inv-loop μ-loop
 mul-if1 c = search needs
 
--- src/rules.rt:101:12
 shared-slice-read-if1 : tie.Need-shared-slice-read-if1 Inv-loop μ-loop
 shared-slice-read-if1 c = search needs
 
--- src/rules.rt:102:13
 returns : tie.Need-returns Inv-loop μ-loop
 returns c = sym (c .before .before .before .loop .inv .2 ∙ found-stop (now (c .before .before .before .before .args .before)) (arcAs (c .before .before .before .before .args .source) (c .before .before .before .before .args .upper) (c .before .before .before .before .args .lower) (c .before .before .before .before .args .target)) (c .before .before .before .loop .at) (c .before .before .before .before .pre .0) (c .before .before .before .before .pre .1) (omega arith) (omega arith) (omega arith) (c .if1 .taken))
 
--- src/rules.rt:104:19
 add-if2 : tie.Need-add-if2 Inv-loop μ-loop
 add-if2 c = search needs
 
--- src/rules.rt:104:12
 mul-if2 : tie.Need-mul-if2 Inv-loop μ-loop
 mul-if2 c = search needs
 
--- src/rules.rt:104:12
 shared-slice-read-if2 : tie.Need-shared-slice-read-if2 Inv-loop μ-loop
 shared-slice-read-if2 c = search needs
 
--- src/rules.rt:105:23
 add-if3 : tie.Need-add-if3 Inv-loop μ-loop
 add-if3 c = search needs
 
--- src/rules.rt:105:16
 mul-if3 : tie.Need-mul-if3 Inv-loop μ-loop
 mul-if3 c = search needs
 
--- src/rules.rt:105:16
 shared-slice-read-if3 : tie.Need-shared-slice-read-if3 Inv-loop μ-loop
 shared-slice-read-if3 c = search needs
 
--- src/rules.rt:106:27
 add-if4 : tie.Need-add-if4 Inv-loop μ-loop
 add-if4 c = search needs
 
--- src/rules.rt:106:20
 mul-if4 : tie.Need-mul-if4 Inv-loop μ-loop
 mul-if4 c = search needs
 
--- src/rules.rt:106:20
 shared-slice-read-if4 : tie.Need-shared-slice-read-if4 Inv-loop μ-loop
 shared-slice-read-if4 c = search needs
 
--- src/rules.rt:107:21
 returns-2 : tie.Need-returns-2 Inv-loop μ-loop
 returns-2 c = sym (c .before .before .before .before .before .before .before .before .before .loop .inv .2 ∙ found-hit (now (c .before .before .before .before .before .before .before .before .before .before .args .before)) (arcAs (c .before .before .before .before .before .before .before .before .before .before .args .source) (c .before .before .before .before .before .before .before .before .before .before .args .upper) (c .before .before .before .before .before .before .before .before .before .before .args .lower) (c .before .before .before .before .before .before .before .before .before .before .args .target)) (c .before .before .before .before .before .before .before .before .before .loop .at) (omega arith) (omega arith) (simp (eq-eqb _ _ (c .before .before .before .before .before .before .if1 .left), eq-eqb _ _ (c .before .before .before .before .if2 .taken), eq-eqb _ _ (c .before .before .if3 .taken), eq-eqb _ _ (c .if4 .taken))))
 
--- src/rules.rt:99:5
 loop-less : tie.Need-loop-less Inv-loop μ-loop
 loop-less c = search needs
 
--- src/rules.rt:99:5
 loop-again : tie.Need-loop-again Inv-loop μ-loop
 loop-again c = (omega arith, omega arith, c .before .before .before .before .before .before .before .before .before .loop .inv .2 ∙ found-miss (now (c .before .before .before .before .before .before .before .before .before .before .args .before)) (arcAs (c .before .before .before .before .before .before .before .before .before .before .args .source) (c .before .before .before .before .before .before .before .before .before .before .args .upper) (c .before .before .before .before .before .before .before .before .before .before .args .lower) (c .before .before .before .before .before .before .before .before .before .before .args .target)) (c .before .before .before .before .before .before .before .before .before .loop .at) (omega arith) (omega arith) (simp (eq-eqb _ _ (c .before .before .before .before .before .before .if1 .left), eq-eqb _ _ (c .before .before .before .before .if2 .taken), eq-eqb _ _ (c .before .before .if3 .taken), ne-eqb _ _ (c .if4 .left))))
 
--- src/rules.rt:99:5
 loop-less-2 : tie.Need-loop-less-2 Inv-loop μ-loop
 loop-less-2 c = search needs
 
--- src/rules.rt:99:5
 loop-again-2 : tie.Need-loop-again-2 Inv-loop μ-loop
 loop-again-2 c = (omega arith, omega arith, c .before .before .before .before .before .before .before .loop .inv .2 ∙ found-miss (now (c .before .before .before .before .before .before .before .before .args .before)) (arcAs (c .before .before .before .before .before .before .before .before .args .source) (c .before .before .before .before .before .before .before .before .args .upper) (c .before .before .before .before .before .before .before .before .args .lower) (c .before .before .before .before .before .before .before .before .args .target)) (c .before .before .before .before .before .before .before .loop .at) (omega arith) (omega arith) (simp (eq-eqb _ _ (c .before .before .before .before .if1 .left), eq-eqb _ _ (c .before .before .if2 .taken), ne-eqb _ _ (c .if3 .left))))
 
--- src/rules.rt:99:5
 loop-less-3 : tie.Need-loop-less-3 Inv-loop μ-loop
 loop-less-3 c = search needs
 
--- src/rules.rt:99:5
 loop-again-3 : tie.Need-loop-again-3 Inv-loop μ-loop
 loop-again-3 c = (omega arith, omega arith, c .before .before .before .before .before .loop .inv .2 ∙ found-miss (now (c .before .before .before .before .before .before .args .before)) (arcAs (c .before .before .before .before .before .before .args .source) (c .before .before .before .before .before .before .args .upper) (c .before .before .before .before .before .before .args .lower) (c .before .before .before .before .before .before .args .target)) (c .before .before .before .before .before .loop .at) (omega arith) (omega arith) (simp (eq-eqb _ _ (c .before .before .if1 .left), ne-eqb _ _ (c .if2 .left))))
 
--- src/rules.rt:93:1
 returns-3 : tie.Need-returns-3 Inv-loop μ-loop
 returns-3 c = sym (c .before .loop .inv .2 ∙ found-none (now (c .before .before .args .before)) _ (c .before .loop .at) (c .loop-test .left))
 

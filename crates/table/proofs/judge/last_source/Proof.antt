@@ -12,20 +12,16 @@ use Rattle.table.proofs.judge.last_source.Tie as tie
 use Rattle.table.proofs.judge.last_source.Reads as reads
 use Rattle.table.proofs.judge.last_source.Lts as lts
 
--- src/judge.rt:106:9
 returns : tie.Need-returns
 unfolding arcsIn
 returns c = sym (at-equal (λ n. lastSource (arcsIn n (now (c .before .args .before)))) (length (now (c .before .args .before)) / 4) 0 (omega arith))
 
--- src/judge.rt:108:5
 mul-result : tie.Need-mul-result
 mul-result c = search needs
 
--- src/judge.rt:108:5
 shared-slice-read-result : tie.Need-shared-slice-read-result
 shared-slice-read-result c = search needs
 
--- src/judge.rt:100:1
 returns-2 : tie.Need-returns-2
 returns-2 c =
     let before = now (c .before .before .args .before) in

@@ -11,31 +11,24 @@ use Rattle.table.proofs.judge.terminal_fault.Tie as tie
 use Rattle.table.proofs.judge.terminal_fault.Reads as reads
 use Rattle.table.proofs.judge.terminal_fault.Lts as lts
 
--- src/rules.rt:72:9
 returns : tie.Need-returns
 returns c = sym (terminal-out _ _ _ (c .if1 .taken))
 
--- src/rules.rt:76:9
 returns-2 : tie.Need-returns-2
 returns-2 c = sym (terminal-rises _ _ _ (c .before .if1 .left) (last-none (λ r. ltb r (c .before .before .args .state)) (now (c .before .before .args .before)) (c .if2 .taken)))
 
--- src/rules.rt:78:15
 sub-if3 : tie.Need-sub-if3
 sub-if3 c = search needs
 
--- src/rules.rt:78:8
 mul-if3 : tie.Need-mul-if3
 mul-if3 c = search needs
 
--- src/rules.rt:78:8
 shared-slice-read-if3 : tie.Need-shared-slice-read-if3
 shared-slice-read-if3 c = search needs
 
--- src/rules.rt:68:1
 returns-3 : tie.Need-returns-3
 returns-3 c = sym (terminal-rises _ _ _ (c .before .before .before .if1 .left) (last-at (λ r. ltb r (c .before .before .before .before .args .state)) 0 (now (c .before .before .before .before .args .before)) (omega arith) ∙ lt-ltb _ _ (c .if3 .taken)))
 
--- src/rules.rt:68:1
 returns-4 : tie.Need-returns-4
 returns-4 c = sym (terminal-falls _ _ _ (c .before .before .before .if1 .left) (last-at (λ r. ltb r (c .before .before .before .before .args .state)) 0 (now (c .before .before .before .before .args .before)) (omega arith) ∙ le-ltb _ _ (c .if3 .left)))
 

@@ -17,98 +17,75 @@ use Rattle.table.proofs.reader.append.Lts as lts
 use Rattle.table.proofs.reader.letter.Reads as letter-reads
 use Rattle.table.proofs.scanner.number_at.Reads as number-at-reads
 
--- src/reader.rt:123:9
 number-at-requires : tie.Need-number-at-requires
 number-at-requires c κs = search needs
 
--- src/reader.rt:124:5
 mul-cells : tie.Need-mul-cells
 mul-cells c = search needs
 
--- src/reader.rt:124:5
 slice-write-cells : tie.Need-slice-write-cells
 slice-write-cells c = search needs
 
--- src/reader.rt:126:16
 add-result : tie.Need-add-result
 add-result c = search needs
 
--- src/reader.rt:126:9
 same-length : tie.Need-same-length
 same-length c = search needs
 
--- src/reader.rt:126:9
 returns : tie.Need-returns
 returns c =
     λ k b e i p.
     let one = cells-one k b (c .before .number-at .result) (λ z. c .if1 .taken (e ∙ z)) i (c .before .number-at .ensures ∙ number-as (c .before .before .before .args .t3) b p 1 (omega arith)) in
     (omega (arith, ap length one), ap (sets (now (c .before .before .before .args .cells)) (c .before .before .before .args .filled)) (sym one))
 
--- src/reader.rt:128:32
 array-read-letter : tie.Need-array-read-letter
 array-read-letter c = search needs
 
--- src/reader.rt:128:25
 letter-requires : tie.Need-letter-requires
 letter-requires c κs = search needs
 
--- src/reader.rt:128:11
 add-cells : tie.Need-add-cells
 add-cells c = search needs
 
--- src/reader.rt:128:5
 mul-cells-2 : tie.Need-mul-cells-2
 mul-cells-2 c = search needs
 
--- src/reader.rt:128:5
 slice-write-cells-2 : tie.Need-slice-write-cells-2
 slice-write-cells-2 c = simp length-set (omega arith)
 
--- src/reader.rt:129:32
 array-read-letter-2 : tie.Need-array-read-letter-2
 array-read-letter-2 c = search needs
 
--- src/reader.rt:129:25
 letter-requires-2 : tie.Need-letter-requires-2
 letter-requires-2 c κs = search needs
 
--- src/reader.rt:129:11
 add-cells-2 : tie.Need-add-cells-2
 add-cells-2 c = search needs
 
--- src/reader.rt:129:5
 mul-cells-3 : tie.Need-mul-cells-3
 mul-cells-3 c = search needs
 
--- src/reader.rt:129:5
 slice-write-cells-3 : tie.Need-slice-write-cells-3
 slice-write-cells-3 c = simp length-set (omega arith)
 
--- src/reader.rt:130:25
 number-at-requires-2 : tie.Need-number-at-requires-2
 number-at-requires-2 c κs = search needs
 
--- src/reader.rt:130:11
 add-cells-3 : tie.Need-add-cells-3
 add-cells-3 c = search needs
 
--- src/reader.rt:130:5
 mul-cells-4 : tie.Need-mul-cells-4
 mul-cells-4 c = search needs
 
--- src/reader.rt:130:5
 slice-write-cells-4 : tie.Need-slice-write-cells-4
 slice-write-cells-4 c = simp length-set (omega arith)
 
--- src/reader.rt:131:5
 add-result-2 : tie.Need-add-result-2
 add-result-2 c = search needs
 
--- src/reader.rt:118:1
 same-length-2 : tie.Need-same-length-2
 same-length-2 c = simp length-set
 
--- src/reader.rt:118:1
 returns-2 : tie.Need-returns-2
 returns-2 c =
     λ k b e i p.

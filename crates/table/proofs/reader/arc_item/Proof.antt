@@ -11,35 +11,27 @@ use Rattle.table.proofs.judge.arc_fault.Reads as arc-fault-reads
 use Rattle.table.proofs.reader.letter.Reads as letter-reads
 use Rattle.table.proofs.scanner.number_at.Reads as number-at-reads
 
--- src/reader.rt:66:9
 number-at-requires : tie.Need-number-at-requires
 number-at-requires c κs = search needs
 
--- src/reader.rt:67:16
 array-read-letter : tie.Need-array-read-letter
 array-read-letter c = search needs
 
--- src/reader.rt:67:9
 letter-requires : tie.Need-letter-requires
 letter-requires c κs = search needs
 
--- src/reader.rt:68:16
 array-read-letter-2 : tie.Need-array-read-letter-2
 array-read-letter-2 c = search needs
 
--- src/reader.rt:68:9
 letter-requires-2 : tie.Need-letter-requires-2
 letter-requires-2 c κs = search needs
 
--- src/reader.rt:69:9
 number-at-requires-2 : tie.Need-number-at-requires-2
 number-at-requires-2 c κs = search needs
 
--- src/reader.rt:63:5
 arc-fault-requires : tie.Need-arc-fault-requires
 arc-fault-requires c κs = search needs
 
--- src/reader.rt:59:1
 returns : tie.Need-returns
 returns c =
     c .arc-fault .ensures

@@ -19,35 +19,27 @@ Inv-loop from count to₀ k₀ to k = (k ≤ count) × (length to ≡ length to�
 abbrev μ-loop : tie.MeasureT-loop
 μ-loop from count to₀ k₀ to k = count - k
 
--- src/reader.rt:239:5
 loop-holds : tie.Need-loop-holds Inv-loop μ-loop
 loop-holds c = (omega arith, refl, paste-zero (now (c .args .to)) 0 (now (c .args .from)))
 
--- src/reader.rt:240:17
 mul-to : tie.Need-mul-to Inv-loop μ-loop
 mul-to c = search needs
 
--- src/reader.rt:240:17
 shared-slice-read-to : tie.Need-shared-slice-read-to Inv-loop μ-loop
 shared-slice-read-to c = search needs
 
--- src/reader.rt:240:9
 mul-to-2 : tie.Need-mul-to-2 Inv-loop μ-loop
 mul-to-2 c = search needs
 
--- src/reader.rt:240:9
 slice-write-to : tie.Need-slice-write-to Inv-loop μ-loop
 slice-write-to c = omega arith
 
--- src/reader.rt:241:9
 add-k : tie.Need-add-k Inv-loop μ-loop
 add-k c = search needs
 
--- src/reader.rt:239:5
 loop-less : tie.Need-loop-less Inv-loop μ-loop
 loop-less c = search needs
 
--- src/reader.rt:239:5
 loop-again : tie.Need-loop-again Inv-loop μ-loop
 loop-again c = (
   omega arith,
@@ -57,11 +49,9 @@ loop-again c = (
       ∙ at-equal (paste (now (c .before .before .before .args .to)) 0 (now (c .before .before .before .args .from))) (suc (c .before .before .loop .k)) (c .before .before .loop .k + 1) (omega arith),
 )
 
--- src/reader.rt:234:1
 same-length : tie.Need-same-length Inv-loop μ-loop
 same-length c = c .before .loop .inv .1
 
--- src/reader.rt:234:1
 returns : tie.Need-returns Inv-loop μ-loop
 returns c =
     c .before .loop .inv .2 ∙ at-equal (paste (now (c .before .before .args .to)) 0 (now (c .before .before .args .from))) (c .before .loop .k) (c .before .before .args .count) (omega arith)

@@ -17,88 +17,72 @@ use Rattle.table.proofs.reader.arc_item.Reads as arc-item-reads
 use Rattle.table.proofs.reader.wide.Reads as wide-reads
 use Rattle.table.proofs.scanner.number_at.Reads as number-at-reads
 
--- src/reader.rt:88:8
 array-read-if1 : tie.Need-array-read-if1
 array-read-if1 c = search needs
 
--- src/reader.rt:89:9
 returns : tie.Need-returns
 returns c = λ d t b T e p q. sym (misplaced (due d t) t b (not-kind (due d t) b (λ z. c .if1 .taken (byte-at (c .before .before .args .t3) b p 0 (omega arith) ∙ z ∙ sym e))))
 
--- src/reader.rt:93:13
 returns-2 : tie.Need-returns-2
 returns-2 c =
     λ d t b T e p q.
     let k = kind-one 4 (due d t) (sym (c .before .if2 .taken) ∙ e) in
     sym (ap (λ x. judged (kindFaults x t b)) k ∙ misplaced arc t b (not-wide arc b (λ z. c .if3 .taken (q ∙ z))))
 
--- src/reader.rt:95:29
 shared-slice-read-wide : tie.Need-shared-slice-read-wide
 shared-slice-read-wide c =
     let w = drafted-bounds (c .before .before .before .before .before .args .lines) (c .before .before .before .before .before .args .filled) (c .before .before .before .before .before .args .top) (now (c .before .before .before .before .before .args .cells)) (c .before .before .before .before .before .args .kind) (c .before .before .before .before .before .pre) in
     omega (arith, w .0, w .1)
 
--- src/reader.rt:95:24
 wide-requires : tie.Need-wide-requires
 wide-requires c κs = search needs
 
--- src/reader.rt:95:20
 add-from : tie.Need-add-from
 add-from c = search needs
 
--- src/reader.rt:95:46
 shared-slice-read-wide-2 : tie.Need-shared-slice-read-wide-2
 shared-slice-read-wide-2 c =
     let w = drafted-bounds (c .before .before .before .before .before .before .before .args .lines) (c .before .before .before .before .before .before .before .args .filled) (c .before .before .before .before .before .before .before .args .top) (now (c .before .before .before .before .before .before .before .args .cells)) (c .before .before .before .before .before .before .before .args .kind) (c .before .before .before .before .before .before .before .pre) in
     omega (arith, w .0, w .1)
 
--- src/reader.rt:95:41
 wide-requires-2 : tie.Need-wide-requires-2
 wide-requires-2 c κs = search needs
 
--- src/reader.rt:95:20
 add-from-2 : tie.Need-add-from-2
 add-from-2 c = search needs
 
--- src/reader.rt:96:25
 mul-arc-item : tie.Need-mul-arc-item
 mul-arc-item c =
     let w = drafted-bounds (c .before .before .before .before .before .before .before .before .args .lines) (c .before .before .before .before .before .before .before .before .args .filled) (c .before .before .before .before .before .before .before .before .args .top) (now (c .before .before .before .before .before .before .before .before .args .cells)) (c .before .before .before .before .before .before .before .before .args .kind) (c .before .before .before .before .before .before .before .before .pre) in
     let v = drafted-arcs (c .before .before .before .before .before .before .before .before .args .lines) (c .before .before .before .before .before .before .before .before .args .filled) (c .before .before .before .before .before .before .before .before .args .top) (now (c .before .before .before .before .before .before .before .before .args .cells)) (c .before .before .before .before .before .before .before .before .args .kind) (c .before .before .before .before .before .before .before .before .pre) (c .before .before .before .before .before .if2 .taken) in
     omega (arith, w .0, w .1, v, c .before .before .wide .ensures .0, c .wide2 .ensures .0)
 
--- src/reader.rt:96:25
 sub-arc-item : tie.Need-sub-arc-item
 sub-arc-item c =
     let w = drafted-bounds (c .before .before .before .before .before .before .before .before .args .lines) (c .before .before .before .before .before .before .before .before .args .filled) (c .before .before .before .before .before .before .before .before .args .top) (now (c .before .before .before .before .before .before .before .before .args .cells)) (c .before .before .before .before .before .before .before .before .args .kind) (c .before .before .before .before .before .before .before .before .pre) in
     let v = drafted-arcs (c .before .before .before .before .before .before .before .before .args .lines) (c .before .before .before .before .before .before .before .before .args .filled) (c .before .before .before .before .before .before .before .before .args .top) (now (c .before .before .before .before .before .before .before .before .args .cells)) (c .before .before .before .before .before .before .before .before .args .kind) (c .before .before .before .before .before .before .before .before .pre) (c .before .before .before .before .before .if2 .taken) in
     omega (arith, w .0, w .1, v, c .before .before .wide .ensures .0, c .wide2 .ensures .0)
 
--- src/reader.rt:96:25
 part-arc-item-start : tie.Need-part-arc-item-start
 part-arc-item-start c =
     let w = drafted-bounds (c .before .before .before .before .before .before .before .before .args .lines) (c .before .before .before .before .before .before .before .before .args .filled) (c .before .before .before .before .before .before .before .before .args .top) (now (c .before .before .before .before .before .before .before .before .args .cells)) (c .before .before .before .before .before .before .before .before .args .kind) (c .before .before .before .before .before .before .before .before .pre) in
     let v = drafted-arcs (c .before .before .before .before .before .before .before .before .args .lines) (c .before .before .before .before .before .before .before .before .args .filled) (c .before .before .before .before .before .before .before .before .args .top) (now (c .before .before .before .before .before .before .before .before .args .cells)) (c .before .before .before .before .before .before .before .before .args .kind) (c .before .before .before .before .before .before .before .before .pre) (c .before .before .before .before .before .if2 .taken) in
     omega (arith, w .0, w .1, v, c .before .before .wide .ensures .0, c .wide2 .ensures .0)
 
--- src/reader.rt:96:25
 part-arc-item-end : tie.Need-part-arc-item-end
 part-arc-item-end c =
     let w = drafted-bounds (c .before .before .before .before .before .before .before .before .args .lines) (c .before .before .before .before .before .before .before .before .args .filled) (c .before .before .before .before .before .before .before .before .args .top) (now (c .before .before .before .before .before .before .before .before .args .cells)) (c .before .before .before .before .before .before .before .before .args .kind) (c .before .before .before .before .before .before .before .before .pre) in
     let v = drafted-arcs (c .before .before .before .before .before .before .before .before .args .lines) (c .before .before .before .before .before .before .before .before .args .filled) (c .before .before .before .before .before .before .before .before .args .top) (now (c .before .before .before .before .before .before .before .before .args .cells)) (c .before .before .before .before .before .before .before .before .args .kind) (c .before .before .before .before .before .before .before .before .pre) (c .before .before .before .before .before .if2 .taken) in
     omega (arith, w .0, w .1, v, c .before .before .wide .ensures .0, c .wide2 .ensures .0)
 
--- src/reader.rt:96:47
 shared-slice-read-arc-item : tie.Need-shared-slice-read-arc-item
 shared-slice-read-arc-item c =
     let w = drafted-bounds (c .before .before .before .before .before .before .before .before .before .before .args .lines) (c .before .before .before .before .before .before .before .before .before .before .args .filled) (c .before .before .before .before .before .before .before .before .before .before .args .top) (now (c .before .before .before .before .before .before .before .before .before .before .args .cells)) (c .before .before .before .before .before .before .before .before .before .before .args .kind) (c .before .before .before .before .before .before .before .before .before .before .pre) in
     omega (arith, w .0, w .1)
 
--- src/reader.rt:96:9
 arc-item-requires : tie.Need-arc-item-requires
 arc-item-requires c κs = drafted-ready (c .before .before .before .before .before .before .before .before .before .before .args .lines) (c .before .before .before .before .before .before .before .before .before .before .args .filled) (c .before .before .before .before .before .before .before .before .before .before .args .top) (now (c .before .before .before .before .before .before .before .before .before .before .args .cells)) (c .before .before .before .before .before .before .before .before .before .before .args .kind) (c .before .before .before .before .before .before .before .before .before .before .pre) _ (omega (arith, c .before .before .before .before .wide .ensures .0, c .before .before .wide2 .ensures .0)) (c .before .before .before .before .before .before .before .if2 .taken)
 
--- src/reader.rt:96:9
 returns-3 : tie.Need-returns-3
 returns-3 c =
     λ d t b T e p q.
@@ -106,7 +90,6 @@ returns-3 c =
     ∙ judged-arc d t (c .before .before .before .before .before .before .before .before .before .before .before .args .lines) (c .before .before .before .before .before .before .before .before .before .before .before .args .filled) (c .before .before .before .before .before .before .before .before .before .before .before .args .top) (now (c .before .before .before .before .before .before .before .before .before .before .before .args .cells)) T _ _ b (omega (arith, c .before .before .before .before .before .wide .ensures .0, c .before .before .before .wide2 .ensures .0)) (sym (c .before .before .before .before .before .before .before .before .if2 .taken) ∙ e)
     (sym (byte-at (c .before .before .before .before .before .before .before .before .before .before .before .args .t3) b p 0 (omega arith)) ∙ c .before .before .before .before .before .before .before .before .before .if1 .left ∙ c .before .before .before .before .before .before .before .before .if2 .taken) (sym q ∙ c .before .before .before .before .before .before .before .if3 .left) (arc-as (c .before .before .before .before .before .before .before .before .before .before .before .args .t3) b p)
 
--- src/reader.rt:99:9
 returns-4 : tie.Need-returns-4
 returns-4 c =
     λ d t b T e p q.
@@ -114,39 +97,32 @@ returns-4 c =
     (misplaced (due d t) t b
     (not-wide (due d t) b (λ z. c .if4 .taken (q ∙ z ∙ width-three d t (c .before .before .before .before .args .lines) (c .before .before .before .before .args .filled) (c .before .before .before .before .args .top) (now (c .before .before .before .before .args .cells)) T (λ y. c .before .if2 .left (e ∙ y))))))
 
--- src/reader.rt:101:9
 number-at-requires : tie.Need-number-at-requires
 number-at-requires c κs = search needs
 
--- src/reader.rt:103:37
 sub-initial-fault : tie.Need-sub-initial-fault
 sub-initial-fault c =
     let w = drafted-bounds (c .before .before .before .before .before .before .args .lines) (c .before .before .before .before .before .before .args .filled) (c .before .before .before .before .before .before .args .top) (now (c .before .before .before .before .before .before .args .cells)) (c .before .before .before .before .before .before .args .kind) (c .before .before .before .before .before .before .pre) in
     omega (arith, w .0, w .1)
 
--- src/reader.rt:103:37
 part-initial-fault-start : tie.Need-part-initial-fault-start
 part-initial-fault-start c =
     let w = drafted-bounds (c .before .before .before .before .before .before .args .lines) (c .before .before .before .before .before .before .args .filled) (c .before .before .before .before .before .before .args .top) (now (c .before .before .before .before .before .before .args .cells)) (c .before .before .before .before .before .before .args .kind) (c .before .before .before .before .before .before .pre) in
     omega (arith, w .0, w .1)
 
--- src/reader.rt:103:37
 part-initial-fault-end : tie.Need-part-initial-fault-end
 part-initial-fault-end c =
     let w = drafted-bounds (c .before .before .before .before .before .before .args .lines) (c .before .before .before .before .before .before .args .filled) (c .before .before .before .before .before .before .args .top) (now (c .before .before .before .before .before .before .args .cells)) (c .before .before .before .before .before .before .args .kind) (c .before .before .before .before .before .before .pre) in
     omega (arith, w .0, w .1)
 
--- src/reader.rt:103:56
 shared-slice-read-initial-fault : tie.Need-shared-slice-read-initial-fault
 shared-slice-read-initial-fault c =
     let w = drafted-bounds (c .before .before .before .before .before .before .before .before .args .lines) (c .before .before .before .before .before .before .before .before .args .filled) (c .before .before .before .before .before .before .before .before .args .top) (now (c .before .before .before .before .before .before .before .before .args .cells)) (c .before .before .before .before .before .before .before .before .args .kind) (c .before .before .before .before .before .before .before .before .pre) in
     omega (arith, w .0, w .1)
 
--- src/reader.rt:103:9
 initial-fault-requires : tie.Need-initial-fault-requires
 initial-fault-requires c κs = drafted-initials (c .before .before .before .before .before .before .before .before .args .lines) (c .before .before .before .before .before .before .before .before .args .filled) (c .before .before .before .before .before .before .before .before .args .top) (now (c .before .before .before .before .before .before .before .before .args .cells)) (c .before .before .before .before .before .before .before .before .args .kind) (c .before .before .before .before .before .before .before .before .pre) (c .before .before .if5 .taken)
 
--- src/reader.rt:103:9
 returns-5 : tie.Need-returns-5
 returns-5 c =
     λ d t b T e p q.
@@ -154,59 +130,49 @@ returns-5 c =
     ∙ judged-initial d t (c .before .before .before .before .before .before .before .before .before .args .lines) (c .before .before .before .before .before .before .before .before .before .args .filled) (c .before .before .before .before .before .before .before .before .before .args .top) (now (c .before .before .before .before .before .before .before .before .before .args .cells)) T _ b (sym (c .before .before .before .if5 .taken) ∙ e) (sym (byte-at (c .before .before .before .before .before .before .before .before .before .args .t3) b p 0 (omega arith)) ∙ c .before .before .before .before .before .before .before .if1 .left ∙ c .before .before .before .if5 .taken) (sym q ∙ c .before .before .before .before .before .if4 .left)
     (c .before .before .before .before .number-at .ensures ∙ number-as (c .before .before .before .before .before .before .before .before .before .args .t3) b p 1 (omega arith))
 
--- src/reader.rt:106:29
 shared-slice-read-wide-3 : tie.Need-shared-slice-read-wide-3
 shared-slice-read-wide-3 c =
     let w = drafted-bounds (c .before .before .before .before .before .before .before .before .args .lines) (c .before .before .before .before .before .before .before .before .args .filled) (c .before .before .before .before .before .before .before .before .args .top) (now (c .before .before .before .before .before .before .before .before .args .cells)) (c .before .before .before .before .before .before .before .before .args .kind) (c .before .before .before .before .before .before .before .before .pre) in
     omega (arith, w .0, w .1)
 
--- src/reader.rt:106:24
 wide-requires-3 : tie.Need-wide-requires-3
 wide-requires-3 c κs = search needs
 
--- src/reader.rt:106:20
 add-from-3 : tie.Need-add-from-3
 add-from-3 c = search needs
 
--- src/reader.rt:107:38
 mul-terminal-fault : tie.Need-mul-terminal-fault
 mul-terminal-fault c =
     let w = drafted-bounds (c .before .before .before .before .before .before .before .before .before .args .lines) (c .before .before .before .before .before .before .before .before .before .args .filled) (c .before .before .before .before .before .before .before .before .before .args .top) (now (c .before .before .before .before .before .before .before .before .before .args .cells)) (c .before .before .before .before .before .before .before .before .before .args .kind) (c .before .before .before .before .before .before .before .before .before .pre) in
     let v = drafted-terminals (c .before .before .before .before .before .before .before .before .before .args .lines) (c .before .before .before .before .before .before .before .before .before .args .filled) (c .before .before .before .before .before .before .before .before .before .args .top) (now (c .before .before .before .before .before .before .before .before .before .args .cells)) (c .before .before .before .before .before .before .before .before .before .args .kind) (c .before .before .before .before .before .before .before .before .before .pre) (c .before .before .if6 .taken) in
     omega (arith, w .0, w .1, v, c .wide3 .ensures .0)
 
--- src/reader.rt:107:38
 sub-terminal-fault : tie.Need-sub-terminal-fault
 sub-terminal-fault c =
     let w = drafted-bounds (c .before .before .before .before .before .before .before .before .before .args .lines) (c .before .before .before .before .before .before .before .before .before .args .filled) (c .before .before .before .before .before .before .before .before .before .args .top) (now (c .before .before .before .before .before .before .before .before .before .args .cells)) (c .before .before .before .before .before .before .before .before .before .args .kind) (c .before .before .before .before .before .before .before .before .before .pre) in
     let v = drafted-terminals (c .before .before .before .before .before .before .before .before .before .args .lines) (c .before .before .before .before .before .before .before .before .before .args .filled) (c .before .before .before .before .before .before .before .before .before .args .top) (now (c .before .before .before .before .before .before .before .before .before .args .cells)) (c .before .before .before .before .before .before .before .before .before .args .kind) (c .before .before .before .before .before .before .before .before .before .pre) (c .before .before .if6 .taken) in
     omega (arith, w .0, w .1, v, c .wide3 .ensures .0)
 
--- src/reader.rt:107:38
 part-terminal-fault-start : tie.Need-part-terminal-fault-start
 part-terminal-fault-start c =
     let w = drafted-bounds (c .before .before .before .before .before .before .before .before .before .args .lines) (c .before .before .before .before .before .before .before .before .before .args .filled) (c .before .before .before .before .before .before .before .before .before .args .top) (now (c .before .before .before .before .before .before .before .before .before .args .cells)) (c .before .before .before .before .before .before .before .before .before .args .kind) (c .before .before .before .before .before .before .before .before .before .pre) in
     let v = drafted-terminals (c .before .before .before .before .before .before .before .before .before .args .lines) (c .before .before .before .before .before .before .before .before .before .args .filled) (c .before .before .before .before .before .before .before .before .before .args .top) (now (c .before .before .before .before .before .before .before .before .before .args .cells)) (c .before .before .before .before .before .before .before .before .before .args .kind) (c .before .before .before .before .before .before .before .before .before .pre) (c .before .before .if6 .taken) in
     omega (arith, w .0, w .1, v, c .wide3 .ensures .0)
 
--- src/reader.rt:107:38
 part-terminal-fault-end : tie.Need-part-terminal-fault-end
 part-terminal-fault-end c =
     let w = drafted-bounds (c .before .before .before .before .before .before .before .before .before .args .lines) (c .before .before .before .before .before .before .before .before .before .args .filled) (c .before .before .before .before .before .before .before .before .before .args .top) (now (c .before .before .before .before .before .before .before .before .before .args .cells)) (c .before .before .before .before .before .before .before .before .before .args .kind) (c .before .before .before .before .before .before .before .before .before .pre) in
     let v = drafted-terminals (c .before .before .before .before .before .before .before .before .before .args .lines) (c .before .before .before .before .before .before .before .before .before .args .filled) (c .before .before .before .before .before .before .before .before .before .args .top) (now (c .before .before .before .before .before .before .before .before .before .args .cells)) (c .before .before .before .before .before .before .before .before .before .args .kind) (c .before .before .before .before .before .before .before .before .before .pre) (c .before .before .if6 .taken) in
     omega (arith, w .0, w .1, v, c .wide3 .ensures .0)
 
--- src/reader.rt:107:60
 shared-slice-read-terminal-fault : tie.Need-shared-slice-read-terminal-fault
 shared-slice-read-terminal-fault c =
     let w = drafted-bounds (c .before .before .before .before .before .before .before .before .before .before .before .args .lines) (c .before .before .before .before .before .before .before .before .before .before .before .args .filled) (c .before .before .before .before .before .before .before .before .before .before .before .args .top) (now (c .before .before .before .before .before .before .before .before .before .before .before .args .cells)) (c .before .before .before .before .before .before .before .before .before .before .before .args .kind) (c .before .before .before .before .before .before .before .before .before .before .before .pre) in
     omega (arith, w .0, w .1)
 
--- src/reader.rt:107:9
 terminal-fault-requires : tie.Need-terminal-fault-requires
 terminal-fault-requires c κs = search needs
 
--- src/reader.rt:107:9
 returns-6 : tie.Need-returns-6
 returns-6 c =
     λ d t b T e p q.
@@ -214,11 +180,9 @@ returns-6 c =
     ∙ judged-terminal d t (c .before .before .before .before .before .before .before .before .before .before .before .before .args .lines) (c .before .before .before .before .before .before .before .before .before .before .before .before .args .filled) (c .before .before .before .before .before .before .before .before .before .before .before .before .args .top) (now (c .before .before .before .before .before .before .before .before .before .before .before .before .args .cells)) T _ _ b (omega (arith, c .before .before .before .wide3 .ensures .0)) (sym (c .before .before .before .before .before .if6 .taken) ∙ e) (sym (byte-at (c .before .before .before .before .before .before .before .before .before .before .before .before .args .t3) b p 0 (omega arith)) ∙ c .before .before .before .before .before .before .before .before .before .before .if1 .left ∙ c .before .before .before .before .before .if6 .taken) (sym q ∙ c .before .before .before .before .before .before .before .before .if4 .left)
     (c .before .before .before .before .before .before .before .number-at .ensures ∙ number-as (c .before .before .before .before .before .before .before .before .before .before .before .before .args .t3) b p 1 (omega arith))
 
--- src/reader.rt:109:8
 wide-requires-4 : tie.Need-wide-requires-4
 wide-requires-4 c κs = search needs
 
--- src/reader.rt:75:1
 returns-7 : tie.Need-returns-7
 returns-7 c =
     λ d t b T e p q.
@@ -227,7 +191,6 @@ returns-7 c =
     (end-right d t (c .before .before .before .before .before .before .before .before .before .args .lines) (c .before .before .before .before .before .before .before .before .before .args .filled) (c .before .before .before .before .before .before .before .before .before .args .top) (now (c .before .before .before .before .before .before .before .before .before .args .cells)) T b k (sym (byte-at (c .before .before .before .before .before .before .before .before .before .args .t3) b p 0 (omega arith)) ∙ c .before .before .before .before .before .before .before .if1 .left ∙ e ∙ ap codeOf k) (sym q ∙ c .before .before .before .before .before .if4 .left)
     (sym (number-as (c .before .before .before .before .before .before .before .before .before .args .t3) b p 1 (omega arith)) ∙ sym (c .before .before .before .before .number-at .ensures) ∙ sym (c .before .wide4 .ensures .0) ∙ c .if7 .taken))
 
--- src/reader.rt:75:1
 returns-8 : tie.Need-returns-8
 returns-8 c =
     λ d t b T e p q.

@@ -19,50 +19,39 @@ use Rattle.table.proofs.judge.state_key.Reads as state-key-reads
 use Rattle.table.proofs.reader.letter.Reads as letter-reads
 use Rattle.table.proofs.scanner.number_at.Reads as number-at-reads
 
--- src/reader.rt:139:33
 number-at-requires : tie.Need-number-at-requires
 number-at-requires c κs = search needs
 
--- src/reader.rt:139:9
 state-key-requires : tie.Need-state-key-requires
 state-key-requires c κs = search needs
 
--- src/reader.rt:139:9
 returns : tie.Need-returns
 returns c =
     λ k b e i p.
     omega
     (arith, ap (λ j. itemKey j b) (kind-one 2 k (sym (c .before .before .if1 .taken) ∙ e)), c .state-key .ensures, c .before .number-at .ensures, number-as (c .before .before .before .args .t2) b p 1 (omega arith))
 
--- src/reader.rt:143:13
 number-at-requires-2 : tie.Need-number-at-requires-2
 number-at-requires-2 c κs = search needs
 
--- src/reader.rt:144:20
 array-read-letter : tie.Need-array-read-letter
 array-read-letter c = search needs
 
--- src/reader.rt:144:13
 letter-requires : tie.Need-letter-requires
 letter-requires c κs = search needs
 
--- src/reader.rt:145:20
 array-read-letter-2 : tie.Need-array-read-letter-2
 array-read-letter-2 c = search needs
 
--- src/reader.rt:145:13
 letter-requires-2 : tie.Need-letter-requires-2
 letter-requires-2 c κs = search needs
 
--- src/reader.rt:146:13
 number-at-requires-3 : tie.Need-number-at-requires-3
 number-at-requires-3 c κs = search needs
 
--- src/reader.rt:142:9
 arc-key-requires : tie.Need-arc-key-requires
 arc-key-requires c κs = search needs
 
--- src/reader.rt:142:9
 returns-2 : tie.Need-returns-2
 returns-2 c =
     λ k b e i p.
@@ -70,7 +59,6 @@ returns-2 c =
     c .arc-key .ensures ∙ (λ j. arcKey (record { source = c .before .before .before .before .number-at2 .ensures j; upper = c .before .before .before .letter .ensures j; lower = c .before .before .letter2 .ensures j; target = c .before .number-at3 .ensures j })) in
     omega (arith, ap (λ j. itemKey j b) (kind-one 4 k (sym (c .before .before .before .before .before .if2 .taken) ∙ e)), told, ap arcKey (arc-as (c .before .before .before .before .before .before .before .args .t2) b p))
 
--- src/reader.rt:135:1
 returns-3 : tie.Need-returns-3
 returns-3 c = λ k b e i p. key-none k b (λ z. c .before .if1 .left (e ∙ z)) (λ z. c .if2 .left (e ∙ z)) i
 

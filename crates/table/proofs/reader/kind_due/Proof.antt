@@ -10,51 +10,39 @@ use Rattle.table.proofs.reader.kind_due.Reads as reads
 use Rattle.table.proofs.reader.kind_due.Lts as lts
 use Rattle.table.proofs.reader.wide.Reads as wide-reads
 
--- src/reader.rt:44:25
 shared-slice-read-wide : tie.Need-shared-slice-read-wide
 shared-slice-read-wide c = search needs
 
--- src/reader.rt:44:9
 wide-requires : tie.Need-wide-requires
 wide-requires c κs = search needs
 
--- src/reader.rt:46:9
 returns : tie.Need-returns
 returns c = sym (after-two (countsIn (now (c .before .before .before .before .args .cells))) (c .before .before .before .before .args .lines) (omega (arith, c .before .wide .ensures .0)))
 
--- src/reader.rt:48:37
 shared-slice-read-wide-2 : tie.Need-shared-slice-read-wide-2
 shared-slice-read-wide-2 c = search needs
 
--- src/reader.rt:48:32
 wide-requires-2 : tie.Need-wide-requires-2
 wide-requires-2 c κs = search needs
 
--- src/reader.rt:48:21
 add-terminals : tie.Need-add-terminals
 add-terminals c = search needs
 
--- src/reader.rt:50:9
 returns-2 : tie.Need-returns-2
 returns-2 c = sym (after-three (countsIn (now (c .before .before .before .before .before .before .before .args .cells))) (c .before .before .before .before .before .before .before .args .lines) (omega (arith, c .before .before .before .before .wide .ensures .0)) (omega (arith, c .before .before .before .before .wide .ensures .0, c .before .wide2 .ensures .0)))
 
--- src/reader.rt:52:34
 shared-slice-read-wide-3 : tie.Need-shared-slice-read-wide-3
 shared-slice-read-wide-3 c = search needs
 
--- src/reader.rt:52:29
 wide-requires-3 : tie.Need-wide-requires-3
 wide-requires-3 c κs = search needs
 
--- src/reader.rt:52:17
 add-if3 : tie.Need-add-if3
 add-if3 c = search needs
 
--- src/reader.rt:53:9
 returns-3 : tie.Need-returns-3
 returns-3 c = sym (after-four (countsIn (now (c .before .before .before .before .before .before .before .before .before .before .args .cells))) (c .before .before .before .before .before .before .before .before .before .before .args .lines) (omega (arith, c .before .before .before .before .before .before .before .wide .ensures .0, c .before .before .before .before .wide2 .ensures .0)) (omega (arith, c .before .before .before .before .before .before .before .wide .ensures .0, c .before .before .before .before .wide2 .ensures .0, c .before .wide3 .ensures .0)))
 
--- src/reader.rt:40:1
 returns-4 : tie.Need-returns-4
 returns-4 c = sym (after-five (countsIn (now (c .before .before .before .before .before .before .before .before .before .before .args .cells))) (c .before .before .before .before .before .before .before .before .before .before .args .lines) (omega (arith, c .before .before .before .before .before .before .before .wide .ensures .0, c .before .before .before .before .wide2 .ensures .0, c .before .wide3 .ensures .0)))
 

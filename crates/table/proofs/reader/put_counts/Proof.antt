@@ -15,47 +15,36 @@ use Rattle.table.proofs.reader.put_counts.Lts as lts
 use Rattle.table.proofs.judge.counts_hold.Reads as counts-hold-reads
 use Rattle.table.proofs.scanner.number_at.Reads as number-at-reads
 
--- src/reader.rt:207:9
 number-at-requires : tie.Need-number-at-requires
 number-at-requires c κs = search needs
 
--- src/reader.rt:208:9
 number-at-requires-2 : tie.Need-number-at-requires-2
 number-at-requires-2 c κs = search needs
 
--- src/reader.rt:209:9
 number-at-requires-3 : tie.Need-number-at-requires-3
 number-at-requires-3 c κs = search needs
 
--- src/reader.rt:210:9
 number-at-requires-4 : tie.Need-number-at-requires-4
 number-at-requires-4 c κs = search needs
 
--- src/reader.rt:211:5
 slice-write-cells : tie.Need-slice-write-cells
 slice-write-cells c = search needs
 
--- src/reader.rt:212:5
 slice-write-cells-2 : tie.Need-slice-write-cells-2
 slice-write-cells-2 c = simp length-set (omega arith)
 
--- src/reader.rt:213:5
 slice-write-cells-3 : tie.Need-slice-write-cells-3
 slice-write-cells-3 c = simp length-set (omega arith)
 
--- src/reader.rt:214:5
 slice-write-cells-4 : tie.Need-slice-write-cells-4
 slice-write-cells-4 c = search needs
 
--- src/reader.rt:215:5
 counts-hold-requires : tie.Need-counts-hold-requires
 counts-hold-requires c κs = search needs
 
--- src/reader.rt:203:1
 same-length : tie.Need-same-length
 same-length c = search needs
 
--- src/reader.rt:203:1
 returns : tie.Need-returns
 returns c =
     let n : countsAs (c .before .before .before .before .number-at .result) (c .before .before .before .number-at2 .result) (c .before .before .number-at3 .result) (c .before .number-at4 .result) ≡ countsFrom (c .before .before .before .before .before .before .args .bytes) = λ i. countsAs (c .before .before .before .before .number-at .ensures i) (c .before .before .before .number-at2 .ensures i) (c .before .before .number-at3 .ensures i) (c .before .number-at4 .ensures i) in

@@ -10,43 +10,33 @@ use Rattle.table.proofs.reader.read.Lts as lts
 use Rattle.table.proofs.reader.copy.Reads as copy-reads
 use Rattle.table.proofs.reader.read_table.Reads as read-table-reads
 
--- src/reader.rt:250:34
 slice-aggregate-read-table : tie.Need-slice-aggregate-read-table
 slice-aggregate-read-table c = search needs
 
--- src/reader.rt:250:9
 read-table-requires : tie.Need-read-table-requires
 read-table-requires c κs = search needs
 
--- src/reader.rt:252:21
 enum-known-found : tie.Need-enum-known-found
 enum-known-found c = search needs
 
--- src/reader.rt:253:21
 enum-known-found-2 : tie.Need-enum-known-found-2
 enum-known-found-2 c = search needs
 
--- src/reader.rt:255:17
 returns : tie.Need-returns
 returns c = left-short (now (c .before .before .before .before .before .before .before .before .before .args .text)) (now (c .before .before .before .before .before .before .before .before .before .args .destination)) (c .before .before .found2 .given .0 .0) (sym (c .before .before .found2 .given .1) ∙ c .before .before .before .before .before .read-table .ensures .0) (c .if1 .taken)
 
--- src/reader.rt:257:18
 slice-aggregate-copy : tie.Need-slice-aggregate-copy
 slice-aggregate-copy c = search needs
 
--- src/reader.rt:257:13
 copy-requires : tie.Need-copy-requires
 copy-requires c κs = (omega (arith, c .before .before .before .before .before .before .before .read-table .kept, read-room (now (c .before .before .before .before .before .before .before .before .before .before .before .args .text)) (now (c .before .before .before .before .before .before .before .before .before .before .before .args .destination)) (c .before .before .before .before .found2 .given .0 .0) (sym (c .before .before .before .before .found2 .given .1) ∙ c .before .before .before .before .before .before .before .read-table .ensures .0)), omega arith)
 
--- src/reader.rt:245:1
 returns-2 : tie.Need-returns-2
 returns-2 c = left-fault (now (c .before .before .before .before .before .before .before .before .args .text)) (now (c .before .before .before .before .before .before .before .before .args .destination)) (c .before .found .given .0 .0) (sym (c .before .found .given .1) ∙ c .before .before .before .before .read-table .ensures .0)
 
--- src/reader.rt:245:1
 same-length : tie.Need-same-length
 same-length c = search needs
 
--- src/reader.rt:245:1
 returns-3 : tie.Need-returns-3
 returns-3 c =
     let d = left-done (now (c .before .before .before .before .before .before .before .before .before .before .before .before .before .before .args .text)) (now (c .before .before .before .before .before .before .before .before .before .before .before .before .before .before .args .destination)) (c .before .before .before .before .before .before .before .found2 .given .0 .0) (sym (c .before .before .before .before .before .before .before .found2 .given .1) ∙ c .before .before .before .before .before .before .before .before .before .before .read-table .ensures .0) (c .before .before .before .before .before .before .before .before .before .before .read-table .last .1 .0) (c .before .before .before .before .before .before .before .before .before .before .read-table .ensures .1) (omega arith) in

@@ -14,21 +14,17 @@ use Rattle.table.proofs.reader.read_end.Reads as reads
 use Rattle.table.proofs.reader.read_end.Lts as lts
 use Rattle.table.proofs.scanner.scan.Reads as scan-reads
 
--- src/reader.rt:157:9
 returns : tie.Need-returns
 unfolding linesOf parseFrom
 returns c = λ t e. ap Cells e ∙ ap (λ x. cellsRead (parseFrom (closed t) (linesOf x))) (sym (drop-of-length-le (now (c .before .before .args .text)) (c .if1 .taken)))
 
--- src/reader.rt:159:9
 scan-requires : tie.Need-scan-requires
 scan-requires c κs = search needs
 
--- src/reader.rt:153:1
 returns-2 : tie.Need-returns-2
 unfolding bytesFaults
 returns-2 c = λ t e. ap cellsRead (sym (parse-line (closed t) (now (c .before .before .before .before .args .text)) (c .before .before .before .before .args .at) (c .before .scan .result) (line-read (now (c .before .before .before .before .args .text)) (c .before .before .before .before .args .at) (c .before .scan .result) (c .before .before .if1 .left) (c .before .scan .ensures) (c .if2 .taken))))
 
--- src/reader.rt:153:1
 returns-3 : tie.Need-returns-3
 returns-3 c = λ t e. ap cellsRead (sym (parse-bad (closed t) (now (c .before .before .before .before .args .text)) (c .before .before .before .before .args .at) (line-bad (now (c .before .before .before .before .args .text)) (c .before .before .before .before .args .at) (c .before .scan .result) (c .before .before .if1 .left) (c .before .scan .ensures) (c .if2 .left))))
 

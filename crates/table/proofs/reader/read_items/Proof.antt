@@ -35,31 +35,24 @@ Inv-loop text start cells₀ at₀ lines₀ filled₀ top₀ cells at lines fill
 abbrev μ-loop : tie.MeasureT-loop
 μ-loop text start cells₀ at₀ lines₀ filled₀ top₀ cells at lines filled top = length text - at
 
--- src/reader.rt:177:5
 loop-holds : tie.Need-loop-holds Inv-loop μ-loop
 loop-holds c = reading-start (countsIn (now (c .before .before .args .cells))) (now (c .before .before .args .text)) (c .before .before .args .start) (now (c .before .before .args .cells)) refl (c .before .before .pre .2) (c .before .before .pre .1) (c .before .before .pre .0)
 
--- src/reader.rt:178:13
 scan-requires : tie.Need-scan-requires Inv-loop μ-loop
 scan-requires c κs = search needs
 
--- src/reader.rt:181:17
 kind-due-requires : tie.Need-kind-due-requires Inv-loop μ-loop
 kind-due-requires c κs = omega (arith, c .before .before .before .before .before .loop .inv .long)
 
--- src/reader.rt:182:17
 item-fault-requires : tie.Need-item-fault-requires Inv-loop μ-loop
 item-fault-requires c κs = record { counts = countsIn (now (c .before .before .before .before .before .before .before .before .before .before .args .cells)); table = c .before .before .before .before .before .before .before .loop .inv .table; tracks = c .before .before .before .before .before .before .before .loop .inv .tracks; kind-is = (c .before .kind-due .ensures ∙ ap (λ (x : Counts). kindAfter x (c .before .before .before .before .before .before .before .loop .lines)) (counts-held (countsIn (now (c .before .before .before .before .before .before .before .before .before .before .args .cells))) (c .before .before .before .before .before .before .before .loop .inv .table) (c .before .before .before .before .before .before .before .loop .lines) (c .before .before .before .before .before .before .before .loop .filled) (c .before .before .before .before .before .before .before .loop .top) (c .before .before .before .before .before .before .before .loop .cells) (c .before .before .before .before .before .before .before .loop .inv .tracks)) ∙ kind-due (countsIn (now (c .before .before .before .before .before .before .before .before .before .before .args .cells))) (c .before .before .before .before .before .before .before .loop .inv .table) (c .before .before .before .before .before .before .before .loop .lines) (c .before .before .before .before .before .before .before .loop .filled) (c .before .before .before .before .before .before .before .loop .top) (c .before .before .before .before .before .before .before .loop .cells) (c .before .before .before .before .before .before .before .loop .inv .tracks)) }
 
--- src/reader.rt:183:35
 enum-known-judged : tie.Need-enum-known-judged Inv-loop μ-loop
 enum-known-judged c = search needs
 
--- src/reader.rt:184:17
 same-length : tie.Need-same-length Inv-loop μ-loop
 same-length c = c .before .before .before .before .before .before .before .before .before .before .before .loop .inv .long ∙ sym (c .before .before .before .before .before .before .before .before .before .before .before .before .before .before .pre .0)
 
--- src/reader.rt:184:17
 returns : tie.Need-returns Inv-loop μ-loop
 returns c =
     let L = line-read (now (c .before .before .before .before .before .before .before .before .before .before .before .before .before .before .args .text)) (c .before .before .before .before .before .before .before .before .before .before .before .loop .at) (c .before .before .before .before .before .before .before .before .before .scan .result) (c .before .before .before .before .before .before .before .before .before .before .loop-test .taken) (c .before .before .before .before .before .before .before .before .before .scan .ensures) (c .before .before .before .before .before .before .before .before .if1 .taken) in
@@ -69,40 +62,32 @@ returns c =
 enum-told : tie.Need-enum-told Inv-loop μ-loop
 enum-told c = search needs
 
--- src/reader.rt:188:17
 read-end-requires : tie.Need-read-end-requires Inv-loop μ-loop
 read-end-requires c κs = search needs
 
--- src/reader.rt:188:17
 same-length-2 : tie.Need-same-length-2 Inv-loop μ-loop
 same-length-2 c = c .before .before .before .before .before .before .before .before .before .before .before .before .loop .inv .long ∙ sym (c .before .before .before .before .before .before .before .before .before .before .before .before .before .before .before .pre .0)
 
--- src/reader.rt:188:17
 returns-2 : tie.Need-returns-2 Inv-loop μ-loop
 returns-2 c =
     let L = line-read (now (c .before .before .before .before .before .before .before .before .before .before .before .before .before .before .before .args .text)) (c .before .before .before .before .before .before .before .before .before .before .before .before .loop .at) (c .before .before .before .before .before .before .before .before .before .before .scan .result) (c .before .before .before .before .before .before .before .before .before .before .before .loop-test .taken) (c .before .before .before .before .before .before .before .before .before .before .scan .ensures) (c .before .before .before .before .before .before .before .before .before .if1 .taken) in
     let J : judged (kindFaults (due (countsIn (now (c .before .before .before .before .before .before .before .before .before .before .before .before .before .before .before .args .cells))) (c .before .before .before .before .before .before .before .before .before .before .before .before .loop .inv .table)) (c .before .before .before .before .before .before .before .before .before .before .before .before .loop .inv .table) (bytesOf (L .line .chars))) ≡ c .before .before .before .before .item-fault .result = sym (c .before .before .before .before .item-fault .ensures (countsIn (now (c .before .before .before .before .before .before .before .before .before .before .before .before .before .before .before .args .cells))) (c .before .before .before .before .before .before .before .before .before .before .before .before .loop .inv .table) (bytesOf (L .line .chars)) (c .before .before .before .before .before .before .before .before .before .before .before .before .loop .inv .tracks) (c .before .before .before .before .before .before .kind-due .ensures ∙ ap (λ (x : Counts). kindAfter x (c .before .before .before .before .before .before .before .before .before .before .before .before .loop .lines)) (counts-held (countsIn (now (c .before .before .before .before .before .before .before .before .before .before .before .before .before .before .before .args .cells))) (c .before .before .before .before .before .before .before .before .before .before .before .before .loop .inv .table) (c .before .before .before .before .before .before .before .before .before .before .before .before .loop .lines) (c .before .before .before .before .before .before .before .before .before .before .before .before .loop .filled) (c .before .before .before .before .before .before .before .before .before .before .before .before .loop .top) (c .before .before .before .before .before .before .before .before .before .before .before .before .loop .cells) (c .before .before .before .before .before .before .before .before .before .before .before .before .loop .inv .tracks)) ∙ kind-due (countsIn (now (c .before .before .before .before .before .before .before .before .before .before .before .before .before .before .before .args .cells))) (c .before .before .before .before .before .before .before .before .before .before .before .before .loop .inv .table) (c .before .before .before .before .before .before .before .before .before .before .before .before .loop .lines) (c .before .before .before .before .before .before .before .before .before .before .before .before .loop .filled) (c .before .before .before .before .before .before .before .before .before .before .before .before .loop .top) (c .before .before .before .before .before .before .before .before .before .before .before .before .loop .cells) (c .before .before .before .before .before .before .before .before .before .before .before .before .loop .inv .tracks)) (L .bytes-are) (L .count-is)) in
     out-end (countsIn (now (c .before .before .before .before .before .before .before .before .before .before .before .before .before .before .before .args .cells))) (now (c .before .before .before .before .before .before .before .before .before .before .before .before .before .before .before .args .text)) (c .before .before .before .before .before .before .before .before .before .before .before .before .before .before .before .args .start) (c .before .before .before .before .before .before .before .before .before .before .before .before .loop .at) (c .before .before .before .before .before .before .before .before .before .before .before .before .loop .lines) (c .before .before .before .before .before .before .before .before .before .before .before .before .loop .filled) (c .before .before .before .before .before .before .before .before .before .before .before .before .loop .top) (c .before .before .before .before .before .before .before .before .before .before .before .before .loop .cells) (c .before .before .before .before .before .before .before .before .before .before .before .before .loop .inv) (c .before .before .before .before .before .before .before .before .before .before .scan .result) L (J ∙ c .before .before .enum-told .given .1) (c .read-end .result) (kind-one 5 (due (countsIn (now (c .before .before .before .before .before .before .before .before .before .before .before .before .before .before .before .args .cells))) (c .before .before .before .before .before .before .before .before .before .before .before .before .loop .inv .table)) (sym (c .before .if2 .taken) ∙ (c .before .before .before .before .before .before .kind-due .ensures ∙ ap (λ (x : Counts). kindAfter x (c .before .before .before .before .before .before .before .before .before .before .before .before .loop .lines)) (counts-held (countsIn (now (c .before .before .before .before .before .before .before .before .before .before .before .before .before .before .before .args .cells))) (c .before .before .before .before .before .before .before .before .before .before .before .before .loop .inv .table) (c .before .before .before .before .before .before .before .before .before .before .before .before .loop .lines) (c .before .before .before .before .before .before .before .before .before .before .before .before .loop .filled) (c .before .before .before .before .before .before .before .before .before .before .before .before .loop .top) (c .before .before .before .before .before .before .before .before .before .before .before .before .loop .cells) (c .before .before .before .before .before .before .before .before .before .before .before .before .loop .inv .tracks)) ∙ kind-due (countsIn (now (c .before .before .before .before .before .before .before .before .before .before .before .before .before .before .before .args .cells))) (c .before .before .before .before .before .before .before .before .before .before .before .before .loop .inv .table) (c .before .before .before .before .before .before .before .before .before .before .before .before .loop .lines) (c .before .before .before .before .before .before .before .before .before .before .before .before .loop .filled) (c .before .before .before .before .before .before .before .before .before .before .before .before .loop .top) (c .before .before .before .before .before .before .before .before .before .before .before .before .loop .cells) (c .before .before .before .before .before .before .before .before .before .before .before .before .loop .inv .tracks)))) (c .read-end .ensures)
 
--- src/reader.rt:190:17
 item-key-requires : tie.Need-item-key-requires Inv-loop μ-loop
 item-key-requires c κs = search needs
 
--- src/reader.rt:194:13
 append-requires : tie.Need-append-requires Inv-loop μ-loop
 append-requires c κs = room (countsIn (now (c .before .before .before .before .before .before .before .before .before .before .before .before .before .before .before .before .before .args .cells))) (now (c .before .before .before .before .before .before .before .before .before .before .before .before .before .before .before .before .before .args .text)) (c .before .before .before .before .before .before .before .before .before .before .before .before .before .before .before .before .before .args .start) (c .before .before .before .before .before .before .before .before .before .before .before .before .before .before .loop .at) (c .before .before .before .before .before .before .before .before .before .before .before .before .before .before .loop .lines) (c .before .before .before .before .before .before .before .before .before .before .before .before .before .before .loop .filled) (c .before .before .before .before .before .before .before .before .before .before .before .before .before .before .loop .top) (c .before .before .before .before .before .before .before .before .before .before .before .before .before .before .loop .cells) (c .before .before .before .before .before .before .before .before .before .before .before .before .before .before .loop .inv) (λ z. c .before .before .before .if2 .left ((c .before .before .before .before .before .before .before .before .kind-due .ensures ∙ ap (λ (x : Counts). kindAfter x (c .before .before .before .before .before .before .before .before .before .before .before .before .before .before .loop .lines)) (counts-held (countsIn (now (c .before .before .before .before .before .before .before .before .before .before .before .before .before .before .before .before .before .args .cells))) (c .before .before .before .before .before .before .before .before .before .before .before .before .before .before .loop .inv .table) (c .before .before .before .before .before .before .before .before .before .before .before .before .before .before .loop .lines) (c .before .before .before .before .before .before .before .before .before .before .before .before .before .before .loop .filled) (c .before .before .before .before .before .before .before .before .before .before .before .before .before .before .loop .top) (c .before .before .before .before .before .before .before .before .before .before .before .before .before .before .loop .cells) (c .before .before .before .before .before .before .before .before .before .before .before .before .before .before .loop .inv .tracks)) ∙ kind-due (countsIn (now (c .before .before .before .before .before .before .before .before .before .before .before .before .before .before .before .before .before .args .cells))) (c .before .before .before .before .before .before .before .before .before .before .before .before .before .before .loop .inv .table) (c .before .before .before .before .before .before .before .before .before .before .before .before .before .before .loop .lines) (c .before .before .before .before .before .before .before .before .before .before .before .before .before .before .loop .filled) (c .before .before .before .before .before .before .before .before .before .before .before .before .before .before .loop .top) (c .before .before .before .before .before .before .before .before .before .before .before .before .before .before .loop .cells) (c .before .before .before .before .before .before .before .before .before .before .before .before .before .before .loop .inv .tracks)) ∙ z))
 
--- src/reader.rt:195:13
 add-lines : tie.Need-add-lines Inv-loop μ-loop
 add-lines c = omega (arith, lines-few (countsIn (now (c .before .before .before .before .before .before .before .before .before .before .before .before .before .before .before .before .before .before .before .before .args .cells))) (now (c .before .before .before .before .before .before .before .before .before .before .before .before .before .before .before .before .before .before .before .before .args .text)) (c .before .before .before .before .before .before .before .before .before .before .before .before .before .before .before .before .before .before .before .before .args .start) (c .before .before .before .before .before .before .before .before .before .before .before .before .before .before .before .before .before .loop .at) (c .before .before .before .before .before .before .before .before .before .before .before .before .before .before .before .before .before .loop .lines) (c .before .before .before .before .before .before .before .before .before .before .before .before .before .before .before .before .before .loop .filled) (c .before .before .before .before .before .before .before .before .before .before .before .before .before .before .before .before .before .loop .top) (c .before .before .before .before .before .before .before .before .before .before .before .before .before .before .before .before .before .loop .cells) (c .before .before .before .before .before .before .before .before .before .before .before .before .before .before .before .before .before .loop .inv))
 
--- src/reader.rt:177:5
 loop-less : tie.Need-loop-less Inv-loop μ-loop
 loop-less c =
     let L = line-read (now (c .before .before .before .before .before .before .before .before .before .before .before .before .before .before .before .before .before .before .before .before .args .text)) (c .before .before .before .before .before .before .before .before .before .before .before .before .before .before .before .before .before .loop .at) (c .before .before .before .before .before .before .before .before .before .before .before .before .before .before .before .scan .result) (c .before .before .before .before .before .before .before .before .before .before .before .before .before .before .before .before .loop-test .taken) (c .before .before .before .before .before .before .before .before .before .before .before .before .before .before .before .scan .ensures) (c .before .before .before .before .before .before .before .before .before .before .before .before .before .before .if1 .taken) in
     omega (arith, L .next-after, L .next-inside)
 
--- src/reader.rt:177:5
 loop-again : tie.Need-loop-again Inv-loop μ-loop
 loop-again c =
     let L = line-read (now (c .before .before .before .before .before .before .before .before .before .before .before .before .before .before .before .before .before .before .before .before .args .text)) (c .before .before .before .before .before .before .before .before .before .before .before .before .before .before .before .before .before .loop .at) (c .before .before .before .before .before .before .before .before .before .before .before .before .before .before .before .scan .result) (c .before .before .before .before .before .before .before .before .before .before .before .before .before .before .before .before .loop-test .taken) (c .before .before .before .before .before .before .before .before .before .before .before .before .before .before .before .scan .ensures) (c .before .before .before .before .before .before .before .before .before .before .before .before .before .before .if1 .taken) in
@@ -118,19 +103,15 @@ loop-again c =
     (λ (n : ℕ). ReadingOn (countsIn (now (c .before .before .before .before .before .before .before .before .before .before .before .before .before .before .before .before .before .before .before .before .args .cells))) (now (c .before .before .before .before .before .before .before .before .before .before .before .before .before .before .before .before .before .before .before .before .args .text)) (c .before .before .before .before .before .before .before .before .before .before .before .before .before .before .before .before .before .before .before .before .args .start) (c .before .before .before .before .before .before .before .before .before .before .before .before .before .before .before .scan .result .next) (c .before .before .before .before .before .before .before .before .before .before .before .before .before .before .before .before .before .loop .lines + 1) n (c .before .before .before .before .if3 .top) (sets (c .before .before .before .before .before .before .before .before .before .before .before .before .before .before .before .before .before .loop .cells) (c .before .before .before .before .before .before .before .before .before .before .before .before .before .before .before .before .before .loop .filled) (itemCells (due (countsIn (now (c .before .before .before .before .before .before .before .before .before .before .before .before .before .before .before .before .before .before .before .before .args .cells))) (c .before .before .before .before .before .before .before .before .before .before .before .before .before .before .before .before .before .loop .inv .table)) (bytesOf (L .line .chars)))))
     (sym (put .0)) (reading-more (countsIn (now (c .before .before .before .before .before .before .before .before .before .before .before .before .before .before .before .before .before .before .before .before .args .cells))) (now (c .before .before .before .before .before .before .before .before .before .before .before .before .before .before .before .before .before .before .before .before .args .text)) (c .before .before .before .before .before .before .before .before .before .before .before .before .before .before .before .before .before .before .before .before .args .start) (c .before .before .before .before .before .before .before .before .before .before .before .before .before .before .before .before .before .loop .at) (c .before .before .before .before .before .before .before .before .before .before .before .before .before .before .before .before .before .loop .lines) (c .before .before .before .before .before .before .before .before .before .before .before .before .before .before .before .before .before .loop .filled) (c .before .before .before .before .before .before .before .before .before .before .before .before .before .before .before .before .before .loop .top) (c .before .before .before .before .before .before .before .before .before .before .before .before .before .before .before .before .before .loop .cells) (c .before .before .before .before .before .before .before .before .before .before .before .before .before .before .before .before .before .loop .inv) (c .before .before .before .before .before .before .before .before .before .before .before .before .before .before .before .scan .result) L (J ∙ c .before .before .before .before .before .before .before .enum-told .given .1) (c .before .before .before .before .if3 .top) i low key))
 
--- src/reader.rt:197:13
 same-length-3 : tie.Need-same-length-3 Inv-loop μ-loop
 same-length-3 c = c .before .before .before .loop .inv .long ∙ sym (c .before .before .before .before .before .before .pre .0)
 
--- src/reader.rt:197:13
 returns-3 : tie.Need-returns-3 Inv-loop μ-loop
 returns-3 c = out-bad (countsIn (now (c .before .before .before .before .before .before .args .cells))) (now (c .before .before .before .before .before .before .args .text)) (c .before .before .before .before .before .before .args .start) (c .before .before .before .loop .at) (c .before .before .before .loop .lines) (c .before .before .before .loop .filled) (c .before .before .before .loop .top) (c .before .before .before .loop .cells) (c .before .before .before .loop .inv) (line-bad (now (c .before .before .before .before .before .before .args .text)) (c .before .before .before .loop .at) (c .before .scan .result) (c .before .before .loop-test .taken) (c .before .scan .ensures) (c .if1 .left))
 
--- src/reader.rt:168:1
 same-length-4 : tie.Need-same-length-4 Inv-loop μ-loop
 same-length-4 c = c .before .loop .inv .long ∙ sym (c .before .before .before .before .pre .0)
 
--- src/reader.rt:168:1
 returns-4 : tie.Need-returns-4 Inv-loop μ-loop
 returns-4 c = out-missing (countsIn (now (c .before .before .before .before .args .cells))) (now (c .before .before .before .before .args .text)) (c .before .before .before .before .args .start) (c .before .loop .at) (c .before .loop .lines) (c .before .loop .filled) (c .before .loop .top) (c .before .loop .cells) (c .before .loop .inv) (c .loop-test .left)
 

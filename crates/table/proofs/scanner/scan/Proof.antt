@@ -21,87 +21,66 @@ Inv-loop text start bytes₀ count₀ at₀ bytes count at = Scanning text start
 abbrev μ-loop : tie.MeasureT-loop
 μ-loop text start bytes₀ count₀ at₀ bytes count at = length text - at
 
--- src/scanner.rt:31:5
 loop-holds : tie.Need-loop-holds Inv-loop μ-loop
 loop-holds c = scanning-none (now (c .before .args .text)) (c .before .args .start) (omega arith)
 
--- src/scanner.rt:32:20
 shared-slice-read-high : tie.Need-shared-slice-read-high Inv-loop μ-loop
 shared-slice-read-high c = search needs
 
--- src/scanner.rt:35:17
 malformed-requires : tie.Need-malformed-requires Inv-loop μ-loop
 malformed-requires c κs = search needs
 
--- src/scanner.rt:35:17
 returns : tie.Need-returns Inv-loop μ-loop
 returns c = c .malformed .ensures ∙ sym (out-empty (now (c .before .before .before .before .before .before .before .args .text)) (c .before .before .before .before .before .before .before .args .start) (c .before .before .before .before .before .loop .bytes) (c .before .before .before .before .before .loop .count) (c .before .before .before .before .before .loop .at) (c .before .before .before .before .before .loop .inv) (c .before .before .before .before .loop-test .taken) (c .before .before .if1 .taken) (c .before .if2 .taken))
 
--- src/scanner.rt:40:23
 add-t13 : tie.Need-add-t13 Inv-loop μ-loop
 add-t13 c = search needs
 
--- src/scanner.rt:37:13
 returns-2 : tie.Need-returns-2 Inv-loop μ-loop
 returns-2 c = sym (out-line (now (c .before .before .before .before .before .before .args .text)) (c .before .before .before .before .before .before .args .start) (c .before .before .before .before .loop .bytes) (c .before .before .before .before .loop .count) (c .before .before .before .before .loop .at) (c .before .before .before .before .loop .inv) (c .before .before .before .loop-test .taken) (c .before .if1 .taken) (c .if2 .left))
 
--- src/scanner.rt:44:26
 add-if3 : tie.Need-add-if3 Inv-loop μ-loop
 add-if3 c = search needs
 
--- src/scanner.rt:45:13
 malformed-requires-2 : tie.Need-malformed-requires-2 Inv-loop μ-loop
 malformed-requires-2 c κs = search needs
 
--- src/scanner.rt:45:13
 returns-3 : tie.Need-returns-3 Inv-loop μ-loop
 returns-3 c = c .malformed2 .ensures ∙ sym (out-half (now (c .before .before .before .before .before .before .before .args .text)) (c .before .before .before .before .before .before .before .args .start) (c .before .before .before .before .before .loop .bytes) (c .before .before .before .before .before .loop .count) (c .before .before .before .before .before .loop .at) (c .before .before .before .before .before .loop .inv) (c .before .before .before .before .loop-test .taken) (c .before .if3 .taken) (c .before .before .if1 .left))
 
--- src/scanner.rt:47:56
 add-decode : tie.Need-add-decode Inv-loop μ-loop
 add-decode c = search needs
 
--- src/scanner.rt:47:51
 shared-slice-read-decode : tie.Need-shared-slice-read-decode Inv-loop μ-loop
 shared-slice-read-decode c = search needs
 
--- src/scanner.rt:47:33
 decode-requires : tie.Need-decode-requires Inv-loop μ-loop
 decode-requires c κs = search needs
 
--- src/scanner.rt:47:28
 enum-known-b : tie.Need-enum-known-b Inv-loop μ-loop
 enum-known-b c = search needs
 
--- src/scanner.rt:48:13
 enum-told : tie.Need-enum-told Inv-loop μ-loop
 enum-told c = search needs
 
--- src/scanner.rt:48:13
 malformed-requires-3 : tie.Need-malformed-requires-3 Inv-loop μ-loop
 malformed-requires-3 c κs = search needs
 
--- src/scanner.rt:48:13
 returns-4 : tie.Need-returns-4 Inv-loop μ-loop
 returns-4 c = c .malformed3 .ensures ∙ sym (out-invalid (now (c .before .before .before .before .before .before .before .before .before .before .before .args .text)) (c .before .before .before .before .before .before .before .before .before .before .before .args .start) (c .before .before .before .before .before .before .before .before .before .loop .bytes) (c .before .before .before .before .before .before .before .before .before .loop .count) (c .before .before .before .before .before .before .before .before .before .loop .at) (c .before .before .before .before .before .before .before .before .before .loop .inv) (c .before .before .before .before .before .if3 .left) (c .before .before .before .before .before .before .if1 .left) (sym (c .before .before .before .decode .ensures) ∙ c .before .enum-told .given .1))
 
--- src/scanner.rt:51:13
 array-write-bytes : tie.Need-array-write-bytes Inv-loop μ-loop
 array-write-bytes c = search needs
 
--- src/scanner.rt:53:9
 add-count : tie.Need-add-count Inv-loop μ-loop
 add-count c = search needs
 
--- src/scanner.rt:54:9
 add-at : tie.Need-add-at Inv-loop μ-loop
 add-at c = search needs
 
--- src/scanner.rt:31:5
 loop-less : tie.Need-loop-less Inv-loop μ-loop
 loop-less c = search needs
 
--- src/scanner.rt:31:5
 loop-again : tie.Need-loop-again Inv-loop μ-loop
 loop-again c =
     let count-is = c .before .before .before .before .before .before .before .before .before .before .loop .inv .count-is in
@@ -114,11 +93,9 @@ loop-again c =
     (λ w. w .1 ∙ bytes-are ∙ sym (padded-many so-far v (omega (arith, w .0 .left, count-is)))) (c .if4 .came) in
     scanning-more (now (c .before .before .before .before .before .before .before .before .before .before .before .before .args .text)) (c .before .before .before .before .before .before .before .before .before .before .before .before .args .start) (c .before .before .before .before .before .before .before .before .before .before .loop .bytes) (c .before .before .before .before .before .before .before .before .before .before .loop .count) (c .before .before .before .before .before .before .before .before .before .before .loop .at) (c .before .before .before .before .before .before .before .before .before .before .loop .inv) v (c .if4 .bytes) (c .before .before .before .before .before .before .if3 .left) (sym (c .before .before .before .before .decode .ensures) ∙ c .before .before .b .given .1) more
 
--- src/scanner.rt:56:5
 malformed-requires-4 : tie.Need-malformed-requires-4 Inv-loop μ-loop
 malformed-requires-4 c κs = search needs
 
--- src/scanner.rt:24:1
 returns-5 : tie.Need-returns-5 Inv-loop μ-loop
 returns-5 c = c .malformed4 .ensures ∙ sym (out-end (now (c .before .before .before .before .args .text)) (c .before .before .before .before .args .start) (c .before .before .loop .bytes) (c .before .before .loop .count) (c .before .before .loop .at) (c .before .before .loop .inv) (c .before .before .before .before .pre) (c .before .loop-test .left))
 

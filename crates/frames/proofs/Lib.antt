@@ -1,0 +1,3 @@
+-- Laws of the side rules and of the output.
+pub mod Following
+pub mod Gathered

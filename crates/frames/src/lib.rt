@@ -1,0 +1,31 @@
+// Frames: their cells on a stack, what an arc makes of their counts, whether their path accepts, and its output.
+pub mod cells;
+pub mod output;
+pub mod sides;
+
+// What a search needs of its table and task besides their lists: the count of states, and whether each side is read.
+pub struct Setup {
+    pub states: u16,
+    pub up: bool,
+    pub low: bool,
+}
+
+// A frame: its state, its next arc, and the letters passed on each side.
+pub struct Frame {
+    pub state: u32,
+    pub next: u32,
+    pub up: u32,
+    pub low: u32,
+}
+
+// What an arc makes of one side's count, if it fits there.
+pub enum Count {
+    Passes(u32),
+    Stops,
+}
+
+// What an arc makes of both counts, if it fits.
+pub enum Fit {
+    Fits(u32, u32),
+    Fails,
+}

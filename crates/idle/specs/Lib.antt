@@ -1,0 +1,2 @@
+-- What the search for an idle cycle says.
+pub mod Graph

@@ -1,0 +1,2 @@
+-- Laws of refusal 21.
+pub mod Placing

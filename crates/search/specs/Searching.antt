@@ -1,0 +1,17 @@
+-- What the code of a call answers and leaves, by what the machine tells.
+use Prim.Native.Nat.{ℕ}
+use mathlib.Core.Path.{_≡_}
+use mathlib.Core.List.{List}
+use Rattle.machine.specs.declared.Run.{Run}
+use Rattle.machine.specs.declared.Answer.{Answer}
+use Rattle.machine.specs.declared.Called.{Called}
+use Rattle.machine.specs.Call.{Told}
+use Rattle.machine.specs.Reading.{outcomeAs}
+
+-- an answer and a run
+abbrev pub calledWith : Answer → Run → Called
+calledWith answer run = record { answer = answer; run = run }
+
+-- the answer with the run, the cells e and the output o, where the task's number is k and the buffer was b
+abbrev pub SearchIs : ℕ → List ℕ → Told (List ℕ) → Called → List ℕ → List ℕ → Type 0
+SearchIs k b told r e o = (r ≡ outcomeAs k b told .called) × (e ≡ outcomeAs k b told .stack) × (o ≡ outcomeAs k b told .output)

@@ -1,0 +1,101 @@
+use borrow.Author.Needs.{needs}
+use native.Mathlib.Omega.{arith}
+use Prim.Native.Nat.{ℕ, _<_, _≤_}
+use mathlib.Core.Path.{sym, subst, _∙_}
+use denote.Ref.{now}
+use Rattle.step.proofs.Moves.{begins-is, state-indexed, drops-by, small-up, small-low, arc-in, skips-by, pushes-by}
+use Rattle.step.proofs.choose.Statement.{statement}
+use Rattle.step.proofs.choose.Tie as tie
+
+add-t17 : tie.Need-add-t17
+add-t17 c = let h = c .before .before .before .before .before .before .before .pre .0 .some-left (c .if1 .taken) in omega (arith, c .before .before .before .before .before .before .before .pre .0 .few-initials)
+
+mul-t18 : tie.Need-mul-t18
+mul-t18 c = search needs
+
+shared-slice-read-t20 : tie.Need-shared-slice-read-t20
+shared-slice-read-t20 c = c .before .before .before .before .before .before .before .before .pre .0 .some-left (c .before .if1 .taken)
+
+returns : tie.Need-returns
+returns c = begins-is (c .before .before .before .before .before .before .before .before .args .setup) (now (c .before .before .before .before .before .before .before .before .args .initials)) (now (c .before .before .before .before .before .before .before .before .args .arcs)) (now (c .before .before .before .before .before .before .before .before .args .upper)) (now (c .before .before .before .before .before .before .before .before .args .lower)) (c .before .before .before .before .before .before .before .before .args .started) (now (c .before .before .before .before .before .before .before .before .args .stack)) (c .before .before .before .before .before .before .before .before .args .depth) (c .before .if1 .taken) (c .before .before .before .before .before .before .before .before .pre .0 .some-left (c .before .if1 .taken))
+
+sub-look : tie.Need-sub-look
+sub-look c = search needs
+
+look-requires : tie.Need-look-requires
+look-requires c κs = search needs
+
+cast-state : tie.Need-cast-state
+cast-state c = search needs
+
+cast-next : tie.Need-cast-next
+cast-next c = search needs
+
+add-wide : tie.Need-add-wide
+add-wide c = search needs
+
+mul-wide : tie.Need-mul-wide
+mul-wide c = search needs
+
+shared-slice-read-wide : tie.Need-shared-slice-read-wide
+shared-slice-read-wide c = state-indexed (c .before .before .before .before .before .before .before .before .before .before .before .args .setup) (now (c .before .before .before .before .before .before .before .before .before .before .before .args .initials)) (now (c .before .before .before .before .before .before .before .before .before .before .before .args .arcs)) (now (c .before .before .before .before .before .before .before .before .before .before .before .args .upper)) (now (c .before .before .before .before .before .before .before .before .before .before .before .args .lower)) (c .before .before .before .before .before .before .before .before .before .before .before .args .started) (now (c .before .before .before .before .before .before .before .before .before .before .before .args .stack)) (now (c .before .before .before .before .before .before .before .before .before .before .before .args .first)) (c .before .before .before .before .before .before .before .before .before .before .before .args .depth) (c .before .before .before .before .before .before .before .before .before .before .before .pre .0) (c .before .before .before .before .if1 .left) (c .before .before .before .look .result) (c .before .before .before .look .ensures)
+
+wide-requires : tie.Need-wide-requires
+wide-requires c κs = search needs
+
+returns-2 : tie.Need-returns-2
+returns-2 c = drops-by (c .before .before .before .before .before .before .before .before .before .before .before .before .before .args .setup) (now (c .before .before .before .before .before .before .before .before .before .before .before .before .before .args .initials)) (now (c .before .before .before .before .before .before .before .before .before .before .before .before .before .args .arcs)) (now (c .before .before .before .before .before .before .before .before .before .before .before .before .before .args .upper)) (now (c .before .before .before .before .before .before .before .before .before .before .before .before .before .args .lower)) (c .before .before .before .before .before .before .before .before .before .before .before .before .before .args .started) (now (c .before .before .before .before .before .before .before .before .before .before .before .before .before .args .stack)) (now (c .before .before .before .before .before .before .before .before .before .before .before .before .before .args .first)) (c .before .before .before .before .before .before .before .before .before .before .before .before .before .args .depth) (c .before .before .before .before .before .before .before .before .before .before .before .before .before .pre .0) (c .before .before .before .before .before .before .if1 .left) (c .before .before .before .before .before .look .result) (c .before .before .before .before .before .look .ensures) (subst (λ (x : ℕ). x ≤ c .before .before .before .before .before .look .result .next) (c .before .wide .ensures) (c .if2 .taken))
+
+follow-requires : tie.Need-follow-requires
+follow-requires c κs = (arc-in (c .before .before .before .before .before .before .before .before .before .before .before .before .before .args .setup) (now (c .before .before .before .before .before .before .before .before .before .before .before .before .before .args .initials)) (now (c .before .before .before .before .before .before .before .before .before .before .before .before .before .args .arcs)) (now (c .before .before .before .before .before .before .before .before .before .before .before .before .before .args .upper)) (now (c .before .before .before .before .before .before .before .before .before .before .before .before .before .args .lower)) (c .before .before .before .before .before .before .before .before .before .before .before .before .before .args .started) (now (c .before .before .before .before .before .before .before .before .before .before .before .before .before .args .stack)) (now (c .before .before .before .before .before .before .before .before .before .before .before .before .before .args .first)) (c .before .before .before .before .before .before .before .before .before .before .before .before .before .args .depth) (c .before .before .before .before .before .before .before .before .before .before .before .before .before .pre .0) (c .before .before .before .before .before .before .if1 .left) (c .before .before .before .before .before .look .result) (c .before .before .before .before .before .look .ensures) (subst (λ (x : ℕ). c .before .before .before .before .before .look .result .next < x) (c .before .wide .ensures) (c .if2 .left)), small-up (c .before .before .before .before .before .before .before .before .before .before .before .before .before .args .setup) (now (c .before .before .before .before .before .before .before .before .before .before .before .before .before .args .initials)) (now (c .before .before .before .before .before .before .before .before .before .before .before .before .before .args .arcs)) (now (c .before .before .before .before .before .before .before .before .before .before .before .before .before .args .upper)) (now (c .before .before .before .before .before .before .before .before .before .before .before .before .before .args .lower)) (c .before .before .before .before .before .before .before .before .before .before .before .before .before .args .started) (now (c .before .before .before .before .before .before .before .before .before .before .before .before .before .args .stack)) (now (c .before .before .before .before .before .before .before .before .before .before .before .before .before .args .first)) (c .before .before .before .before .before .before .before .before .before .before .before .before .before .args .depth) (c .before .before .before .before .before .before .before .before .before .before .before .before .before .pre .0) (c .before .before .before .before .before .before .if1 .left) (c .before .before .before .before .before .look .result) (c .before .before .before .before .before .look .ensures), small-low (c .before .before .before .before .before .before .before .before .before .before .before .before .before .args .setup) (now (c .before .before .before .before .before .before .before .before .before .before .before .before .before .args .initials)) (now (c .before .before .before .before .before .before .before .before .before .before .before .before .before .args .arcs)) (now (c .before .before .before .before .before .before .before .before .before .before .before .before .before .args .upper)) (now (c .before .before .before .before .before .before .before .before .before .before .before .before .before .args .lower)) (c .before .before .before .before .before .before .before .before .before .before .before .before .before .args .started) (now (c .before .before .before .before .before .before .before .before .before .before .before .before .before .args .stack)) (now (c .before .before .before .before .before .before .before .before .before .before .before .before .before .args .first)) (c .before .before .before .before .before .before .before .before .before .before .before .before .before .args .depth) (c .before .before .before .before .before .before .before .before .before .before .before .before .before .pre .0) (c .before .before .before .before .before .before .if1 .left) (c .before .before .before .before .before .look .result) (c .before .before .before .before .before .look .ensures))
+
+enum-told : tie.Need-enum-told
+enum-told c = search needs
+
+enum-known-up : tie.Need-enum-known-up
+enum-known-up c = search needs
+
+mul-t28 : tie.Need-mul-t28
+mul-t28 c = search needs
+
+add-t29 : tie.Need-add-t29
+add-t29 c = search needs
+
+mul-t30 : tie.Need-mul-t30
+mul-t30 c = search needs
+
+shared-slice-read-t32 : tie.Need-shared-slice-read-t32
+shared-slice-read-t32 c = arc-in (c .before .before .before .before .before .before .before .before .before .before .before .before .before .before .before .before .before .before .args .setup) (now (c .before .before .before .before .before .before .before .before .before .before .before .before .before .before .before .before .before .before .args .initials)) (now (c .before .before .before .before .before .before .before .before .before .before .before .before .before .before .before .before .before .before .args .arcs)) (now (c .before .before .before .before .before .before .before .before .before .before .before .before .before .before .before .before .before .before .args .upper)) (now (c .before .before .before .before .before .before .before .before .before .before .before .before .before .before .before .before .before .before .args .lower)) (c .before .before .before .before .before .before .before .before .before .before .before .before .before .before .before .before .before .before .args .started) (now (c .before .before .before .before .before .before .before .before .before .before .before .before .before .before .before .before .before .before .args .stack)) (now (c .before .before .before .before .before .before .before .before .before .before .before .before .before .before .before .before .before .before .args .first)) (c .before .before .before .before .before .before .before .before .before .before .before .before .before .before .before .before .before .before .args .depth) (c .before .before .before .before .before .before .before .before .before .before .before .before .before .before .before .before .before .before .pre .0) (c .before .before .before .before .before .before .before .before .before .before .before .if1 .left) (c .before .before .before .before .before .before .before .before .before .before .look .result) (c .before .before .before .before .before .before .before .before .before .before .look .ensures) (subst (λ (x : ℕ). c .before .before .before .before .before .before .before .before .before .before .look .result .next < x) (c .before .before .before .before .before .before .wide .ensures) (c .before .before .before .before .before .if2 .left))
+
+returns-3 : tie.Need-returns-3
+returns-3 c = skips-by (c .before .before .before .before .before .before .before .before .before .before .before .before .before .before .before .before .args .setup) (now (c .before .before .before .before .before .before .before .before .before .before .before .before .before .before .before .before .args .initials)) (now (c .before .before .before .before .before .before .before .before .before .before .before .before .before .before .before .before .args .arcs)) (now (c .before .before .before .before .before .before .before .before .before .before .before .before .before .before .before .before .args .upper)) (now (c .before .before .before .before .before .before .before .before .before .before .before .before .before .before .before .before .args .lower)) (c .before .before .before .before .before .before .before .before .before .before .before .before .before .before .before .before .args .started) (now (c .before .before .before .before .before .before .before .before .before .before .before .before .before .before .before .before .args .stack)) (now (c .before .before .before .before .before .before .before .before .before .before .before .before .before .before .before .before .args .first)) (c .before .before .before .before .before .before .before .before .before .before .before .before .before .before .before .before .args .depth) (c .before .before .before .before .before .before .before .before .before .before .before .before .before .before .before .before .pre .0) (c .before .before .before .before .before .before .before .before .before .if1 .left) (c .before .before .before .before .before .before .before .before .look .result) (c .before .before .before .before .before .before .before .before .look .ensures) (subst (λ (x : ℕ). c .before .before .before .before .before .before .before .before .look .result .next < x) (c .before .before .before .before .wide .ensures) (c .before .before .before .if2 .left)) (c .before .before .before .before .before .before .before .before .before .before .before .before .before .before .before .before .pre .1) (sym (c .enum-told .given .1) ∙ c .before .before .follow .ensures)
+
+returns-4 : tie.Need-returns-4
+returns-4 c = pushes-by (c .before .before .before .before .before .before .before .before .before .before .before .before .before .before .before .before .before .before .args .setup) (now (c .before .before .before .before .before .before .before .before .before .before .before .before .before .before .before .before .before .before .args .initials)) (now (c .before .before .before .before .before .before .before .before .before .before .before .before .before .before .before .before .before .before .args .arcs)) (now (c .before .before .before .before .before .before .before .before .before .before .before .before .before .before .before .before .before .before .args .upper)) (now (c .before .before .before .before .before .before .before .before .before .before .before .before .before .before .before .before .before .before .args .lower)) (c .before .before .before .before .before .before .before .before .before .before .before .before .before .before .before .before .before .before .args .started) (now (c .before .before .before .before .before .before .before .before .before .before .before .before .before .before .before .before .before .before .args .stack)) (now (c .before .before .before .before .before .before .before .before .before .before .before .before .before .before .before .before .before .before .args .first)) (c .before .before .before .before .before .before .before .before .before .before .before .before .before .before .before .before .before .before .args .depth) (c .before .before .before .before .before .before .before .before .before .before .before .before .before .before .before .before .before .before .pre .0) (c .before .before .before .before .before .before .before .before .before .before .before .if1 .left) (c .before .before .before .before .before .before .before .before .before .before .look .result) (c .before .before .before .before .before .before .before .before .before .before .look .ensures) (subst (λ (x : ℕ). c .before .before .before .before .before .before .before .before .before .before .look .result .next < x) (c .before .before .before .before .before .before .wide .ensures) (c .before .before .before .before .before .if2 .left)) (c .before .before .before .before .before .before .before .before .before .before .before .before .before .before .before .before .before .before .pre .1) _ _ (sym (c .before .before .up .given .1) ∙ c .before .before .before .before .follow .ensures)
+
+pub choose-spec : {M : Type 1} → statement M
+choose-spec =
+    tie.close
+    (tie.spec
+    add-t17
+    mul-t18
+    shared-slice-read-t20
+    returns
+    sub-look
+    look-requires
+    cast-state
+    cast-next
+    add-wide
+    mul-wide
+    shared-slice-read-wide
+    wide-requires
+    returns-2
+    follow-requires
+    enum-told
+    enum-known-up
+    mul-t28
+    add-t29
+    mul-t30
+    shared-slice-read-t32
+    returns-3
+    returns-4)

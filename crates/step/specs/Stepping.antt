@@ -1,0 +1,106 @@
+-- What the code of a step answers, in the terms of the machine's step.
+use Prim.Native.Nat.{ℕ, zero, suc, _+_, _<_, _≤_}
+use mathlib.Core.Path.{_≡_}
+use mathlib.Core.Bool.{Bool, true, false, cond, _&&_, _||_}
+use mathlib.Core.List.{List, _++_}
+use lib.Dec.{ltb}
+use lib.ListN.{length, getD, drop}
+use Rattle.table.specs.declared.Refusal.{Refusal}
+use Rattle.table.specs.declared.Refusal.the-variants.{Input, State}
+use Rattle.table.specs.declared.StateCause.the-variants.{StackFull, OutputFull}
+use Rattle.machine.specs.Frames as F
+use Rattle.machine.specs.Frames.{Held, entering}
+use Rattle.machine.specs.Step as S
+use Rattle.machine.specs.Step.{Stepped, ends, moves, finds, refuses, triedOf}
+use Rattle.machine.specs.Transducer.{Passed, member, machine}
+use Rattle.machine.specs.Stack.{roomIn, lookAt, putAt}
+use Rattle.machine.specs.declared.Run.{Run}
+use Rattle.table.specs.Table.{Table}
+use Rattle.machine.specs.Query.{Query}
+use Rattle.step.specs.declared.Move.{Move}
+use Rattle.step.specs.declared.Move.the-variants.{Drops, Skips, Pushes}
+use Rattle.step.specs.declared.Verdict.{Verdict}
+use Rattle.step.specs.declared.Verdict.the-variants.{Turned, Enters, Accepts}
+use Rattle.step.specs.declared.Turn.{Turn}
+use Rattle.step.specs.declared.Turn.the-variants.{Moved, Finds, Stopped}
+use Rattle.frames.specs.declared.Setup.{Setup}
+use Rattle.frames.specs.Frames.{frameBy}
+use Rattle.frames.specs.Sides.{passedOf, doneBy, writtenOf}
+use Rattle.frames.specs.Output.{Tried, sideBy, lettersBy}
+use Rattle.step.specs.Setting.{held}
+
+-- the machine's move as the code tells it, where n initial states are started; the end is not told here
+abbrev pub moveAs : ℕ → S.Move (F.Frame Passed) → Move
+moveAs n S.over = Drops
+moveAs n S.drops = Drops
+moveAs n (S.begins g) = Pushes (n + 1) (g .state) (g .datum .up) (g .datum .low)
+moveAs n (S.skips f) = Skips
+moveAs n (S.pushes f g) = Pushes n (g .state) (g .datum .up) (g .datum .low)
+
+-- 22, then acceptance, then 23, where the buffer has l letters and the output n
+abbrev pub verdictOf : Bool → Bool → ℕ → ℕ → Verdict
+verdictOf false a l n = Turned StackFull
+verdictOf true false l n = Enters
+verdictOf true true l n = cond (ltb l n) (Turned OutputFull) (Accepts n)
+
+-- the cells after a push: the arc counted as tried in the frame below, the new frame on top
+abbrev pub enteredAt : List ℕ → ℕ → F.Frame Passed → List ℕ
+enteredAt c zero f = putAt c 0 f
+enteredAt c (suc d) f = putAt (putAt c d (triedOf (lookAt c d))) (suc d) f
+
+-- the run after a push
+abbrev pub afterPush : Table → Query → ℕ → ℕ → List ℕ → ℕ → Passed → Held (List ℕ)
+afterPush t q n d c s x = held n (suc d) (enteredAt c d (entering (machine t q) s x))
+
+-- what a push meets, by the cells and the buffer
+abbrev pub verdictBy : Setup → List ℕ → List ℕ → List ℕ → ℕ → ℕ → ℕ → ℕ → List ℕ → List ℕ → Verdict
+verdictBy s terminals upper lower d state u l c b =
+    verdictOf (ltb d (roomIn c)) (member state terminals && doneBy s upper lower (passedOf u l)) (length b) (writtenOf s (passedOf u l))
+
+-- a push is made where it is not refused
+abbrev pub passesBy : Verdict → Bool
+passesBy (Turned cause) = false
+passesBy Enters = true
+passesBy (Accepts n) = true
+
+-- and found where it accepts
+abbrev pub findsBy : Verdict → Bool
+findsBy (Turned cause) = false
+findsBy Enters = false
+findsBy (Accepts n) = true
+
+-- the cells after it: a refusal leaves them as they were
+abbrev pub pushedCells : Verdict → List ℕ → ℕ → F.Frame Passed → List ℕ
+pushedCells (Turned cause) c d f = c
+pushedCells Enters c d f = enteredAt c d f
+pushedCells (Accepts n) c d f = enteredAt c d f
+
+-- the output after it, from the cells e that it left: "only Found writes output"
+abbrev pub pushedOutput : Verdict → Setup → List ℕ → List ℕ → ℕ → List ℕ → List ℕ
+pushedOutput (Turned cause) s arcs e d b = b
+pushedOutput Enters s arcs e d b = b
+pushedOutput (Accepts n) s arcs e d b = lettersBy s arcs e d ++ drop (length (lettersBy s arcs e d)) b
+
+-- what a push may rely on where it finds room, and where its path accepts
+pub record Pushable (s : Setup) (first terminals arcs upper lower : List ℕ) (d state u l : ℕ) (c b : List ℕ) : Type 0 where
+  pub reads-some : (s .up || s .low) ≡ true
+  pub indexes : d < roomIn c → state < length first
+  pub counts : (k : ℕ) → d ≡ suc k → lookAt c k .next ≤ 1024
+  pub writes : (k : ℕ) → Accepts k ≡ verdictBy s terminals upper lower d state u l c b → (e : List ℕ) → e ≡ enteredAt c d (frameBy state (getD first state 0) u l)
+      → Tried arcs (sideBy s) e d × ((k ≡ length (lettersBy s arcs e d)) × (k ≤ length b))
+
+-- a refusal in a step is a state's
+abbrev pub StoppedBy : Refusal → Turn → Type 0
+StoppedBy (Input cause) r = ⊥
+StoppedBy (State cause) r = r ≡ Stopped cause
+
+-- a run by its numbers
+abbrev pub runBy : ℕ → ℕ → ℕ → Run
+runBy task n d = record { task = task; started = n; depth = d }
+
+-- what a step answers, and the cells and the output that it leaves, where they were c and b before it
+abbrev pub TurnIs : ℕ → Stepped (List ℕ) → List ℕ → List ℕ → Turn → List ℕ → List ℕ → Type 0
+TurnIs task ends c b r e o = ⊥
+TurnIs task (moves d) c b r e o = (r ≡ Moved (runBy task (d .started) (d .depth))) × (e ≡ d .cells) × (o ≡ b)
+TurnIs task (finds d w) c b r e o = (r ≡ Finds (runBy task (d .started) (d .depth)) (length w)) × (e ≡ d .cells) × (o ≡ w ++ drop (length w) b)
+TurnIs task (refuses x) c b r e o = StoppedBy x r × (e ≡ c) × (o ≡ b)

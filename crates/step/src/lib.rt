@@ -1,0 +1,295 @@
+// One step of a search.
+use frames::Fit;
+use frames::Frame;
+use frames::Setup;
+use frames::cells;
+use frames::output;
+use frames::sides;
+use machine::Run;
+use table::StateCause;
+ghost use mathlib.Core.Path.{_≡_};
+ghost use mathlib.Core.Bool.{true, _&&_, _||_};
+ghost use mathlib.Core.List.{[]};
+ghost use Prim.Native.Nat.{ℕ, suc, _<_, _≤_, min};
+ghost use lib.Dec.{ltb};
+ghost use lib.ListN.{length, getD};
+ghost use Rattle.machine.specs.Step.{move, step};
+ghost use Rattle.machine.specs.Transducer.{member};
+ghost use Rattle.machine.specs.Stack.{framesIn, roomIn, lookAt, store};
+ghost use Rattle.machine.specs.Reading.{heldOf};
+ghost use Rattle.machine.specs.Place.{Good};
+ghost use Rattle.frames.specs.Sides.{passedOf, doneBy, writtenOf};
+ghost use Rattle.frames.specs.Frames.{frameBy};
+ghost use Rattle.step.specs.Setting.{machineBy, held, Ready, Top};
+ghost use Rattle.step.specs.Stepping.{moveAs, verdictOf, enteredAt, verdictBy, passesBy, findsBy, Pushable, pushedCells, pushedOutput, runBy, TurnIs};
+
+// What a step is to do: a frame dropped, an arc tried that does not fit, or a frame pushed.
+pub enum Move {
+    Drops,
+    Skips,
+    Pushes {
+        started: u32,
+        state: u16,
+        up: u32,
+        low: u32,
+    },
+}
+
+// What a push meets: a refusal, room, or room on an accepting path with the length of its output.
+pub enum Verdict {
+    Turned(StateCause),
+    Enters,
+    Accepts(u32),
+}
+
+// What a step comes to: the run after it, a reading's length beside that run, or a refusal.
+pub enum Turn {
+    Moved(Run),
+    Finds(Run, u32),
+    Stopped(StateCause),
+}
+
+// A cell as an index.
+fn wide(x: u16) -> usize
+    ensures { λ r. ⌜ r ≡ x ⌝ }
+{
+    x as usize
+}
+
+// A cell as a count.
+pub fn longer(x: u16) -> u32
+    ensures { λ r. ⌜ r ≡ x ⌝ }
+{
+    x as u32
+}
+
+// What the next step is to do.
+fn choose(
+    setup: Setup,
+    first: &[u16],
+    initials: &[u16],
+    arcs: &[u16],
+    upper: &[u8],
+    lower: &[u8],
+    started: u32,
+    depth: u32,
+    stack: &[u32],
+) -> Move
+    requires { ⌜ Top (now first) (now initials) (now arcs) started depth (now stack) ⌝ }
+    requires { ⌜ (setup .up || setup .low) ≡ true ⌝ }
+    ensures { λ r. ⌜ r ≡ moveAs started (move (machineBy setup (now (initials .entry)) [] (now (arcs .entry)) (now (upper .entry)) (now (lower .entry))) store (held started depth (now (stack .entry)))) ⌝ }
+{
+    if depth == 0 {
+        let i = started as usize;
+        return Move::Pushes {
+            started: started + 1,
+            state: initials[i],
+            up: 0,
+            low: 0,
+        };
+    }
+    let f = cells::look(stack, depth as usize - 1);
+    let state = f.state as usize;
+    let next = f.next as usize;
+    if wide(first[state + 1]) <= next {
+        return Move::Drops;
+    }
+    match sides::follow(setup, arcs, next, upper, lower, f.up, f.low) {
+        Fit::Fails => Move::Skips,
+        Fit::Fits(up, low) => Move::Pushes {
+            started,
+            state: arcs[4 * next + 3],
+            up,
+            low,
+        },
+    }
+}
+
+// 22: whether a push finds room on the stack.
+fn has_room(stack: &[u32], depth: u32) -> bool
+    ensures { λ r. ⌜ r ≡ ltb depth (roomIn (now (stack .entry))) ⌝ }
+{
+    if 33024 <= depth {
+        return false;
+    }
+    (depth as usize) < cells::frames_in(stack)
+}
+
+// What a push meets: 22, then acceptance, then 23. It only looks.
+fn judge(
+    setup: Setup,
+    terminals: &[u16],
+    upper: &[u8],
+    lower: &[u8],
+    stack: &[u32],
+    depth: u32,
+    state: u16,
+    up: u32,
+    low: u32,
+    space: usize,
+) -> Verdict
+    requires { ⌜ (setup .up || setup .low) ≡ true ⌝ }
+    ensures { λ r. ⌜ r ≡ verdictOf (ltb depth (roomIn (now (stack .entry)))) (member state (now (terminals .entry)) && doneBy setup (now (upper .entry)) (now (lower .entry)) (passedOf up low)) space (writtenOf setup (passedOf up low)) ⌝ }
+{
+    if !has_room(stack, depth) {
+        return Verdict::Turned(StateCause::StackFull);
+    }
+    if !sides::accepts(setup, terminals, upper, lower, state, up, low) {
+        return Verdict::Enters;
+    }
+    let length = sides::written(setup, up, low);
+    if space < length as usize {
+        return Verdict::Turned(StateCause::OutputFull);
+    }
+    Verdict::Accepts(length)
+}
+
+// Whether a push that met this is made.
+fn passes(met: Verdict) -> bool
+    ensures { λ r. ⌜ r ≡ passesBy met ⌝ }
+{
+    match met {
+        Verdict::Turned(_) => false,
+        Verdict::Enters => true,
+        Verdict::Accepts(_) => true,
+    }
+}
+
+// Whether it makes an accepting path.
+fn finds(met: Verdict) -> bool
+    ensures { λ r. ⌜ r ≡ findsBy met ⌝ }
+{
+    match met {
+        Verdict::Turned(_) => false,
+        Verdict::Enters => false,
+        Verdict::Accepts(_) => true,
+    }
+}
+
+// A frame pushed: the arc that led to it is counted as tried in the frame below.
+fn enter(first: &[u16], depth: u32, state: u16, up: u32, low: u32, stack: &mut [u32])
+    requires { ⌜ (depth < framesIn (now stack)) × (state < length (now first)) ⌝ }
+    requires { ⌜ ((d : ℕ) → depth ≡ suc d → lookAt (now stack) d .next ≤ 1024) ⌝ }
+    ensures { λ _. ⌜ now (stack .exit) ≡ enteredAt (now (stack .entry)) depth (frameBy state (getD (now (first .entry)) state 0) up low) ⌝ }
+{
+    let at = depth as usize;
+    if depth != 0 {
+        cells::count_tried(stack, at - 1);
+    }
+    let i = state as usize;
+    let f = Frame {
+        state: longer(state),
+        next: longer(first[i]),
+        up,
+        low,
+    };
+    cells::put(stack, at, f);
+}
+
+// A push: judged first; then, where it is made, the frame is entered, and on an accepting path the output written.
+fn push(
+    setup: Setup,
+    first: &[u16],
+    terminals: &[u16],
+    arcs: &[u16],
+    upper: &[u8],
+    lower: &[u8],
+    depth: u32,
+    state: u16,
+    up: u32,
+    low: u32,
+    stack: &mut [u32],
+    output: &mut [u8],
+) -> Verdict
+    requires { ⌜ Pushable setup (now first) (now terminals) (now arcs) (now upper) (now lower) depth state up low (now stack) (now output) ⌝ }
+    ensures { λ r. ⌜ (r ≡ verdictBy setup (now (terminals .entry)) (now (upper .entry)) (now (lower .entry)) depth state up low (now (stack .entry)) (now (output .entry)))
+        × (now (stack .exit) ≡ pushedCells r (now (stack .entry)) depth (frameBy state (getD (now (first .entry)) state 0) up low))
+        × (now (output .exit) ≡ pushedOutput r setup (now (arcs .entry)) (now (stack .exit)) depth (now (output .entry))) ⌝ }
+{
+    let space = output.len();
+    let met = judge(
+        setup,
+        terminals,
+        upper,
+        lower,
+        stack,
+        depth,
+        state,
+        up,
+        low,
+        space,
+    );
+    if passes(met) {
+        enter(first, depth, state, up, low, stack);
+    }
+    if finds(met) {
+        let length = sides::written(setup, up, low);
+        output::write(setup, arcs, stack, depth as usize, length, output);
+    }
+    met
+}
+
+// The run, moved on.
+fn at(run: Run, started: u32, depth: u32) -> Run
+    ensures { λ r. ⌜ r ≡ runBy (run .task) started depth ⌝ }
+{
+    Run {
+        task: run.task,
+        started,
+        depth,
+    }
+}
+
+// One step, where there is one: what it comes to, with the cells and the output that it leaves.
+pub fn step(
+    setup: Setup,
+    first: &[u16],
+    initials: &[u16],
+    terminals: &[u16],
+    arcs: &[u16],
+    upper: &[u8],
+    lower: &[u8],
+    run: Run,
+    stack: &mut [u32],
+    output: &mut [u8],
+) -> Turn
+    requires { ⌜ Ready setup (now first) (now initials) (now terminals) (now arcs) ⌝ }
+    requires { ⌜ Good (machineBy setup (now initials) (now terminals) (now arcs) (now upper) (now lower)) store (roomIn (now stack)) (heldOf run (now stack)) ⌝ }
+    requires { ⌜ (run .depth ≡ 0 → run .started < length (now initials)) ⌝ }
+    ensures { λ r. ⌜ TurnIs (run .task) (step (machineBy setup (now (initials .entry)) (now (terminals .entry)) (now (arcs .entry)) (now (upper .entry)) (now (lower .entry))) store (length (now (output .entry))) (heldOf run (now (stack .entry)))) (now (stack .entry)) (now (output .entry)) r (now (stack .exit)) (now (output .exit)) ⌝ }
+{
+    let n = run.started;
+    let depth = run.depth;
+    match choose(setup, first, initials, arcs, upper, lower, n, depth, stack) {
+        Move::Drops => Turn::Moved(at(run, n, depth - 1)),
+        Move::Skips => {
+            cells::count_tried(stack, depth as usize - 1);
+            Turn::Moved(run)
+        }
+        Move::Pushes {
+            started,
+            state,
+            up,
+            low,
+        } => {
+            match push(
+                setup,
+                first,
+                terminals,
+                arcs,
+                upper,
+                lower,
+                depth,
+                state,
+                up,
+                low,
+                stack,
+                output,
+            ) {
+                Verdict::Turned(cause) => Turn::Stopped(cause),
+                Verdict::Enters => Turn::Moved(at(run, started, depth + 1)),
+                Verdict::Accepts(length) => Turn::Finds(at(run, started, depth + 1), length),
+            }
+        }
+    }
+}
