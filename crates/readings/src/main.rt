@@ -1,0 +1,145 @@
+// A session over standard input: a table's text and one query in, the readings out, a line each.
+//
+//     20 ordinal length letters    a reading
+//     2F count                     the end
+//     2D count                     1,000 readings, or 65,536 calls, and no end
+//     2E number                    a refusal
+//
+// Where standard input cannot be read or standard output not be written, it says so on standard error and stops.
+use machine::Run;
+use session::Lined;
+use session::Opening;
+use session::Talk;
+use session::opener;
+use session::speaker;
+use table::Refusal;
+ghost use Prim.Native.Nat.{_+_, _≤_};
+ghost use lib.ListN.{length};
+ghost use Rattle.readings.specs.Read.{Within};
+
+// What reading comes to: so many bytes, or that it failed.
+pub enum Got {
+    Bytes(usize),
+    Failed,
+}
+
+// One read, into a part of the input.
+fn read_some(part: &mut [u8]) -> Got
+    ensures { λ r. ⌜ Within r (length (now (part .exit))) ⌝ }
+{
+    let got = libc::read(0, part);
+    if got < 0 {
+        return Got::Failed;
+    }
+    Got::Bytes(io::count(got, part))
+}
+
+// Standard input, to its end or until there is no room left.
+fn read_input(input: &mut [u8]) -> Got
+    ensures { λ r. ⌜ Within r (length (now (input .exit))) ⌝ }
+{
+    let mut at = 0;
+    while at < input.len() {
+        let got = read_some(&mut input[at..]);
+        let Got::Bytes(more) = got else {
+            return Got::Failed;
+        };
+        if more == 0 {
+            return Got::Bytes(at);
+        }
+        at += more;
+    }
+    Got::Bytes(at)
+}
+
+// Whether a line was written.
+fn write_line(line: &[u8]) -> bool {
+    if io::write_all(1, line) {
+        return true;
+    }
+    io::write_all(2, b"readings: standard output cannot be written\n");
+    false
+}
+
+// The lines of a session that is open, to the last.
+fn speak(
+    table: &[u16],
+    upper: &[u8],
+    lower: &[u8],
+    run: Run,
+    stack: &mut [u32],
+    output: &mut [u8],
+    line: &mut [u8],
+) {
+    let mut talk = Talk {
+        run,
+        count: 0,
+        calls: 65536,
+    };
+    let mut on = true;
+    while on {
+        let lined = speaker::next_line(table, upper, lower, talk, stack, output, line);
+        match lined {
+            Lined::More { length, talk: next } => {
+                on = write_line(&line[..length]);
+                talk = next;
+            }
+            Lined::Last { length } => {
+                write_line(&line[..length]);
+                return;
+            }
+            Lined::Refused(_) => {
+                return;
+            }
+        }
+    }
+}
+
+// The session of an opening, with a stack of 4,096 frames and 4,096 letters of output.
+fn answer(table: &[u16], query: &[u8], upper: usize, lower: usize, run: Run, line: &mut [u8])
+    requires { ⌜ 4 + upper + lower ≤ length (now query) ⌝ }
+{
+    let mut stack = [0u32; 16384];
+    let mut output = [0u8; 4096];
+    let upper_end = 3 + upper;
+    let lower_start = upper_end + 1;
+    let lower_end = lower_start + lower;
+    speak(
+        table,
+        &query[3..upper_end],
+        &query[lower_start..lower_end],
+        run,
+        &mut stack,
+        &mut output,
+        line,
+    );
+}
+
+// The line of an input that is refused.
+fn refuse(refusal: Refusal, line: &mut [u8]) {
+    let lined = speaker::refused_line(refusal, line);
+    if let Lined::Last { length } = lined {
+        write_line(&line[..length]);
+    }
+}
+
+fn main() {
+    let mut input = [0u8; 65537];
+    let got = read_input(&mut input);
+    let Got::Bytes(count) = got else {
+        io::write_all(2, b"readings: standard input cannot be read\n");
+        return;
+    };
+    let mut table = [0u16; 4612];
+    let mut query = [0u8; 514];
+    let mut line = [0u8; 8203];
+    let opening = opener::begin(&input[..count], &mut table, &mut query);
+    match opening {
+        Opening::Refused(refusal) => {
+            refuse(refusal, &mut line);
+        }
+        Opening::Ready { upper, lower, run } => {
+            answer(&table, &query, upper, lower, run, &mut line);
+        }
+    }
+}

@@ -1,0 +1,26 @@
+-- Document 01's example, by computing: "For K and `100202010200` it prints" three lines.
+use mathlib.Core.Path.{_≡_, refl}
+use mathlib.Core.List.{List, [], _∷_, _++_}
+use Rattle.hex.specs.Hex.{valueOf, joined, decoded, digitOf, encoded}
+use Rattle.table.specs.Rules.{each, countsHold, headerFaults, initialFaults, terminalFaults, arcFaults, keepsRules}
+use Rattle.table.specs.Loaded.{arcsCells, cellsOf, arcsIn, tableIn, loaded}
+use Rattle.table.specs.Line.{linesOf, malformed, bytesOf, charsOf, lineText}
+use Rattle.table.specs.Text.{itemLines, joinLines, textOf}
+use Rattle.table.specs.Parse.{itemFaults, bytesFaults, lineFaults, onward, parseFrom, parsed}
+use Rattle.machine.specs.Frames.{placeHolds}
+use Rattle.machine.specs.Step.{move, step}
+use Rattle.machine.specs.Call.{advance, call}
+use Rattle.machine.specs.Idle.{hasIdleCycle}
+use Rattle.machine.specs.Asked.{asked}
+use Rattle.machine.specs.Start.{started}
+use Rattle.machine.specs.Reading.{outcome}
+use Rattle.machine.specs.Cases.{tableK}
+use Rattle.session.specs.Parts.{sizeThrough}
+use Rattle.session.specs.Query.{isQuery, queryOf}
+use Rattle.session.specs.Opened.{startedOn, opened}
+use Rattle.session.specs.Session.{linesLeft, sessionLines}
+
+pub k-session : sessionLines (textOf (tableK []) ++ lineText (16 ∷ 2 ∷ 2 ∷ 1 ∷ 2 ∷ 0 ∷ []))
+    ≡ (32 ∷ 0 ∷ 1 ∷ 0 ∷ 2 ∷ 1 ∷ 2 ∷ []) ∷ (32 ∷ 0 ∷ 2 ∷ 0 ∷ 3 ∷ 1 ∷ 3 ∷ 2 ∷ []) ∷ (47 ∷ 0 ∷ 2 ∷ []) ∷ []
+unfolding sessionLines linesLeft opened startedOn queryOf isQuery sizeThrough started outcome asked loaded tableIn arcsIn cellsOf arcsCells keepsRules headerFaults countsHold initialFaults terminalFaults arcFaults each hasIdleCycle call placeHolds advance step move parsed parseFrom onward lineFaults bytesFaults itemFaults textOf joinLines itemLines linesOf malformed bytesOf charsOf encoded digitOf decoded joined valueOf
+k-session = refl

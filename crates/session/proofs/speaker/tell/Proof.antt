@@ -1,0 +1,100 @@
+-- Each thing that is said has its line.
+use mathlib.Core.Path.{sym}
+use lib.Seq.{length-take-le}
+use borrow.Author.Needs.{needs}
+use native.Mathlib.Omega.{arith}
+use denote.Ref.{now}
+use Rattle.session.proofs.Next.{fits-reading, tell-reading, tell-ended, tell-refused, tell-spent}
+use Rattle.session.proofs.speaker.tell.Statement.{statement}
+use Rattle.session.proofs.speaker.tell.Tie as tie
+use Rattle.session.proofs.speaker.tell.Reads as reads
+use Rattle.session.proofs.speaker.tell.Lts as lts
+use Rattle.session.proofs.printer.count_line.Reads as count-line-reads
+use Rattle.session.proofs.printer.reading_line.Reads as reading-line-reads
+use Rattle.session.proofs.printer.refusal_line.Reads as refusal-line-reads
+use Rattle.table.proofs.number.Reads as number-reads
+
+enum-known-said : tie.Need-enum-known-said
+enum-known-said c = search needs
+
+cast-n : tie.Need-cast-n
+cast-n c = search needs
+
+add-ordinal : tie.Need-add-ordinal
+add-ordinal c = search needs
+
+slice-aggregate-reading-line : tie.Need-slice-aggregate-reading-line
+slice-aggregate-reading-line c = let n = fits-reading (c .before .before .before .before .before .before .before .args .said) 0 (now (c .before .before .before .before .before .before .before .args .output)) (now (c .before .before .before .before .before .before .before .args .line)) 0 (now (c .before .before .before .before .before .before .before .args .line)) _ _ _ (c .before .before .before .said .given .1) (c .before .before .before .before .before .before .before .pre .3) in sym (length-take-le _ _ n)
+
+reading-line-requires : tie.Need-reading-line-requires
+reading-line-requires c κs = let n = fits-reading (c .before .before .before .before .before .before .before .args .said) 0 (now (c .before .before .before .before .before .before .before .args .output)) (now (c .before .before .before .before .before .before .before .args .line)) 0 (now (c .before .before .before .before .before .before .before .args .line)) _ _ _ (c .before .before .before .said .given .1) (c .before .before .before .before .before .before .before .pre .3) in let l = length-take-le (c .before .before .before .said .given .0 .0) (now (c .before .before .before .before .before .before .before .args .output)) n in (omega (arith, c .before .before .before .before .before .before .before .pre .1, c .before .before .before .before .before .before .before .pre .2), omega (arith, c .before .before .before .before .before .before .before .pre .1))
+
+enum-told : tie.Need-enum-told
+enum-told c = search needs
+
+count-line-requires : tie.Need-count-line-requires
+count-line-requires c κs = search needs
+
+enum-known-said-2 : tie.Need-enum-known-said-2
+enum-known-said-2 c = search needs
+
+number-requires : tie.Need-number-requires
+number-requires c κs = search needs
+
+refusal-line-requires : tie.Need-refusal-line-requires
+refusal-line-requires c κs = search needs
+
+enum-told-2 : tie.Need-enum-told-2
+enum-told-2 c = search needs
+
+count-line-requires-2 : tie.Need-count-line-requires-2
+count-line-requires-2 c κs = search needs
+
+same-length : tie.Need-same-length
+same-length c = search needs
+
+returns : tie.Need-returns
+returns c = tell-reading (c .before .before .before .before .before .before .before .before .before .before .args .said) (c .before .before .before .before .before .before .before .before .before .before .args .count) (now (c .before .before .before .before .before .before .before .before .before .before .args .output)) (now (c .before .before .before .before .before .before .before .before .before .before .args .line)) (c .before .before .reading-line .result) (c .before .before .reading-line .last .0) _ _ _ (c .before .before .before .before .before .before .said .given .1) (c .before .before .reading-line .ensures)
+
+same-length-2 : tie.Need-same-length-2
+same-length-2 c = search needs
+
+returns-2 : tie.Need-returns-2
+returns-2 c = tell-ended (c .before .before .before .before .before .before .before .before .args .said) (c .before .before .before .before .before .before .before .before .args .count) (now (c .before .before .before .before .before .before .before .before .args .output)) (now (c .before .before .before .before .before .before .before .before .args .line)) (c .before .before .count-line .result) (c .before .before .count-line .last .0) (c .before .before .before .before .enum-told .given .1) (c .before .before .count-line .ensures)
+
+same-length-3 : tie.Need-same-length-3
+same-length-3 c = search needs
+
+returns-3 : tie.Need-returns-3
+returns-3 c = tell-refused (c .before .before .before .before .before .before .before .before .before .before .args .said) (c .before .before .before .before .before .before .before .before .before .before .args .count) (now (c .before .before .before .before .before .before .before .before .before .before .args .output)) (now (c .before .before .before .before .before .before .before .before .before .before .args .line)) (c .before .before .refusal-line .result) (c .before .before .refusal-line .last .0) _ _ (c .before .before .before .before .before .before .said2 .given .1) (c .before .before .before .number .ensures) (c .before .before .refusal-line .ensures)
+
+same-length-4 : tie.Need-same-length-4
+same-length-4 c = search needs
+
+returns-4 : tie.Need-returns-4
+returns-4 c = tell-spent (c .before .before .before .before .before .before .before .before .args .said) (c .before .before .before .before .before .before .before .before .args .count) (now (c .before .before .before .before .before .before .before .before .args .output)) (now (c .before .before .before .before .before .before .before .before .args .line)) (c .before .before .count-line2 .result) (c .before .before .count-line2 .last .0) (c .before .before .before .before .enum-told2 .given .1) (c .before .before .count-line2 .ensures)
+
+pub tell-spec : {M : Type 1} → statement M
+tell-spec =
+    tie.close
+    (tie.spec
+    enum-known-said
+    cast-n
+    add-ordinal
+    slice-aggregate-reading-line
+    reading-line-requires
+    enum-told
+    count-line-requires
+    enum-known-said-2
+    number-requires
+    refusal-line-requires
+    enum-told-2
+    count-line-requires-2
+    same-length
+    returns
+    same-length-2
+    returns-2
+    same-length-3
+    returns-3
+    same-length-4
+    returns-4)

@@ -1,0 +1,125 @@
+-- One line of a session at a time. The headline theorem says that these lines, one after another, are those of Session.
+use Prim.Native.Nat.{ℕ, zero, suc, _+_, _≤_}
+use mathlib.Core.Path.{_≡_}
+use mathlib.Core.Bool.{cond, _&&_}
+use mathlib.Core.Option.{Option, none, some}
+use mathlib.Core.List.{List}
+use lib.Dec.{leb}
+use lib.ListN.{length, take}
+use Rattle.table.specs.declared.Refusal.{Refusal}
+use Rattle.table.specs.declared.Refusal.the-variants.{State}
+use Rattle.table.specs.declared.StateCause.the-variants.{DestinationShort}
+use Rattle.table.specs.Line.{lineText}
+use Rattle.machine.specs.declared.Run.{Run}
+use Rattle.machine.specs.declared.Answer.{Answer}
+use Rattle.machine.specs.declared.Answer.the-variants.{Found, Paused, Ended, Refused}
+use Rattle.machine.specs.Reading.{Outcome, outcome}
+use Rattle.session.specs.declared.Talk.{Talk}
+use Rattle.session.specs.declared.Said.{Said}
+use Rattle.session.specs.declared.Said.the-variants as S
+use Rattle.session.specs.declared.Lined.{Lined}
+use Rattle.session.specs.declared.Lined.the-variants as L
+use Rattle.session.specs.Lines.{readingLine, endLine, limitLine, refusalLine, storedLine}
+
+-- Calls until one is not Paused or none is left.
+
+-- what they come to, with the stack and the output buffer as they leave them
+pub record Heard : Type 0 where
+  pub said : Said
+  pub stack : List ℕ
+  pub output : List ℕ
+
+-- a call's answer, with the calls left after it; k says how they go on
+abbrev pub heardBy : Answer → Outcome → ℕ → (Run → List ℕ → List ℕ → Heard) → Heard
+heardBy (Found steps n) o calls k = record { said = S.Reading n (o .called .run) calls; stack = o .stack; output = o .output }
+heardBy (Paused steps) o calls k = k (o .called .run) (o .stack) (o .output)
+heardBy (Ended steps) o calls k = record { said = S.Ended; stack = o .stack; output = o .output }
+heardBy (Refused steps r) o calls k = record { said = S.Refused r; stack = o .stack; output = o .output }
+
+unfoldable pub heard : (cells upper lower : List ℕ) → ℕ → Run → List ℕ → List ℕ → Heard
+heard cells upper lower zero run stack output = record { said = S.Spent; stack = stack; output = output }
+heard cells upper lower (suc calls) run stack output =
+    heardBy (outcome cells upper lower run stack 1000 output .called .answer) (outcome cells upper lower run stack 1000 output) calls
+    (λ r s o. heard cells upper lower calls r s o)
+
+-- The next line.
+
+-- a line's bytes, the talk to go on with if another line follows, and the stack and the output buffer after it
+pub record Spoken : Type 0 where
+  pub bytes : List ℕ
+  pub after : Option Talk
+  pub stack : List ℕ
+  pub output : List ℕ
+
+-- the line of what was said after count readings
+abbrev pub bytesSaid : Said → ℕ → List ℕ → List ℕ
+bytesSaid (S.Reading n run calls) count output = readingLine (count + 1) (take n output)
+bytesSaid S.Ended count output = endLine count
+bytesSaid (S.Refused r) count output = refusalLine r
+bytesSaid S.Spent count output = limitLine count
+
+-- a reading's letters are in the output buffer
+abbrev pub Fits : Said → List ℕ → Type 0
+Fits (S.Reading n run calls) output = n ≤ length output
+Fits S.Ended output = Unit {0}
+Fits (S.Refused r) output = Unit {0}
+Fits S.Spent output = Unit {0}
+
+-- only after a reading does another line follow
+abbrev pub talkAfter : Said → ℕ → Option Talk
+talkAfter (S.Reading n run calls) count = some (record { run = run; count = count + 1; calls = calls })
+talkAfter S.Ended count = none
+talkAfter (S.Refused r) count = none
+talkAfter S.Spent count = none
+
+abbrev pub spokenOf : ℕ → Heard → Spoken
+spokenOf count h = record { bytes = bytesSaid (h .said) count (h .output); after = talkAfter (h .said) count; stack = h .stack; output = h .output }
+
+-- "after 1,000 readings" at once
+unfoldable pub nextLine : (cells upper lower : List ℕ) → Talk → List ℕ → List ℕ → Spoken
+nextLine cells upper lower talk stack output =
+    cond (leb 1000 (talk .count)) (spokenOf (talk .count) (record { said = S.Spent; stack = stack; output = output }))
+    (spokenOf (talk .count) (heard cells upper lower (talk .calls) (talk .run) stack output))
+
+-- What the call answers, and leaves in what it is lent.
+
+pub record Lining : Type 0 where
+  pub lined : Lined
+  pub stack : List ℕ
+  pub output : List ℕ
+  pub line : List ℕ
+
+-- the line's length, and whether another follows
+abbrev pub linedAs : Option Talk → ℕ → Lined
+linedAs none n = L.Last n
+linedAs (some t) n = L.More n t
+
+-- the line's text from the front of the buffer, the rest as it was
+abbrev pub liningOf : Spoken → List ℕ → Lining
+liningOf s line =
+    record {
+      lined = linedAs (s .after) (length (lineText (s .bytes)));
+      stack = s .stack;
+      output = s .output;
+      line = storedLine (s .bytes) line;
+    }
+
+-- 24, before any call: the line has less room than the longest line needs, or the output is longer than the session's 4,096 letters
+abbrev pub liningNot : List ℕ → List ℕ → List ℕ → Lining
+liningNot stack output line = record { lined = L.Refused (State DestinationShort); stack = stack; output = output; line = line }
+
+unfoldable pub lining : (cells upper lower : List ℕ) → Talk → List ℕ → List ℕ → List ℕ → Lining
+lining cells upper lower talk stack output line =
+    cond (leb 8203 (length line) && leb (length output) 4096) (liningOf (nextLine cells upper lower talk stack output) line) (liningNot stack output line)
+
+-- the answer, and what is lent at exit
+abbrev pub LiningIs : Lining → Lined → List ℕ → List ℕ → List ℕ → Type 0
+LiningIs x r s o l = (r ≡ x .lined) × (s ≡ x .stack) × (o ≡ x .output) × (l ≡ x .line)
+
+-- The line of a refusal alone: 24 where the buffer has no room for its five characters.
+
+abbrev pub refusalLined : Refusal → List ℕ → Lined
+refusalLined r line = cond (leb 5 (length line)) (L.Last (length (lineText (refusalLine r)))) (L.Refused (State DestinationShort))
+
+abbrev pub refusalLeft : Refusal → List ℕ → List ℕ
+refusalLeft r line = cond (leb 5 (length line)) (storedLine (refusalLine r) line) line

@@ -1,0 +1,48 @@
+-- Document 01, "Lines of the text": "Too long an input is refused before any line is read, then the table's faults come before the query's".
+-- Then the start's refusals: 11, 10, 12.
+use Prim.Native.Nat.{ℕ}
+use mathlib.Core.Bool.{cond}
+use mathlib.Core.List.{List, []}
+use lib.Dec.{ltb}
+use lib.ListN.{length}
+use Rattle.table.specs.declared.InputCause.the-variants.{CountLimit}
+use Rattle.table.specs.declared.Refusal.{Refusal}
+use Rattle.table.specs.declared.Refusal.the-variants.{Input}
+use Rattle.table.specs.Loaded.{cellsOf}
+use Rattle.table.specs.Line.{Line, linesOf}
+use Rattle.table.specs.Parse.{Parsed, accepted, turnedDown, parsed}
+use Rattle.machine.specs.declared.Run.{Run}
+use Rattle.machine.specs.declared.StartAnswer.{StartAnswer}
+use Rattle.machine.specs.declared.StartAnswer.the-variants.{Ready, Refused}
+use Rattle.machine.specs.Start.{started}
+use Rattle.session.specs.Parts.{tableText, queryText}
+use Rattle.session.specs.Query.{Asked, fault, says, taskIn, upperIn, lowerIn, queryOf}
+
+-- a refusal; or the table's cells, the query's bytes and the run that the start leaves
+pub data Opened : Type 0 where
+  refused : Refusal → Opened
+  ready : (cells bytes : List ℕ) → Run → Opened
+
+-- the start's answer. The states of the cycle that 12 tells are not shown, and neither answer nor run depends on them.
+abbrev pub openedAs : List ℕ → List ℕ → StartAnswer → Run → Opened
+openedAs cells b Ready run = ready cells b run
+openedAs cells b (Refused r) run = refused r
+
+-- the start
+unfoldable pub startedOn : List ℕ → List ℕ → Opened
+startedOn cells b =
+    openedAs cells b (started cells (taskIn b) (upperIn b) (lowerIn b) [] .answer) (started cells (taskIn b) (upperIn b) (lowerIn b) [] .run)
+
+-- the query's faults
+abbrev pub openedQuery : List ℕ → Asked → Opened
+openedQuery cells (fault cause) = refused (Input cause)
+openedQuery cells (says b) = startedOn cells b
+
+-- the table's faults
+abbrev pub openedTable : Parsed → List Line → Opened
+openedTable (turnedDown cause) ls = refused (Input cause)
+openedTable (accepted t) ls = openedQuery (cellsOf t) (queryOf ls)
+
+-- 3: "a session's input exceeds 65,536 bytes"
+unfoldable pub opened : List ℕ → Opened
+opened input = cond (ltb 65536 (length input)) (refused (Input CountLimit)) (openedTable (parsed (tableText input)) (linesOf (queryText input)))

@@ -1,0 +1,55 @@
+// A session: a table and one query in, readings out, one line at a time. Nothing here reads or writes but what it is lent.
+mod asker;
+mod caller;
+pub mod opener;
+mod printer;
+pub mod speaker;
+mod splitter;
+
+use machine::Run;
+use table::InputCause;
+use table::Refusal;
+
+// What the first line of a text says: that it is malformed, or how many bytes, and whether no other line follows.
+pub enum FirstLine {
+    Bad,
+    Says { count: usize, alone: bool },
+}
+
+// What a text asks: nothing, for a cause, or a query with so many upper and lower letters.
+pub enum Asking {
+    Fault(InputCause),
+    Words { upper: usize, lower: usize },
+}
+
+// What an opening answers: the lengths of the query's words and the run to go on with, or a refusal.
+pub enum Opening {
+    Ready {
+        upper: usize,
+        lower: usize,
+        run: Run,
+    },
+    Refused(Refusal),
+}
+
+// What calls for a reading come to: a reading of so many letters with the calls left, the end, a refusal, or no call left.
+pub enum Said {
+    Reading { length: u32, run: Run, calls: u32 },
+    Ended,
+    Refused(Refusal),
+    Spent,
+}
+
+// Where a session stands between two lines: its run, the readings told and the calls left.
+pub struct Talk {
+    pub run: Run,
+    pub count: u16,
+    pub calls: u32,
+}
+
+// A line's length, and the talk to go on with where another line follows; or a refusal, and no line.
+pub enum Lined {
+    More { length: usize, talk: Talk },
+    Last { length: usize },
+    Refused(Refusal),
+}
