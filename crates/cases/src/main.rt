@@ -1,31 +1,62 @@
-// The cases of document 01 on searches: starts and calls for a reading, through the code. A case is a line: what was called, the case's
-// name and what was answered. Letters stand as two digits of base sixteen, counts in base ten.
-//
-//     calls NAME: Found 01 02 after 3, Ended after 17, 20 steps     a start, its calls one after the other, and their steps in all
-//     singly NAME: 01 02 in call 3, ended in call 21                a start, and calls of one step each until the end
-//     start NAME: ready, run 2 0 0                                  a start alone, with the run's task, starts and depth
-//     start NAME: refused 12, cycle 0                               the refusal's number, and with 12 the states of the cycle
-//     call NAME: refused 21 after 0                                 one call on a run and a stack that stand in the program
-//     school NAME from N frames: stau+becken staub+ecken, ended, refusals 13
-//                                                                   calls to the end, each with 22 followed by one with a frame more
-//
-// An output buffer is filled with a mark before each call, and a line has `, touched` where a call changed a letter, a cell or a run that
-// its answer leaves alone.
-mod call;
-mod deep;
-mod idle;
-mod k;
-mod places;
-mod school;
+// Runs the cases of a script, its standard input, and prints a line for each. The file `stdin` beside this folder is the script, and
+// says how a case is written.
+mod script;
+mod searches;
 mod show;
 mod tables;
-mod words;
+
+ghost use Prim.Native.Nat.{_<_};
+ghost use lib.ListN.{length};
+
+// What a case does by its sign, with its line and the numbers of it, on the cells of the table.
+fn act(sign: u8, line: &[u8], list: &[u32], cells: &mut [u16]) {
+    match sign {
+        b'<' => tables::read(line, list, cells),
+        b'>' => tables::load(list, cells),
+        b'"' => tables::again(list, cells),
+        b'=' => tables::tell(list, cells),
+        b'@' => tables::index(list, cells),
+        _ => searches::query(sign, list, cells),
+    }
+}
+
+// The case of a line: its sign, its name up to the colon, and its numbers.
+fn case(line: &[u8], colon: usize, cells: &mut [u16])
+    requires { ⌜ colon < length (now line) ⌝ }
+{
+    let mut list = [script::NONE; 4700];
+    script::numbers(&line[colon..], &mut list);
+    act(line[0], line, &list, cells);
+}
+
+// A line without a colon is no case.
+fn perform(line: &[u8], cells: &mut [u16]) {
+    let colon = script::find(line, 0, b':');
+    if colon < line.len() {
+        show::say(&line[1..colon + 1]);
+        case(line, colon, cells);
+        show::end();
+    }
+}
+
+// Each line of a script, with the cells of one table.
+fn each(script: &[u8], cells: &mut [u16]) {
+    let mut at = 0;
+    while at < script.len() {
+        let end = script::find(script, at, script::END);
+        perform(&script[at..end], cells);
+        at = end + 1;
+    }
+}
+
+fn run(script: &mut [u8]) {
+    script::make_plain(script);
+    let mut cells = [tables::CELL_MARK; 4700];
+    each(script, &mut cells);
+}
 
 fn main() {
-    k::all();
-    idle::all();
-    words::all();
-    places::all();
-    school::all();
-    deep::all();
+    let mut script = io::large_buffer();
+    let size = io::read_full(0, &mut script);
+    run(&mut script[..size]);
 }

@@ -1,20 +1,178 @@
-// Table K, as its text is read.
+// Calls of the crate `table`, on the cells of one table.
+use crate::script;
+use crate::show;
+use table::Answer;
+use table::checker;
 use table::reader;
+use table::writer;
 
-pub fn k() -> [u16; 27] {
-    let mut cells = [0u16; 27];
-    reader::read(
-        b"010003000100020005\n\
-          020000\n\
-          030001\n\
-          030002\n\
-          04000001010001\n\
-          04000002020002\n\
-          04000102020002\n\
-          04000100030000\n\
-          04000200030000\n\
-          050009\n",
-        &mut cells,
-    );
-    cells
+// What a destination is filled with: no table has such a cell, and no text such a byte.
+pub const CELL_MARK: u16 = 65535;
+
+const BYTE_MARK: u8 = b'.';
+
+// How much a call wrote.
+fn done(answer: Answer) -> usize {
+    match answer {
+        Answer::Done(n) => n,
+        Answer::Refused(_) => 0,
+    }
+}
+
+fn cell(n: u32) -> u16 {
+    if n < 65536 { n as u16 } else { CELL_MARK }
+}
+
+// Fills the cells with the numbers of a list from a place on, and with the mark after its end.
+fn fill(cells: &mut [u16], list: &[u32], from: usize) {
+    let mut k = from;
+    let mut i = 0;
+    while i < cells.len() {
+        cells[i] = cell(script::at(list, k));
+        k = script::skip(k, 1);
+        i += 1;
+    }
+}
+
+fn cells_marked(cells: &[u16], from: usize) -> bool {
+    let mut i = from;
+    while i < cells.len() {
+        if cells[i] != CELL_MARK {
+            return false;
+        }
+        i += 1;
+    }
+    true
+}
+
+// Whether a text holds a mark from a place on.
+pub fn is_marked(text: &[u8], from: usize, mark: u8) -> bool {
+    let mut i = from;
+    while i < text.len() {
+        if text[i] != mark {
+            return false;
+        }
+        i += 1;
+    }
+    true
+}
+
+// Whether the first bytes of a list are another list.
+fn begins(text: &[u8], count: usize, other: &[u8]) -> bool {
+    if count <= text.len() {
+        return check::same(&text[0..count], other);
+    }
+    false
+}
+
+// Whether a loaded table's text is this one.
+fn has_text(cells: &[u16], text: &[u8]) -> bool {
+    let mut again = [BYTE_MARK; 19000];
+    let answer = writer::write(cells, &mut again);
+    begins(&again, done(answer), text)
+}
+
+fn show_same(same: bool) {
+    if same {
+        show::say(b", same text");
+    } else {
+        show::say(b", other text");
+    }
+}
+
+// What reading a text answered, with the cells as it left them.
+fn show_read(answer: Answer, text: &[u8], cells: &[u16]) {
+    show::written(answer, b" cells");
+    let count = done(answer);
+    if count > 0 {
+        show_same(has_text(cells, text));
+    }
+    show::touched(cells_marked(cells, count));
+}
+
+// A text, read into cells that are filled with the mark.
+fn read_into(text: &[u8], cells: &mut [u16]) {
+    let answer = reader::read(text, cells);
+    show_read(answer, text, cells);
+}
+
+fn read_text(text: &[u8], list: &[u32], cells: &mut [u16]) {
+    let size = script::amount(list, 0, cells.len());
+    read_into(text, &mut cells[0..size]);
+}
+
+// `<` CELLS | TEXT: reads the text into so many cells.
+pub fn read(line: &[u8], list: &[u32], cells: &mut [u16]) {
+    fill(cells, list, 1);
+    let bar = script::find(line, 0, b'|');
+    if bar < line.len() {
+        read_text(&line[bar + 1..], list, cells);
+    }
+}
+
+// A text of so many bytes is read, and its last line told.
+fn read_back(text: &[u8], size: usize, cells: &mut [u16]) {
+    if size < 7 {
+        return;
+    }
+    if size <= text.len() {
+        read_into(&text[0..size], cells);
+        show::say(b", ");
+        show::say(&text[size - 7..size - 1]);
+    }
+}
+
+// `"`: the table's own text is read.
+pub fn again(list: &[u32], cells: &mut [u16]) {
+    let mut text = [BYTE_MARK; 19000];
+    let answer = writer::write(cells, &mut text);
+    fill(cells, list, 0);
+    read_back(&text, done(answer), cells);
+}
+
+fn show_check(cells: &[u16]) {
+    let checked = checker::check(cells);
+    if checked.ok {
+        show::say(b" check passes, write");
+    } else {
+        show::say(b" check fails, write");
+    }
+}
+
+fn write_into(cells: &[u16], text: &mut [u8]) {
+    show_check(cells);
+    let answer = writer::write(cells, text);
+    show::written(answer, b" bytes");
+    show::touched(is_marked(text, done(answer), BYTE_MARK));
+}
+
+fn write(list: &[u32], cells: &[u16]) {
+    let size = script::amount(list, 0, cells.len());
+    let room = script::amount(list, 1, 19000);
+    let mut text = [BYTE_MARK; 19000];
+    write_into(&cells[0..size], &mut text[0..room]);
+}
+
+// `>` CELLS BYTES, TABLE: checks the first cells of a table, and writes them into so many bytes.
+pub fn load(list: &[u32], cells: &mut [u16]) {
+    fill(cells, list, 2);
+    write(list, cells);
+}
+
+// `=` COUNT: the first cells.
+pub fn tell(list: &[u32], cells: &[u16]) {
+    show::cells(cells, 0, script::amount(list, 0, cells.len()));
+}
+
+fn first_arcs(cells: &[u16]) -> [u16; 257] {
+    let checked = checker::check(cells);
+    checked.first
+}
+
+// `@` CELLS FROM TO: the index of first arcs that the check of so many cells tells, from one state to another.
+pub fn index(list: &[u32], cells: &[u16]) {
+    let size = script::amount(list, 0, cells.len());
+    let first = first_arcs(&cells[0..size]);
+    let from = script::amount(list, 1, 257);
+    show::cells(&first, from, script::amount(list, 2, 257));
 }

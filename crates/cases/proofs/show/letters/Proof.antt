@@ -6,10 +6,10 @@ use Rattle.cases.proofs.show.letters.Statement.{statement}
 use Rattle.cases.proofs.show.letters.Tie as tie
 
 abbrev Inv-loop : tie.InvT-loop
-Inv-loop list count left₀ i₀ left i = Unit {0}
+Inv-loop list count plain left₀ i₀ left i = Unit {0}
 
 abbrev μ-loop : tie.MeasureT-loop
-μ-loop list count left₀ i₀ left i = length list - i
+μ-loop list count plain left₀ i₀ left i = length list - i
 
 loop-holds : tie.Need-loop-holds Inv-loop μ-loop
 loop-holds c = search needs

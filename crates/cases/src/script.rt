@@ -1,0 +1,193 @@
+// What a line of the script holds: signs, and a list of numbers.
+ghost use Prim.Native.Nat.{_≤_};
+ghost use lib.ListN.{length};
+
+// What stands in a list for a number that is not given: as a count, as many as there are.
+pub const NONE: u32 = 4294967295;
+
+// The end of a line, once the script's signs are replaced by what they stand for.
+pub const END: u8 = 30;
+
+fn plain(c: u8) -> u8 {
+    match c {
+        b'\n' => END,
+        b'/' => b'\n',
+        b'^' => b'\r',
+        b'_' => 0,
+        b'%' => 128,
+        _ => c,
+    }
+}
+
+// Replaces each sign of a script: a slash stands for a line feed of a table's text, and so on.
+pub fn make_plain(text: &mut [u8]) {
+    let mut i = 0;
+    while i < text.len() {
+        text[i] = plain(text[i]);
+        i += 1;
+    }
+}
+
+// Where a sign next stands, or the text's end.
+pub fn find(text: &[u8], from: usize, sign: u8) -> usize
+    requires { ⌜ from ≤ length (now text) ⌝ }
+    ensures { λ r. ⌜ (from ≤ r) × (r ≤ length (now (text .entry))) ⌝ }
+{
+    let mut i = from;
+    while i < text.len() {
+        if text[i] == sign {
+            return i;
+        }
+        i += 1;
+    }
+    i
+}
+
+// Where the reading of numbers stands: the next sign's place, the value of the digits just read and whether there are any; and of the
+// group, where it begins, how often it is read and how often it was.
+struct Scan {
+    at: usize,
+    value: u32,
+    open: bool,
+    start: usize,
+    turns: u32,
+    turn: u32,
+}
+
+// A place so many further on.
+pub fn skip(at: usize, count: usize) -> usize
+    requires { ⌜ count ≤ 9 ⌝ }
+{
+    if at < 1000000 { at + count } else { at }
+}
+
+// A sum, and the largest number where there is none.
+pub fn plus(a: u32, b: u32) -> u32 {
+    if a <= NONE - b { a + b } else { NONE }
+}
+
+fn minus(a: u32, b: u32) -> u32 {
+    if b <= a { a - b } else { 0 }
+}
+
+// A value with one digit more, and the largest number where that is too large.
+fn grown(value: u32, c: u8) -> u32 {
+    if value < 429496729 {
+        10 * value + (c % 16) as u32
+    } else {
+        NONE
+    }
+}
+
+// Whether a sign is part of a number, or makes it the count of a group's turns.
+fn goes_on(c: u8) -> bool {
+    match c {
+        b'(' | b'+' | b'-' | b'0'..=b'9' => true,
+        _ => false,
+    }
+}
+
+// The value after a sign.
+fn valued(value: u32, turn: u32, c: u8) -> u32 {
+    match c {
+        b'+' => plus(value, turn),
+        b'-' => minus(value, turn),
+        b'0'..=b'9' => grown(value, c),
+        _ => 0,
+    }
+}
+
+// A group that is read from its beginning, or left.
+fn grouped(start: usize, turns: u32, turn: u32) -> Scan {
+    Scan {
+        at: start,
+        value: 0,
+        open: false,
+        start,
+        turns,
+        turn,
+    }
+}
+
+// The end of a group: back to its beginning, or on.
+fn closed(s: Scan) -> Scan {
+    let turn = plus(s.turn, 1);
+    if turn < s.turns {
+        grouped(s.start, s.turns, turn)
+    } else {
+        grouped(skip(s.at, 1), 0, 0)
+    }
+}
+
+// A sign passed.
+fn step(s: Scan, c: u8) -> Scan {
+    if c == b')' {
+        return closed(s);
+    }
+    if c == b'(' {
+        return grouped(skip(s.at, 1), s.value, 0);
+    }
+    Scan {
+        at: skip(s.at, 1),
+        value: valued(s.value, s.turn, c),
+        open: goes_on(c),
+        start: s.start,
+        turns: s.turns,
+        turn: s.turn,
+    }
+}
+
+fn byte(text: &[u8], at: usize) -> u8 {
+    if at < text.len() { text[at] } else { b'|' }
+}
+
+// Puts a number that a sign ends into a list; how many are there then.
+fn put(list: &mut [u32], count: usize, s: Scan, c: u8) -> usize {
+    if !s.open {
+        return count;
+    }
+    if goes_on(c) {
+        return count;
+    }
+    if count < list.len() {
+        list[count] = s.value;
+        return count + 1;
+    }
+    count
+}
+
+// The numbers of a text, up to a bar.
+pub fn numbers(text: &[u8], list: &mut [u32]) {
+    let mut scan = grouped(0, 0, 0);
+    let mut count = 0;
+    let mut left: u32 = 100000;
+    while left > 0 {
+        let c = byte(text, scan.at);
+        count = put(list, count, scan, c);
+        if c == b'|' {
+            return;
+        }
+        scan = step(scan, c);
+        left -= 1;
+    }
+}
+
+// The number at a place of a list.
+pub fn at(list: &[u32], i: usize) -> u32 {
+    if i < list.len() { list[i] } else { NONE }
+}
+
+// A count, of so many.
+pub fn least(count: u32, all: usize) -> usize
+    ensures { λ r. ⌜ r ≤ all ⌝ }
+{
+    let count = count as usize;
+    if count <= all { count } else { all }
+}
+
+// The count at a place of a list, of so many.
+pub fn amount(list: &[u32], i: usize, all: usize) -> usize
+    ensures { λ r. ⌜ r ≤ all ⌝ }
+{
+    least(at(list, i), all)
+}
