@@ -1,0 +1,4 @@
+-- Laws of the C interface.
+pub mod Sizes
+pub mod Starting
+pub mod Walking

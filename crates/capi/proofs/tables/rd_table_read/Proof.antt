@@ -1,0 +1,25 @@
+-- What the reader tells, in numbers; the cells are few.
+use mathlib.Core.Path.{sym, ap, subst, _∙_}
+use denote.Ref.{now}
+use borrow.Author.Needs.{needs}
+use Rattle.capi.specs.Numbers.{tableNumbers, Small}
+use Rattle.capi.proofs.Sizes.{read-small}
+use Rattle.capi.proofs.tables.rd_table_read.Statement.{statement}
+use Rattle.capi.proofs.tables.rd_table_read.Tie as tie
+
+read-requires : tie.Need-read-requires
+read-requires c κs = search needs
+
+table-numbers-requires : tie.Need-table-numbers-requires
+table-numbers-requires c κs =
+    let args = c .before .before .before .before .before .before .args in
+    subst Small (sym (c .before .before .read .ensures .0)) (read-small (now (args .text)) (now (args .table)))
+
+same-length : tie.Need-same-length
+same-length c = search needs
+
+returns : tie.Need-returns
+returns c = let read = c .before .before .before .read .ensures in (c .table-numbers .ensures ∙ ap tableNumbers (read .0), read .1)
+
+pub rd-table-read-spec : {M : Type 1} → statement M
+rd-table-read-spec = tie.close (tie.spec read-requires table-numbers-requires same-length returns)

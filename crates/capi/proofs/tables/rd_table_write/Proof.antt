@@ -1,0 +1,26 @@
+-- What the writer tells, in numbers; the bytes are few.
+use mathlib.Core.Path.{sym, ap, subst, _∙_}
+use denote.Ref.{now}
+use borrow.Author.Needs.{needs}
+use Rattle.capi.specs.Numbers.{tableNumbers, Small}
+use Rattle.capi.proofs.Sizes.{write-small}
+use Rattle.capi.proofs.tables.rd_table_write.Statement.{statement}
+use Rattle.capi.proofs.tables.rd_table_write.Tie as tie
+
+write-requires : tie.Need-write-requires
+write-requires c κs = search needs
+
+table-numbers-requires : tie.Need-table-numbers-requires
+table-numbers-requires c κs =
+    let args = c .before .before .before .before .before .before .args in
+    subst Small (sym (c .before .before .write .ensures .0)) (write-small (now (args .table)) (now (args .text)))
+
+same-length : tie.Need-same-length
+same-length c = search needs
+
+returns : tie.Need-returns
+returns c = let write = c .before .before .before .write .ensures in (c .table-numbers .ensures ∙ ap tableNumbers (write .0), write .1)
+
+pub rd-table-write-spec : {M : Type 1} → statement M
+rd-table-write-spec =
+    tie.close (tie.spec write-requires table-numbers-requires same-length returns)

@@ -1,0 +1,3 @@
+-- What the C interface tells.
+pub mod Numbers
+pub mod Start

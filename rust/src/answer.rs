@@ -1,0 +1,88 @@
+//! What every call answers, and the record of a run, as the C interface lays them out.
+
+/// The kinds of an answer.
+pub const DONE: u32 = 0;
+pub const FOUND: u32 = 1;
+pub const PAUSED: u32 = 2;
+pub const ENDED: u32 = 3;
+pub const REFUSED: u32 = 4;
+
+/// A field without meaning for its kind is 0.
+#[repr(C)]
+#[derive(Clone, Copy, Debug, Default, PartialEq, Eq)]
+pub struct Answer {
+    pub kind: u32,
+    /// The refusal's number.
+    pub number: u32,
+    /// The steps made in this call.
+    pub steps: u32,
+    /// Cells of a table, bytes of a text, states of a cycle or letters of a reading.
+    pub length: u32,
+}
+
+/// The caller's record of a search. A run of zeros belongs to no search.
+#[repr(C)]
+#[derive(Clone, Copy, Debug, Default, PartialEq, Eq)]
+pub struct Run {
+    pub task: u32,
+    pub started: u32,
+    pub depth: u32,
+}
+
+impl Run {
+    /// A search of a task at its start.
+    pub fn of(task: u32) -> Run {
+        Run {
+            task,
+            ..Run::default()
+        }
+    }
+}
+
+impl Answer {
+    pub fn done(length: usize) -> Answer {
+        Answer {
+            kind: DONE,
+            length: length as u32,
+            ..Answer::default()
+        }
+    }
+
+    pub fn found(steps: u32, length: usize) -> Answer {
+        Answer {
+            kind: FOUND,
+            steps,
+            length: length as u32,
+            ..Answer::default()
+        }
+    }
+
+    pub fn paused(steps: u32) -> Answer {
+        Answer {
+            kind: PAUSED,
+            steps,
+            ..Answer::default()
+        }
+    }
+
+    pub fn ended(steps: u32) -> Answer {
+        Answer {
+            kind: ENDED,
+            steps,
+            ..Answer::default()
+        }
+    }
+
+    pub fn refused(number: u32, steps: u32) -> Answer {
+        Answer {
+            kind: REFUSED,
+            number,
+            steps,
+            ..Answer::default()
+        }
+    }
+
+    pub fn is_refused(&self) -> bool {
+        self.kind == REFUSED
+    }
+}

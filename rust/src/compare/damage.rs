@@ -1,0 +1,189 @@
+//! Calls on what no search left: runs, frames, stacks, tables and words with damage, or made of anything.
+use super::call::{self, Call};
+use super::tally::Tally;
+use crate::answer::Run;
+use crate::draw;
+use crate::engine::Engine;
+use crate::model::Model;
+use crate::random::Random;
+
+/// A place in a random search, made by the model.
+fn place(random: &mut Random) -> Call {
+    let task = random.within(1, 3) as u32;
+    let falling = random.one_in(2);
+    let table = draw::table(random, task, falling);
+    let (upper, lower) = draw::words(random, &table, task);
+    let mut call = Call {
+        table: table.cells(),
+        upper,
+        lower,
+        run: Run {
+            task,
+            ..Run::default()
+        },
+        stack: (0..4 * random.within(1, 40))
+            .map(|_| random.below(4) as u32)
+            .collect(),
+        allowance: 0,
+        output: vec![0xEE; 64],
+    };
+    for _ in 0..random.within(0, 4) {
+        Model.next(
+            &call.table,
+            &call.upper,
+            &call.lower,
+            &mut call.run,
+            &mut call.stack,
+            random.below(30) as u32,
+            &mut call.output,
+        );
+    }
+    call
+}
+
+/// A number near another, or at an edge.
+fn near(random: &mut Random, x: u32) -> u32 {
+    match random.below(6) {
+        0 => x.wrapping_add(1),
+        1 => x.wrapping_sub(1),
+        2 => 0,
+        3 => random.below(6) as u32,
+        4 => *random.pick(&[63, 64, 65, 255, 256, 257, 1_024, 33_024, 33_025, 65_536]),
+        _ => u32::MAX - random.below(2) as u32,
+    }
+}
+
+fn near_cell(random: &mut Random, x: u16) -> u16 {
+    near(random, x.into()) as u16
+}
+
+fn damage_run(random: &mut Random, call: &mut Call) {
+    match random.below(3) {
+        0 => call.run.task = near(random, call.run.task),
+        1 => call.run.started = near(random, call.run.started),
+        _ => call.run.depth = near(random, call.run.depth),
+    }
+}
+
+/// A cell of a used frame, or two frames exchanged.
+fn damage_frames(random: &mut Random, call: &mut Call) {
+    let used = 4 * call.run.depth as usize;
+    if used == 0 || used > call.stack.len() {
+        return;
+    }
+    if random.one_in(5) {
+        let (a, b) = (random.below(used / 4), random.below(used / 4));
+        for k in 0..4 {
+            call.stack.swap(4 * a + k, 4 * b + k);
+        }
+    } else {
+        let at = random.below(used);
+        call.stack[at] = near(random, call.stack[at]);
+    }
+}
+
+/// A cell, two arcs' worth of cells exchanged or made equal, cells cut off or put after it.
+fn damage_table(random: &mut Random, call: &mut Call) {
+    let table = &mut call.table;
+    if table.is_empty() {
+        return;
+    }
+    match random.below(5) {
+        0 | 1 => {
+            let at = random.below(table.len());
+            table[at] = near_cell(random, table[at]);
+        }
+        2 => table.truncate(random.below(table.len())),
+        3 => table.extend([1, 2, 3]),
+        _ if table.len() >= 12 => {
+            let (a, b) = (table.len() - 8, table.len() - 4);
+            if random.one_in(2) {
+                table.copy_within(a..b, b);
+            } else {
+                (0..4).for_each(|k| table.swap(a + k, b + k));
+            }
+        }
+        _ => {}
+    }
+}
+
+fn damage_word(random: &mut Random, word: &mut Vec<u8>) {
+    match random.below(4) {
+        0 => word.push(random.within(1, 3) as u8),
+        1 => word.truncate(word.len() / 2),
+        2 => word.resize(random.within(60, 70), 1),
+        _ if word.is_empty() => word.push(0),
+        _ => {
+            let at = random.below(word.len());
+            word[at] = *random.pick(&[0, 1, 2, 3, 63, 64, 200]);
+        }
+    }
+}
+
+fn damage(random: &mut Random, call: &mut Call) {
+    match random.below(12) {
+        0 | 1 => damage_run(random, call),
+        2..=5 => damage_frames(random, call),
+        6 => call.stack.truncate(random.below(call.stack.len() + 1)),
+        7 | 8 => damage_table(random, call),
+        9 => damage_word(random, &mut call.upper),
+        10 => damage_word(random, &mut call.lower),
+        _ => std::mem::swap(&mut call.upper, &mut call.lower),
+    }
+}
+
+/// A place in a search with none to three damages, then one call and one more.
+pub fn any(engine: &impl Engine, random: &mut Random, tally: &mut Tally) -> Result<(), String> {
+    let mut call = place(random);
+    for _ in 0..random.below(4) {
+        damage(random, &mut call);
+    }
+    for _ in 0..2 {
+        call.allowance = *random.pick(&[0, 1, 2, 5, 30, 300]);
+        call.output = vec![0xEE; *random.pick(&[0, 1, 2, 5, 60])];
+        tally.add(call::compare(engine, &mut call)?);
+    }
+    Ok(())
+}
+
+/// A call on numbers of any kind, small ones mostly.
+pub fn arbitrary(
+    engine: &impl Engine,
+    random: &mut Random,
+    tally: &mut Tally,
+) -> Result<(), String> {
+    let most = *random.pick(&[2, 3, 5, 70]);
+    let mut table: Vec<u16> = (0..random.below(30))
+        .map(|_| random.below(most) as u16)
+        .collect();
+    if random.one_in(2) {
+        let task = random.within(1, 3) as u32;
+        table = draw::table(random, task, true).cells();
+    }
+    let mut numbers =
+        |count: usize| -> Vec<u32> { (0..count).map(|_| random.below(most) as u32).collect() };
+    let run = numbers(3);
+    let words = numbers(8);
+    let stack = numbers(23);
+    let mut call = Call {
+        table,
+        upper: words[..words[6] as usize % 4]
+            .iter()
+            .map(|x| *x as u8)
+            .collect(),
+        lower: words[..words[7] as usize % 4]
+            .iter()
+            .map(|x| *x as u8)
+            .collect(),
+        run: Run {
+            task: run[0],
+            started: run[1],
+            depth: run[2],
+        },
+        stack,
+        allowance: random.below(40) as u32,
+        output: vec![0xEE; random.below(4)],
+    };
+    tally.add(call::compare(engine, &mut call)?);
+    Ok(())
+}

@@ -1,0 +1,41 @@
+//! The fixed series of cases that an engine is put to.
+use super::tally::Tally;
+use super::{damage, search, series, start};
+use crate::engine::Engine;
+
+/// Starts and lists of calls on one run.
+pub fn searches(engine: &impl Engine) -> Result<Tally, String> {
+    series("searches", 0x5EA2C4, 15_000, |random, tally| {
+        search::any(engine, random, tally)
+    })
+}
+
+/// Starts on good and bad tables, tasks and words.
+pub fn starts(engine: &impl Engine) -> Result<Tally, String> {
+    series("starts", 0x57A275, 20_000, |random, tally| {
+        start::any(engine, random, tally)
+    })
+}
+
+/// Calls on places with damage.
+pub fn damaged(engine: &impl Engine) -> Result<Tally, String> {
+    series("damaged places", 0xDA3A6E, 30_000, |random, tally| {
+        damage::any(engine, random, tally)
+    })
+}
+
+/// Calls on any numbers.
+pub fn arbitrary(engine: &impl Engine) -> Result<Tally, String> {
+    series("arbitrary numbers", 0xA2B174, 20_000, |random, tally| {
+        damage::arbitrary(engine, random, tally)
+    })
+}
+
+/// All of them; nothing, or the first difference.
+pub fn all(engine: &impl Engine) -> Result<(), String> {
+    searches(engine)?;
+    starts(engine)?;
+    damaged(engine)?;
+    arbitrary(engine)?;
+    Ok(())
+}

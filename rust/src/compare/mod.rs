@@ -1,0 +1,44 @@
+//! The comparison of an engine with the model and the lister, case by case. It takes any engine: the proved library, the twin, and
+//! twins with a fault.
+pub mod call;
+pub mod damage;
+pub mod fixed;
+pub mod search;
+pub mod start;
+pub mod tally;
+pub mod texts;
+
+use crate::answer::Run;
+use crate::random::Random;
+use tally::Tally;
+
+/// What stands before and after a run that is lent.
+const RUN_GUARD: Run = Run {
+    task: 77,
+    started: 78,
+    depth: 79,
+};
+
+/// A series of cases from one seed. The first difference is told with its seed and case, which repeat it.
+pub fn series(
+    name: &str,
+    seed: u64,
+    cases: u64,
+    compare: impl Fn(&mut Random, &mut Tally) -> Result<(), String>,
+) -> Result<Tally, String> {
+    let mut tally = Tally::default();
+    for case in 0..cases {
+        compare(&mut Random::of_case(seed, case), &mut tally)
+            .map_err(|difference| format!("{name}, seed {seed:#x}, case {case}: {difference}"))?;
+    }
+    Ok(tally)
+}
+
+/// Equal, or what differs.
+fn same<T: PartialEq + std::fmt::Debug>(name: &str, got: T, expected: T) -> Result<(), String> {
+    if got == expected {
+        Ok(())
+    } else {
+        Err(format!("{name} is {got:?}, expected {expected:?}"))
+    }
+}

@@ -1,0 +1,142 @@
+//! A table's text read and written: the answer and every cell of the destination.
+use super::same;
+use super::tally::Tally;
+use crate::answer::{Answer, DONE};
+use crate::draw;
+use crate::engine::Texts;
+use crate::lent::Lent;
+use crate::model::Model;
+use crate::random::Random;
+use crate::text;
+
+/// Reads a text into a destination of so many cells.
+pub fn read(texts: &impl Texts, source: &[u8], cells: usize) -> Result<Answer, String> {
+    let stale = vec![0x5A5A; cells];
+    let mut expected_cells = stale.clone();
+    let expected = Model.read(source, &mut expected_cells);
+    let mut lent = Lent::new(source, 0xAB);
+    let mut destination = Lent::new(&stale, 0xABCD);
+    let answer = texts.read(lent.lend(), destination.lend());
+    let check = || {
+        same("answer", answer, expected)?;
+        destination.expect("destination", &expected_cells)?;
+        lent.expect("text", source)
+    };
+    check().map_err(|difference| {
+        let source = String::from_utf8_lossy(source);
+        format!("{difference}, reading to {cells} cells {source:?}")
+    })?;
+    Ok(expected)
+}
+
+/// Writes a table into a destination of so many bytes.
+pub fn write(texts: &impl Texts, source: &[u16], bytes: usize) -> Result<Answer, String> {
+    let stale = vec![0x5A; bytes];
+    let mut expected_bytes = stale.clone();
+    let expected = Model.write(source, &mut expected_bytes);
+    let mut lent = Lent::new(source, 0xABCD);
+    let mut destination = Lent::new(&stale, 0xAB);
+    let answer = texts.write(lent.lend(), destination.lend());
+    let check = || {
+        same("answer", answer, expected)?;
+        destination.expect("destination", &expected_bytes)?;
+        lent.expect("table", source)
+    };
+    check().map_err(|difference| format!("{difference}, writing to {bytes} bytes {source:?}"))?;
+    Ok(expected)
+}
+
+/// A length about the one that is needed.
+fn about(random: &mut Random, need: usize) -> usize {
+    match random.below(6) {
+        0 => need.saturating_sub(1),
+        1 => need,
+        2 => random.below(need + 1),
+        _ => need + random.below(9),
+    }
+}
+
+/// A random table written, and the text read back.
+pub fn round_trip(
+    texts: &impl Texts,
+    random: &mut Random,
+    tally: &mut Tally,
+) -> Result<(), String> {
+    let task = random.within(1, 3) as u32;
+    let table = draw::table(random, task, false);
+    let (cells, source) = (table.cells(), text::print(&table));
+    let mut bytes = vec![0; source.len()];
+    let mut back = vec![0; cells.len()];
+    let written = texts.write(&cells, &mut bytes);
+    let answer = texts.read(&bytes, &mut back);
+    same("text", &bytes, &source)?;
+    same("table", &back, &cells)?;
+    same("written", written, Answer::done(source.len()))?;
+    same("read", answer, Answer::done(cells.len()))?;
+    tally.add(answer);
+    tally.add(write(texts, &cells, about(random, source.len()))?);
+    tally.add(read(texts, &source, about(random, cells.len()))?);
+    Ok(())
+}
+
+/// A character of a text changed, put in or taken out; a line doubled, taken out or exchanged with the next; an end cut off or put on.
+fn damage(random: &mut Random, source: &mut Vec<u8>) {
+    let digits = b"0123456789ABCDEF";
+    let others = b"abcfgG :/@`\n\r\0\x7F\xFF";
+    if source.is_empty() {
+        return;
+    }
+    let at = random.below(source.len());
+    match random.below(9) {
+        0..=2 => source[at] = *random.pick(digits),
+        3 => source[at] = *random.pick(others),
+        4 => source.insert(at, *random.pick(digits)),
+        5 => _ = source.remove(at),
+        6 => source.truncate(at),
+        7 => {
+            let more: [&[u8]; 5] = [b"\n", b"05", b"050001\n", b"0G\n", b"01000100\n"];
+            source.extend(*random.pick(&more));
+        }
+        _ => damage_lines(random, source),
+    }
+}
+
+fn damage_lines(random: &mut Random, source: &mut Vec<u8>) {
+    let mut lines: Vec<&[u8]> = text::lines(source).collect();
+    let at = random.below(lines.len());
+    match random.below(3) {
+        0 => _ = lines.remove(at),
+        1 => lines.insert(at, lines[at]),
+        _ if at + 1 < lines.len() => lines.swap(at, at + 1),
+        _ => {}
+    }
+    *source = lines.concat();
+}
+
+/// A random table's text with one to three damages, or anything, read.
+pub fn damaged(texts: &impl Texts, random: &mut Random, tally: &mut Tally) -> Result<(), String> {
+    let task = random.within(1, 3) as u32;
+    let table = draw::table(random, task, false);
+    let mut source = text::print(&table);
+    for _ in 0..random.within(1, 3) {
+        damage(random, &mut source);
+    }
+    if random.one_in(20) {
+        let bytes = (0..random.below(60)).map(|_| random.below(256) as u8);
+        source = bytes.collect();
+    }
+    let answer = read(texts, &source, about(random, table.cells().len()))?;
+    tally.add(answer);
+    if answer.kind == DONE {
+        return Ok(());
+    }
+    let mut cells = table.cells();
+    let at = random.below(cells.len());
+    match random.below(3) {
+        0 => cells[at] = random.below(300) as u16,
+        1 => cells[at] = random.below(4) as u16,
+        _ => cells.truncate(at),
+    }
+    tally.add(write(texts, &cells, about(random, source.len()))?);
+    Ok(())
+}

@@ -1,0 +1,30 @@
+//! Tasks and words: which sides a task reads, and refusals 11 and 10.
+
+pub const RECOGNITION: u32 = 1;
+pub const SYNTHESIS: u32 = 2;
+pub const ANALYSIS: u32 = 3;
+
+/// Whether the upper and the lower side are read.
+pub fn sides(task: u32) -> Option<(bool, bool)> {
+    match task {
+        RECOGNITION => Some((true, true)),
+        SYNTHESIS => Some((true, false)),
+        ANALYSIS => Some((false, true)),
+        _ => None,
+    }
+}
+
+fn word_is_bad(word: &[u8]) -> bool {
+    word.len() > 64 || word.iter().any(|letter| *letter == 0 || *letter > 63)
+}
+
+/// 11, then 10.
+pub fn fault(task: u32, upper: &[u8], lower: &[u8]) -> Option<u32> {
+    let Some((reads_upper, reads_lower)) = sides(task) else {
+        return Some(11);
+    };
+    if (!reads_upper && !upper.is_empty()) || (!reads_lower && !lower.is_empty()) {
+        return Some(11);
+    }
+    (word_is_bad(upper) || word_is_bad(lower)).then_some(10)
+}

@@ -1,0 +1,164 @@
+//! A table's text, read and written: one item a line, two capital digits a byte, a line feed after each.
+use crate::answer::Answer;
+use crate::rules;
+use crate::table::{Arc, Table};
+
+/// The text of document 01's table K.
+pub const K: &str = "010003000100020005\n020000\n030001\n030002\n\
+                     04000001010001\n04000002020002\n04000102020002\n\
+                     04000100030000\n04000200030000\n050009\n";
+
+/// The bytes that a line says; none where it is malformed (1). The line has its line feed with it, if it has one.
+pub fn line_bytes(line: &[u8]) -> Option<Vec<u8>> {
+    let digits = line.strip_suffix(b"\n")?;
+    if digits.is_empty() || digits.len() % 2 == 1 {
+        return None;
+    }
+    let value = |c: u8| match c {
+        b'0'..=b'9' => Some(c - b'0'),
+        b'A'..=b'F' => Some(c - b'A' + 10),
+        _ => None,
+    };
+    digits
+        .chunks(2)
+        .map(|pair| Some(value(pair[0])? * 16 + value(pair[1])?))
+        .collect()
+}
+
+/// The line of some bytes.
+pub fn line(bytes: &[u8]) -> Vec<u8> {
+    let mut text = String::new();
+    for b in bytes {
+        text += &format!("{b:02X}");
+    }
+    text.push('\n');
+    text.into_bytes()
+}
+
+/// The lines of a text, each with its line feed; the last may lack it.
+pub fn lines(text: &[u8]) -> impl Iterator<Item = &[u8]> {
+    text.split_inclusive(|c| *c == b'\n')
+}
+
+fn number(bytes: &[u8], at: usize) -> u16 {
+    u16::from_be_bytes([bytes[at], bytes[at + 1]])
+}
+
+/// The next line's bytes: 2 where there is none, 1, then 2 where it has not this kind and length.
+fn item<'a>(
+    lines: &mut impl Iterator<Item = &'a [u8]>,
+    kind: u8,
+    length: usize,
+) -> Result<Vec<u8>, u32> {
+    let bytes = line_bytes(lines.next().ok_or(2u32)?).ok_or(1u32)?;
+    if bytes[0] == kind && bytes.len() == length {
+        Ok(bytes)
+    } else {
+        Err(2)
+    }
+}
+
+fn kept(fault: Option<u32>) -> Result<(), u32> {
+    fault.map_or(Ok(()), Err)
+}
+
+/// A text's table, or the number that its first bad line earns.
+pub fn parse(text: &[u8]) -> Result<Table, u32> {
+    let mut lines = lines(text);
+    let header = item(&mut lines, 1, 9)?;
+    let count = |k: usize| number(&header, 1 + 2 * k);
+    kept(rules::counts(count(0), count(1), count(2), count(3)))?;
+    let mut table = Table {
+        states: count(0),
+        ..Table::default()
+    };
+    for _ in 0..count(1) {
+        let state = number(&item(&mut lines, 2, 3)?, 1);
+        kept(rules::initial(table.states, &table.initials, state))?;
+        table.initials.push(state);
+    }
+    for _ in 0..count(2) {
+        let state = number(&item(&mut lines, 3, 3)?, 1);
+        kept(rules::terminal(table.states, &table.terminals, state))?;
+        table.terminals.push(state);
+    }
+    for _ in 0..count(3) {
+        let bytes = item(&mut lines, 4, 7)?;
+        let letters = (bytes[3].into(), bytes[4].into());
+        let arc = Arc::new(number(&bytes, 1), letters.0, letters.1, number(&bytes, 5));
+        kept(rules::arc(table.states, &table.arcs, arc))?;
+        table.arcs.push(arc);
+    }
+    let end = item(&mut lines, 5, 3)?;
+    if number(&end, 1) != 1 + count(1) + count(2) + count(3) {
+        return Err(9);
+    }
+    match lines.next() {
+        None => Ok(table),
+        Some(line) => Err(if line_bytes(line).is_none() { 1 } else { 2 }),
+    }
+}
+
+/// A kind and a number of two bytes.
+fn numbered(kind: u8, number: u16) -> Vec<u8> {
+    let [high, low] = number.to_be_bytes();
+    line(&[kind, high, low])
+}
+
+/// A table's text.
+pub fn print(table: &Table) -> Vec<u8> {
+    let counts = [
+        table.states as usize,
+        table.initials.len(),
+        table.terminals.len(),
+        table.arcs.len(),
+    ];
+    let mut header = vec![1];
+    for count in counts {
+        header.extend((count as u16).to_be_bytes());
+    }
+    let mut text = line(&header);
+    for state in &table.initials {
+        text.extend(numbered(2, *state));
+    }
+    for state in &table.terminals {
+        text.extend(numbered(3, *state));
+    }
+    for arc in &table.arcs {
+        let mut bytes = vec![4];
+        bytes.extend(arc.source.to_be_bytes());
+        bytes.extend([arc.upper as u8, arc.lower as u8]);
+        bytes.extend(arc.target.to_be_bytes());
+        text.extend(line(&bytes));
+    }
+    let before = 1 + counts[1] + counts[2] + counts[3];
+    text.extend(numbered(5, before as u16));
+    text
+}
+
+/// What is to be written, to the front of a destination: 24 where it is too short.
+fn deliver<T: Copy>(all: &[T], destination: &mut [T]) -> Answer {
+    match destination.get_mut(..all.len()) {
+        None => Answer::refused(24, 0),
+        Some(front) => {
+            front.copy_from_slice(all);
+            Answer::done(all.len())
+        }
+    }
+}
+
+/// Text to cells: the text's refusals, then 24.
+pub fn read(text: &[u8], destination: &mut [u16]) -> Answer {
+    match parse(text) {
+        Err(number) => Answer::refused(number, 0),
+        Ok(table) => deliver(&table.cells(), destination),
+    }
+}
+
+/// Cells to text: 20, then 24.
+pub fn write(cells: &[u16], destination: &mut [u8]) -> Answer {
+    match Table::loaded(cells) {
+        None => Answer::refused(20, 0),
+        Some(table) => deliver(&print(&table), destination),
+    }
+}

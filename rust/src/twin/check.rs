@@ -1,0 +1,102 @@
+//! The table check, and where each state's arcs begin.
+use super::scan;
+
+/// Source, upper letter, lower letter, target.
+pub type Arc = [u16; 4];
+
+/// The parts of a table that keeps the rules.
+pub struct View<'a> {
+    pub initials: &'a [u16],
+    pub terminals: &'a [u16],
+    pub arcs: &'a [Arc],
+    /// For each state, and one past the last, how many arcs have a lower source.
+    pub first: [u16; 257],
+}
+
+fn initials_hold(list: &[u16], states: u16) -> bool {
+    let mut seen = [0u64; 4];
+    for &state in list {
+        if state >= states {
+            return false;
+        }
+        let (word, bit) = (state as usize / 64 % 4, 1u64 << (state % 64));
+        if seen[word] & bit != 0 {
+            return false;
+        }
+        seen[word] |= bit;
+    }
+    true
+}
+
+fn terminals_hold(list: &[u16], states: u16) -> bool {
+    let rise = list
+        .windows(2)
+        .fold(true, |ok, pair| ok & (pair[0] < pair[1]));
+    rise && list.last().is_none_or(|last| *last < states)
+}
+
+/// Sources that do not fall and no arc twice, for arcs in any order.
+#[cold]
+fn distinct(arcs: &[Arc]) -> bool {
+    let mut begin = 0;
+    for (k, arc) in arcs.iter().enumerate() {
+        if arc[0] < arcs[begin][0] {
+            return false;
+        }
+        if arc[0] > arcs[begin][0] {
+            begin = k;
+        }
+        if arcs[begin..k].contains(arc) {
+            return false;
+        }
+    }
+    true
+}
+
+/// A state without arcs begins where the one before it ends.
+fn fill(first: &mut [u16]) {
+    let empty = first[1..].iter().fold(false, |any, end| any | (*end == 0));
+    if empty {
+        let mut last = 0;
+        for end in first {
+            last = last.max(*end);
+            *end = last;
+        }
+    }
+}
+
+/// The parts of a table; none where it breaks a rule.
+#[inline(always)]
+pub fn check<const VECTOR: bool>(table: &[u16]) -> Option<View<'_>> {
+    let (counts, rest) = table.split_first_chunk::<4>()?;
+    let [states, initials, terminals, arcs] = *counts;
+    let counts_hold = (1..=256).contains(&states)
+        && (1..=states).contains(&initials)
+        && terminals <= states
+        && arcs <= 1024;
+    if !counts_hold {
+        return None;
+    }
+    let (initials, rest) = rest.split_at_checked(initials.into())?;
+    let (terminals, rest) = rest.split_at_checked(terminals.into())?;
+    let arcs = rest.get(..4 * arcs as usize)?.as_chunks::<4>().0;
+    if !initials_hold(initials, states) || !terminals_hold(terminals, states) {
+        return None;
+    }
+    let mut first = [0; 257];
+    let seen = if VECTOR {
+        scan::vector(arcs, states, &mut first)
+    } else {
+        scan::portable(arcs, states, &mut first)
+    };
+    if !seen.within || !(seen.rising || distinct(arcs)) {
+        return None;
+    }
+    fill(&mut first[..=states as usize]);
+    Some(View {
+        initials,
+        terminals,
+        arcs,
+        first,
+    })
+}

@@ -1,0 +1,69 @@
+//! The search for an idle cycle. Idle arcs whose target has none fall away until nothing changes; what is left leads round.
+use super::check::{Arc, View};
+use crate::engine::CYCLE;
+
+/// The source and the target of an idle arc.
+type Step = [u8; 2];
+
+#[inline(always)]
+fn is_idle<const UP: bool, const LOW: bool>(arc: &Arc) -> bool {
+    (!UP || arc[1] == 0) & (!LOW || arc[2] == 0)
+}
+
+/// Writes the states of a cycle, zeros after them, and tells how many there are; 0 and nothing written where there is none.
+#[inline(always)]
+pub fn find<const UP: bool, const LOW: bool>(view: &View, cycle: &mut [u16; CYCLE]) -> usize {
+    let mut idle: [Step; 1024] = [[0; 2]; 1024];
+    let mut count = 0;
+    let mut leaving = [0u16; 256]; // idle arcs from each state
+    for arc in view.arcs.iter().rev() {
+        let is_idle = is_idle::<UP, LOW>(arc);
+        idle[count & 1023] = [arc[0] as u8, arc[3] as u8];
+        count += usize::from(is_idle);
+        leaving[arc[0] as usize & 255] += u16::from(is_idle);
+    }
+    // Last arcs first: what leads to a higher state falls away in one round.
+    loop {
+        let mut kept = 0;
+        for k in 0..count {
+            let [source, target] = idle[k];
+            if leaving[target as usize] == 0 {
+                leaving[source as usize] -= 1;
+            } else {
+                idle[kept] = [source, target];
+                kept += 1;
+            }
+        }
+        if kept == 0 {
+            return 0;
+        }
+        if kept == count {
+            return walk(&idle[..kept], cycle);
+        }
+        count = kept;
+    }
+}
+
+/// A walk along arcs, each of whose targets has one, until a state comes again; from there on it is a cycle.
+#[cold]
+fn walk(idle: &[Step], cycle: &mut [u16; CYCLE]) -> usize {
+    let mut next = [0; 256];
+    for [source, target] in idle {
+        next[*source as usize] = *target;
+    }
+    let mut order = Vec::new();
+    let mut state = idle[0][0];
+    let begin = loop {
+        if let Some(begin) = order.iter().position(|s| *s == state) {
+            break begin;
+        }
+        order.push(state);
+        state = next[state as usize];
+    };
+    let states = &order[begin..];
+    cycle.fill(0);
+    for (cell, state) in cycle.iter_mut().zip(states) {
+        *cell = u16::from(*state);
+    }
+    states.len()
+}

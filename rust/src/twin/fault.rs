@@ -1,0 +1,13 @@
+//! The errors that a good programmer would make here, one number each.
+
+pub const NONE: u8 = 0;
+/// An arc is counted as tried before its push is known to succeed.
+pub const TRIED_EARLY: u8 = 1;
+/// A terminal state accepts with letters still unread.
+pub const UNREAD: u8 = 2;
+/// The allowance is tested before the end.
+pub const ALLOWANCE_FIRST: u8 = 3;
+/// A start for synthesis looks for the idle cycles of recognition.
+pub const RECOGNITION_CYCLES: u8 = 4;
+/// A frame without arcs left is dropped while its letter is still needed.
+pub const DROPPED_EARLY: u8 = 5;

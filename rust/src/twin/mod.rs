@@ -1,0 +1,110 @@
+//! A second text of the engine, written for speed: the benchmark measures the proved library against it. It makes the same checks,
+//! steps and answers. A fault can be planted in it, to see that the tests find it.
+mod check;
+mod cycle;
+pub mod fault;
+mod place;
+mod scan;
+mod search;
+
+use crate::answer::{Answer, Run};
+use crate::engine::{CYCLE, Engine};
+use check::View;
+use search::Search;
+
+/// The twin, with a planted fault; with or without instructions that look at several arcs at once.
+#[derive(Clone, Copy, Debug)]
+pub struct Twin<const FAULT: u8, const VECTOR: bool = true>;
+
+/// The twin without fault.
+pub const SOUND: Twin<{ fault::NONE }> = Twin;
+
+/// The same in plain Rust.
+pub const PLAIN: Twin<{ fault::NONE }, false> = Twin;
+
+fn word_holds(word: &[u8]) -> bool {
+    word.len() <= 64 && word.iter().fold(true, |ok, x| ok & (1..=63).contains(x))
+}
+
+/// 20, 11, 10.
+#[inline(always)]
+fn ask<'a, const VECTOR: bool>(
+    table: &'a [u16],
+    task: u32,
+    upper: &[u8],
+    lower: &[u8],
+) -> Result<View<'a>, u32> {
+    let view = check::check::<VECTOR>(table).ok_or(20u32)?;
+    let sides_hold = match task {
+        1 => true,
+        2 => lower.is_empty(),
+        3 => upper.is_empty(),
+        _ => false,
+    };
+    if !sides_hold {
+        return Err(11);
+    }
+    if !word_holds(upper) || !word_holds(lower) {
+        return Err(10);
+    }
+    Ok(view)
+}
+
+impl<const FAULT: u8, const VECTOR: bool> Engine for Twin<FAULT, VECTOR> {
+    #[inline(never)]
+    fn start(
+        &self,
+        table: &[u16],
+        task: u8,
+        upper: &[u8],
+        lower: &[u8],
+        run: &mut Run,
+        cycle: &mut [u16; CYCLE],
+    ) -> Answer {
+        let view = match ask::<VECTOR>(table, task.into(), upper, lower) {
+            Ok(view) => view,
+            Err(number) => return Answer::refused(number, 0),
+        };
+        let both = FAULT == fault::RECOGNITION_CYCLES && task == 2;
+        let found = match task {
+            1 => cycle::find::<true, true>(&view, cycle),
+            2 if both => cycle::find::<true, true>(&view, cycle),
+            2 => cycle::find::<true, false>(&view, cycle),
+            _ => cycle::find::<false, true>(&view, cycle),
+        };
+        if found != 0 {
+            return Answer {
+                length: found as u32,
+                ..Answer::refused(12, 0)
+            };
+        }
+        *run = Run::of(task.into());
+        Answer::done(0)
+    }
+
+    #[inline(never)]
+    fn next(
+        &self,
+        table: &[u16],
+        upper: &[u8],
+        lower: &[u8],
+        run: &mut Run,
+        stack: &mut [u32],
+        allowance: u32,
+        output: &mut [u8],
+    ) -> Answer {
+        let view = match ask::<VECTOR>(table, run.task, upper, lower) {
+            Ok(view) => view,
+            Err(number) => return Answer::refused(number, 0),
+        };
+        let frames = stack.as_chunks_mut::<4>().0;
+        match run.task {
+            1 => Search::<true, true, FAULT>::new(&view, upper, lower)
+                .call(run, frames, allowance, output),
+            2 => Search::<true, false, FAULT>::new(&view, upper, lower)
+                .call(run, frames, allowance, output),
+            _ => Search::<false, true, FAULT>::new(&view, upper, lower)
+                .call(run, frames, allowance, output),
+        }
+    }
+}

@@ -1,0 +1,202 @@
+//! The steps of a call. The sides that are read are constants, so that each task has code of its own.
+use super::check::{Arc, View};
+use super::fault;
+use crate::answer::{Answer, Run};
+
+/// State, next arc, letters passed above and below.
+pub type Frame = [u32; 4];
+
+pub struct Search<'a, const UP: bool, const LOW: bool, const FAULT: u8> {
+    pub view: &'a View<'a>,
+    /// The words with zeros after them: no letter of an arc is compared with a 0.
+    upper: [u8; 128],
+    lower: [u8; 128],
+    upper_length: u32,
+    lower_length: u32,
+}
+
+fn padded(word: &[u8]) -> [u8; 128] {
+    let mut letters = [0; 128];
+    letters[..word.len()].copy_from_slice(word);
+    letters
+}
+
+impl<'a, const UP: bool, const LOW: bool, const FAULT: u8> Search<'a, UP, LOW, FAULT> {
+    #[inline(always)]
+    pub fn new(view: &'a View<'a>, upper: &[u8], lower: &[u8]) -> Self {
+        Search {
+            view,
+            upper: padded(upper),
+            lower: padded(lower),
+            upper_length: upper.len() as u32,
+            lower_length: lower.len() as u32,
+        }
+    }
+
+    /// The frames that may be used.
+    #[inline(always)]
+    pub fn room(&self, frames: &[Frame]) -> usize {
+        frames.len().min(33_024)
+    }
+
+    /// The numbers of a state's first arc and of the one after its last.
+    #[inline(always)]
+    pub fn range(&self, state: u32) -> (u32, u32) {
+        let at = state as usize & 255;
+        (self.view.first[at].into(), self.view.first[at + 1].into())
+    }
+
+    #[inline(always)]
+    pub fn fits(&self, arc: &Arc, up: u32, low: u32) -> bool {
+        let above = u16::from(self.upper[up as usize & 127]);
+        let below = u16::from(self.lower[low as usize & 127]);
+        (!UP || arc[1] == 0 || arc[1] == above) && (!LOW || arc[2] == 0 || arc[2] == below)
+    }
+
+    #[inline(always)]
+    fn accepts(&self, state: u16, up: u32, low: u32) -> bool {
+        let read = (!UP || up == self.upper_length) && (!LOW || low == self.lower_length);
+        (read || FAULT == fault::UNREAD) && self.view.terminals.binary_search(&state).is_ok()
+    }
+
+    /// The letters that the arcs just tried in some frames write.
+    #[inline(never)]
+    fn gather(&self, frames: &[Frame], output: &mut [u8]) -> usize {
+        if UP && LOW {
+            return 0;
+        }
+        let side = if UP { 2 } else { 1 };
+        let space = output.len();
+        let mut letters = output.iter_mut();
+        for frame in frames {
+            // SAFETY: a place in the search: each of these frames has tried an arc.
+            let letter = unsafe { self.view.arcs.get_unchecked(frame[1] as usize - 1)[side] };
+            if letter != 0
+                && let Some(place) = letters.next()
+            {
+                *place = letter as u8;
+            }
+        }
+        space - letters.len()
+    }
+
+    #[inline(always)]
+    pub fn call(
+        &self,
+        run: &mut Run,
+        frames: &mut [Frame],
+        allowance: u32,
+        output: &mut [u8],
+    ) -> Answer {
+        if !self.place_holds(run, frames) {
+            return Answer::refused(21, 0);
+        }
+        let mut steps = 0;
+        loop {
+            if run.depth != 0 {
+                let answer = self.descend(run, frames, allowance, &mut steps, output);
+                if let Some(answer) = answer {
+                    return answer;
+                }
+            }
+            // At depth 0: the end, the allowance, the next initial state.
+            if FAULT == fault::ALLOWANCE_FIRST && steps == allowance {
+                return Answer::paused(steps);
+            }
+            let Some(&state) = self.view.initials.get(run.started as usize) else {
+                return Answer::ended(steps);
+            };
+            if steps == allowance {
+                return Answer::paused(steps);
+            }
+            if frames.is_empty() {
+                return Answer::refused(22, steps);
+            }
+            frames[0] = [state.into(), self.range(state.into()).0, 0, 0];
+            run.started += 1;
+            run.depth = 1;
+            steps += 1;
+            if self.accepts(state, 0, 0) {
+                return Answer::found(steps, 0);
+            }
+        }
+    }
+
+    /// Steps from a top frame on, until there is an answer or no frame is left.
+    #[inline(always)]
+    fn descend(
+        &self,
+        run: &mut Run,
+        frames: &mut [Frame],
+        allowance: u32,
+        steps: &mut u32,
+        output: &mut [u8],
+    ) -> Option<Answer> {
+        let arcs = self.view.arcs;
+        let room = self.room(frames);
+        let mut depth = run.depth as usize;
+        let mut made = *steps;
+        let [mut state, mut next, mut up, mut low] = frames[depth - 1];
+        let answer = loop {
+            // Arcs that do not fit, as far as the allowance goes.
+            let end = self.range(state).1;
+            let stop = end.min(next.saturating_add(allowance - made));
+            let rest = &arcs[next as usize..stop as usize];
+            let skipped = rest.iter().position(|arc| self.fits(arc, up, low));
+            let Some(skipped) = skipped else {
+                made += stop - next;
+                frames[depth - 1][1] = stop;
+                if made == allowance {
+                    break Some(Answer::paused(made));
+                }
+                made += 1;
+                depth -= 1;
+                if depth == 0 {
+                    break None;
+                }
+                [state, next, up, low] = frames[depth - 1];
+                continue;
+            };
+            made += skipped as u32;
+            next += skipped as u32;
+            frames[depth - 1][1] = next + u32::from(FAULT == fault::TRIED_EARLY);
+            let arc = &arcs[next as usize];
+            if depth == room {
+                break Some(Answer::refused(22, made));
+            }
+            let target = arc[3];
+            let longer_up = up + u32::from(arc[1] != 0);
+            let longer_low = low + u32::from(arc[2] != 0);
+            let accepts = self.accepts(target, longer_up, longer_low);
+            if accepts {
+                let length = if UP && LOW {
+                    0
+                } else if UP {
+                    longer_low
+                } else {
+                    longer_up
+                };
+                if length as usize > output.len() {
+                    break Some(Answer::refused(23, made));
+                }
+            }
+            next += 1;
+            frames[depth - 1][1] = next;
+            if FAULT == fault::DROPPED_EARLY && next == end {
+                depth -= 1;
+            }
+            (state, up, low) = (target.into(), longer_up, longer_low);
+            next = self.range(state).0;
+            frames[depth] = [state, next, up, low];
+            depth += 1;
+            made += 1;
+            if accepts {
+                let count = self.gather(&frames[..depth - 1], output);
+                break Some(Answer::found(made, count));
+            }
+        };
+        run.depth = depth as u32;
+        *steps = made;
+        answer
+    }
+}

@@ -1,0 +1,76 @@
+//! The inputs under examples/ print what stands beside them.
+mod common;
+
+use common::{from_root, program};
+use readings::model::Model;
+use readings::session::session;
+use readings::text;
+use readings::tree;
+use std::fs;
+use std::path::{Path, PathBuf};
+use std::process::Command;
+
+/// Every input with its output.
+fn examples() -> Vec<(PathBuf, PathBuf)> {
+    let folder = fs::read_dir(from_root("examples")).expect("the folder examples/");
+    let mut inputs: Vec<PathBuf> = folder.map(|entry| entry.expect("a file").path()).collect();
+    inputs.retain(|path| path.extension().is_some_and(|end| end == "txt"));
+    inputs.sort();
+    let with_output = |path: PathBuf| (path.clone(), path.with_extension("out"));
+    inputs.into_iter().map(with_output).collect()
+}
+
+#[test]
+fn the_program_prints_what_stands_beside() {
+    let examples = examples();
+    assert!(examples.len() >= 4, "{examples:?}");
+    for (input, output) in examples {
+        let text = fs::read(&input).expect("an example");
+        let expected = fs::read_to_string(&output).expect("its output");
+        let said = String::from_utf8(session(&Model, &text)).expect("text");
+        let printed = String::from_utf8(program(&text)).expect("text");
+        assert_eq!(said, expected, "{input:?}");
+        assert_eq!(printed, expected, "{input:?}");
+    }
+}
+
+#[test]
+fn the_german_tables_are_letter_trees() {
+    let list = [
+        "stau", "staub", "becken", "ecken", "wach", "wachs", "stube", "tube",
+    ];
+    let words = list.into_iter().map(tree::letters).collect();
+    let table = text::print(&tree::table(&words));
+    for (name, word) in [("german", "staubecken"), ("wachstube", "wachstube")] {
+        let path = from_root(&format!("examples/{name}.txt"));
+        let text = fs::read(path).expect("an example");
+        let query = text.strip_prefix(&table[..]).expect("the tree's table");
+        let letters = tree::letters(word);
+        let mut bytes = vec![0x10, 2, letters.len() as u8];
+        bytes.extend(&letters);
+        bytes.push(0);
+        assert_eq!(query, text::line(&bytes));
+    }
+}
+
+/// The header and the archive serve a C program: `cc` is the compiler that links these tests too.
+#[test]
+fn the_c_program_lists_the_readings() {
+    let list = Path::new(env!("CARGO_TARGET_TMPDIR")).join("list");
+    let compiled = Command::new("cc")
+        .args(["-std=c11", "-Wall", "-Wextra", "-Werror", "-I"])
+        .arg(from_root("include"))
+        .arg(from_root("examples/list.c"))
+        .arg(from_root("target/staticlib/libcapi.a"))
+        .arg("-o")
+        .arg(&list)
+        .status()
+        .expect("a C compiler");
+    assert!(compiled.success());
+    let output = Command::new(list).output().expect("the program runs");
+    assert!(output.status.success());
+    assert_eq!(
+        String::from_utf8(output.stdout).expect("text"),
+        "01 02\n01 03 02\n"
+    );
+}

@@ -1,0 +1,153 @@
+//! The largest tables, the deepest searches, and stacks at the limit of 33,024 frames.
+use readings::answer::{Answer, FOUND, Run};
+use readings::compare::call::{self, Call};
+use readings::compare::texts;
+use readings::ffi::Library;
+use readings::lister;
+use readings::table::{Arc, Table};
+use readings::text;
+use readings::twin::SOUND;
+use std::thread;
+
+const MOST: usize = 33_024;
+
+/// Steps to the first reading of the deepest search: a push for each frame, and the arc of the upper letter tried in vain 64 times.
+const FIRST: usize = MOST + 64;
+
+/// Every state initial and terminal, and four arcs from each.
+fn largest() -> Table {
+    let states: Vec<u16> = (0..256).collect();
+    let mut arcs = Vec::new();
+    for source in 0..256 {
+        for k in 0..4 {
+            arcs.push(Arc::new(source, 60 + k, 63 - k, (source + k) % 256));
+        }
+    }
+    Table {
+        states: 256,
+        initials: states.iter().rev().copied().collect(),
+        terminals: states,
+        arcs,
+    }
+}
+
+#[test]
+fn the_largest_table() {
+    let (cells, source) = (largest().cells(), text::print(&largest()));
+    assert_eq!((cells.len(), source.len()), (4_612, 18_970));
+    for length in [4_611, 4_612, 4_613] {
+        let answer = texts::read(&Library, &source, length).unwrap();
+        assert_eq!(answer.is_refused(), length < 4_612);
+    }
+    for length in [18_969, 18_970, 18_971] {
+        let answer = texts::write(&Library, &cells, length).unwrap();
+        assert_eq!(answer.is_refused(), length < 18_970);
+    }
+}
+
+#[test]
+fn an_arc_too_many() {
+    let mut table = largest();
+    table.arcs.push(Arc::new(255, 1, 1, 0));
+    let answer = texts::write(&Library, &table.cells(), 30_000).unwrap();
+    assert_eq!(answer, Answer::refused(20, 0));
+    let answer = texts::read(&Library, &text::print(&table), 5_000).unwrap();
+    assert_eq!(answer, Answer::refused(3, 0));
+}
+
+/// A chain of idle arcs through 256 states, at whose end a letter of either word is read.
+fn chain() -> Table {
+    let mut arcs: Vec<Arc> = (0..255).map(|s| Arc::new(s, 0, 0, s + 1)).collect();
+    arcs.push(Arc::new(255, 1, 0, 0));
+    arcs.push(Arc::new(255, 0, 1, 0));
+    Table {
+        states: 256,
+        initials: vec![0],
+        terminals: vec![255],
+        arcs,
+    }
+}
+
+fn deep_call(frames: usize) -> Call {
+    Call {
+        table: chain().cells(),
+        upper: vec![1; 64],
+        lower: vec![1; 64],
+        run: Run {
+            task: 1,
+            ..Run::default()
+        },
+        stack: vec![9; 4 * frames + 3],
+        allowance: u32::MAX,
+        output: vec![],
+    }
+}
+
+#[test]
+fn the_deepest_search_needs_every_frame() {
+    let mut call = deep_call(MOST);
+    for _ in 0..3 {
+        let answer = call::compare(&Library, &mut call).unwrap();
+        assert_eq!(answer.kind, FOUND);
+    }
+    let answer = call::compare(&Library, &mut deep_call(MOST - 1)).unwrap();
+    assert_eq!(answer, Answer::refused(22, FIRST as u32 - 1));
+}
+
+#[test]
+fn the_lister_goes_as_deep() {
+    let list = || lister::list(&chain(), 1, &[1; 64], &[1; 64], 40_000);
+    let listing = thread::Builder::new()
+        .stack_size(1 << 28)
+        .spawn(list)
+        .expect("a thread")
+        .join()
+        .expect("a listing");
+    assert_eq!(listing.readings[0].step, FIRST as u64);
+    let mut call = deep_call(MOST);
+    let mut steps = 0;
+    for reading in &listing.readings {
+        let answer = call::compare(&SOUND, &mut call).unwrap();
+        steps += u64::from(answer.steps);
+        assert_eq!((answer.kind, steps), (FOUND, reading.step));
+    }
+}
+
+/// A place that no start makes: a state with an idle arc to itself, so many frames deep.
+fn looping(depth: usize, frames: usize) -> Call {
+    let table = Table {
+        states: 1,
+        initials: vec![0],
+        terminals: vec![],
+        arcs: vec![Arc::new(0, 0, 1, 0)],
+    };
+    Call {
+        table: table.cells(),
+        upper: vec![1],
+        lower: vec![],
+        run: Run {
+            task: 2,
+            started: u32::from(depth > 0),
+            depth: depth as u32,
+        },
+        stack: (0..frames as u32).flat_map(|k| [0, 1, 0, k]).collect(),
+        allowance: 100,
+        output: vec![0; 8],
+    }
+}
+
+#[test]
+fn no_more_frames_are_used() {
+    let mut call = looping(0, MOST + 10);
+    call.allowance = u32::MAX;
+    let answer = call::compare(&Library, &mut call).unwrap();
+    assert_eq!(answer, Answer::refused(22, MOST as u32));
+    let answer = call::compare(&Library, &mut call).unwrap();
+    assert_eq!(answer, Answer::refused(22, 0));
+    let answer = call::compare(&Library, &mut looping(MOST, MOST + 10)).unwrap();
+    assert_eq!(answer, Answer::paused(100));
+    let answer = call::compare(&Library, &mut looping(MOST + 1, MOST + 10)).unwrap();
+    assert_eq!(answer, Answer::refused(21, 0));
+    let answer = call::compare(&Library, &mut looping(MOST, MOST - 1)).unwrap();
+    assert_eq!(answer, Answer::refused(21, 0));
+}

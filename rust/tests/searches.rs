@@ -1,0 +1,33 @@
+//! The proved library on random searches, starts and damaged places, against the model and the lister.
+use readings::answer::{DONE, ENDED, FOUND, PAUSED};
+use readings::compare::fixed;
+use readings::compare::tally::Tally;
+use readings::ffi::Library;
+
+fn agreed(result: Result<Tally, String>) -> Tally {
+    result.unwrap_or_else(|difference| panic!("{difference}"))
+}
+
+#[test]
+fn searches_agree() {
+    let tally = agreed(fixed::searches(&Library));
+    tally.demand(1_000, &[DONE, FOUND, PAUSED, ENDED], &[12, 21, 22, 23]);
+}
+
+#[test]
+fn starts_agree() {
+    let tally = agreed(fixed::starts(&Library));
+    tally.demand(500, &[DONE], &[10, 11, 12, 20]);
+}
+
+#[test]
+fn damaged_places_agree() {
+    let tally = agreed(fixed::damaged(&Library));
+    tally.demand(300, &[FOUND, PAUSED, ENDED], &[10, 11, 20, 21, 22, 23]);
+}
+
+#[test]
+fn arbitrary_numbers_agree() {
+    let tally = agreed(fixed::arbitrary(&Library));
+    tally.demand(50, &[FOUND, PAUSED, ENDED], &[10, 11, 20, 21]);
+}

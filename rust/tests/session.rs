@@ -1,0 +1,279 @@
+//! The session program against a session written from document 01.
+mod common;
+
+use common::program;
+use readings::draw;
+use readings::engine::Engine;
+use readings::lister;
+use readings::model::Model;
+use readings::random::Random;
+use readings::session::{LONGEST, session};
+use readings::table::{Arc, Table};
+use readings::text::{self, K};
+use readings::twin::SOUND;
+
+/// The program prints what the session over an engine says, and this.
+fn agrees(engine: &impl Engine, input: &[u8], expected: Option<&str>) {
+    let said = String::from_utf8(session(engine, input)).expect("text");
+    let printed = String::from_utf8_lossy(&program(input)).into_owned();
+    let shown = String::from_utf8_lossy(&input[..input.len().min(2_000)]);
+    assert_eq!(printed, said, "on {shown}");
+    if let Some(expected) = expected {
+        assert_eq!(said, expected, "on {shown}");
+    }
+}
+
+fn prints(input: impl AsRef<[u8]>, expected: &str) {
+    agrees(&Model, input.as_ref(), Some(expected));
+}
+
+/// Table K with some text after it.
+fn k_with(rest: &str) -> String {
+    format!("{K}{rest}")
+}
+
+/// A table's text with a query.
+fn input(table: &Table, task: u8, upper: &[u8], lower: &[u8]) -> Vec<u8> {
+    let mut bytes = vec![0x10, task, upper.len() as u8];
+    bytes.extend(upper);
+    bytes.push(lower.len() as u8);
+    bytes.extend(lower);
+    let mut input = text::print(table);
+    input.extend(text::line(&bytes));
+    input
+}
+
+#[test]
+fn table_k() {
+    let lines = "20000100020102\n2000020003010302\n2F0002\n";
+    prints(k_with("100202010200\n"), lines);
+    prints(k_with("10020000\n"), "2F0000\n");
+    prints(k_with("10030003010302\n"), "20000100020102\n2F0001\n");
+    prints(k_with("1001020102030103\n"), "2E02\n");
+    prints(k_with("100102010203010302\n"), "2000010000\n2F0001\n");
+}
+
+#[test]
+fn queries_turned_down() {
+    for (rest, line) in [
+        ("", "2E02\n"),
+        ("100202010200", "2E01\n"),
+        ("\n", "2E01\n"),
+        ("10020201020\n", "2E01\n"),
+        ("10020201020g\n", "2E01\n"),
+        ("1002020a0200\n", "2E01\n"),
+        ("110202010200\n", "2E02\n"),
+        ("10\n", "2E02\n"),
+        ("1002\n", "2E02\n"),
+        ("100202\n", "2E02\n"),
+        ("1002020102\n", "2E02\n"),
+        ("10020201020000\n", "2E02\n"),
+        ("10020301020000\n", "2E0A\n"),
+        ("1002FF010200\n", "2E02\n"),
+        ("100202010200\n100202010200\n", "2E02\n"),
+        ("100202010200\nx", "2E02\n"),
+        ("100202010200\n\n", "2E02\n"),
+        ("10020201020\nx", "2E01\n"),
+        ("050009\n100202010200\n", "2E02\n"),
+        ("10000000\n", "2E0B\n"),
+        ("10040000\n", "2E0B\n"),
+        ("10FF0000\n", "2E0B\n"),
+        ("1002000101\n", "2E0B\n"),
+        ("1003010100\n", "2E0B\n"),
+        ("1002014000\n", "2E0A\n"),
+        ("1002010000\n", "2E0A\n"),
+    ] {
+        prints(k_with(rest), line);
+    }
+}
+
+#[test]
+fn words_too_long() {
+    let k = text::parse(K.as_bytes()).expect("table K");
+    for length in [64, 65, 255] {
+        let line = if length > 64 { "2E0A\n" } else { "2F0000\n" };
+        prints(input(&k, 2, &vec![63; length], &[]), line);
+        prints(input(&k, 3, &[], &vec![63; length]), line);
+        prints(input(&k, 1, &[63; 64], &vec![63; length]), line);
+    }
+}
+
+#[test]
+fn tables_turned_down() {
+    for (text, line) in [
+        ("", "2E02\n"),
+        ("\n", "2E01\n"),
+        ("05", "2E01\n"),
+        ("050000\n", "2E02\n"),
+        ("05x\n100202010200\n", "2E01\n"),
+        ("x\n05\n", "2E01\n"),
+        ("010000000100000000\n", "2E03\n"),
+        ("010001000100000000\n020001\n050002\n", "2E04\n"),
+        ("010001000100000000\n020000\n050003\n", "2E09\n"),
+        ("010001000100000000\n050001\n020000\n", "2E02\n"),
+        ("010001000100000000\n020000\n050002\n", "2E02\n"),
+        ("010001000100000000\n020000\n050003\nx", "2E09\n"),
+        ("010001000100000000\n020000\n050002\n10020000\n", "2F0000\n"),
+    ] {
+        prints(text, line);
+    }
+}
+
+#[test]
+fn idle_cycles_are_refused() {
+    let mut table = text::parse(K.as_bytes()).expect("table K");
+    table.arcs.push(Arc::new(2, 0, 0, 1)); // 1 to 0 writes 03 and reads nothing above; no cycle yet
+    prints(input(&table, 2, &[], &[]), "2F0000\n");
+    table.arcs.push(Arc::new(2, 0, 5, 2));
+    prints(input(&table, 2, &[], &[]), "2E0C\n");
+    prints(input(&table, 1, &[], &[]), "2F0000\n");
+}
+
+#[test]
+fn inputs_of_full_length() {
+    let whole = k_with("100202010200\n").into_bytes();
+    for fill in [b'0', b'\n', b'x'] {
+        for length in [LONGEST - 1, LONGEST, LONGEST + 1, LONGEST + 2, 200_000] {
+            let mut input = whole.clone();
+            input.resize(length, fill);
+            let line = if length > LONGEST { "2E03\n" } else { "2E02\n" };
+            prints(&input, line);
+        }
+        prints(vec![fill; LONGEST], "2E01\n");
+        prints(vec![fill; LONGEST + 1], "2E03\n");
+    }
+}
+
+/// A table on which the word 01 has so many readings.
+fn fan(readings: u16) -> Table {
+    let arcs = (0..readings).map(|k| Arc::new(0, 1, 1 + k / 16, 1 + k % 16));
+    Table {
+        states: 17,
+        initials: vec![0],
+        terminals: (1..17).collect(),
+        arcs: arcs.collect(),
+    }
+}
+
+#[test]
+fn a_thousand_readings() {
+    for (readings, line) in [(999, "2F03E7"), (1_000, "2D03E8"), (1_001, "2D03E8")] {
+        let input = input(&fan(readings), 2, &[1], &[]);
+        agrees(&SOUND, &input, None);
+        let printed = String::from_utf8(program(&input)).expect("text");
+        let count = printed.lines().count();
+        assert_eq!(printed.lines().last(), Some(line));
+        assert_eq!(count, 1 + usize::from(readings.min(1_000)));
+    }
+}
+
+/// A table of 256 states, every one on the way.
+#[test]
+fn a_table_of_256_states() {
+    let mut arcs = Vec::new();
+    for state in 0..255 {
+        arcs.push(Arc::new(state, state % 4 / 3, 1 + state % 63, state + 1));
+    }
+    let table = Table {
+        states: 256,
+        initials: (0..256).rev().collect(),
+        terminals: (0..256).collect(),
+        arcs,
+    };
+    for length in [0, 1, 63, 64] {
+        agrees(&Model, &input(&table, 2, &vec![1; length], &[]), None);
+    }
+}
+
+/// A chain of idle arcs for each letter, which needs more frames than a session has.
+#[test]
+fn a_stack_too_short() {
+    let mut arcs: Vec<Arc> = (0..255).map(|s| Arc::new(s, 0, 1, s + 1)).collect();
+    arcs.push(Arc::new(255, 1, 0, 0));
+    let table = Table {
+        states: 256,
+        initials: vec![0],
+        terminals: vec![255],
+        arcs,
+    };
+    agrees(&SOUND, &input(&table, 2, &[1; 15], &[]), None);
+    prints(input(&table, 2, &[1; 16], &[]), "2E16\n");
+}
+
+/// A table whose search for 23 letters 01 has exactly so many steps and no reading: chains of any length lead to a state with two
+/// arcs to itself, and states of two or three steps fill up.
+fn long_search(steps: u64) -> Table {
+    // State 23 - j leads through j arcs to state 23, which then branches over the letters left.
+    let size = |j: u64| 1 + 2 * j + 3 * ((1 << (24 - j)) - 1);
+    let mut arcs: Vec<Arc> = (0..23).map(|s| Arc::new(s, 1, 0, s + 1)).collect();
+    arcs.extend([Arc::new(23, 1, 1, 23), Arc::new(23, 1, 2, 23)]);
+    let (mut initials, mut left) = (Vec::new(), steps);
+    for j in 0..=22 {
+        if size(j) + 3 <= left {
+            initials.push(23 - j as u16);
+            left -= size(j);
+        }
+    }
+    let mut state = 24;
+    if left % 2 == 1 {
+        arcs.push(Arc::new(state, 2, 0, state)); // a start, an arc that does not fit, a drop
+        initials.push(state);
+        (state, left) = (state + 1, left - 3);
+    }
+    for _ in 0..left / 2 {
+        initials.push(state); // a start and a drop
+        state += 1;
+    }
+    Table {
+        states: state,
+        initials,
+        terminals: vec![],
+        arcs,
+    }
+}
+
+#[test]
+fn a_search_is_cut_after_65536_calls() {
+    for (steps, line) in [(65_536_000, "2F0000\n"), (65_536_001, "2D0000\n")] {
+        let input = input(&long_search(steps), 2, &[1; 23], &[]);
+        agrees(&SOUND, &input, Some(line));
+    }
+}
+
+#[test]
+fn random_inputs() {
+    for case in 0..400 {
+        let mut random = Random::of_case(0x5E5510, case);
+        let task = random.within(1, 3) as u32;
+        let falling = !random.one_in(5);
+        let table = draw::table(&mut random, task, falling);
+        let (upper, lower) = draw::words(&mut random, &table, task);
+        let mut input = input(&table, task as u8, &upper, &lower);
+        if falling && lister::list(&table, task, &upper, &lower, 20_000).whole {
+            agrees(&Model, &input, None);
+        }
+        if random.one_in(3) {
+            let at = random.below(input.len());
+            input[at] = *random.pick(b"0123456789ABCDEFG\n");
+        }
+        if random.one_in(20) {
+            input.truncate(random.below(input.len()));
+        }
+        agrees(&SOUND, &input, None);
+    }
+}
+
+#[test]
+fn arbitrary_bytes() {
+    for case in 0..100 {
+        let mut random = Random::of_case(0xA2B7, case);
+        let any = random.one_in(2);
+        let input: Vec<u8> = (0..random.below(3_000))
+            .map(|_| match any {
+                true => random.below(256) as u8,
+                false => *random.pick(b"0123456789ABCDEF\n"),
+            })
+            .collect();
+        agrees(&Model, &input, None);
+    }
+}

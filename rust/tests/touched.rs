@@ -1,0 +1,160 @@
+//! The comparison notices what is told or touched beyond what document 01 says, be it one cell.
+use readings::answer::{Answer, DONE, ENDED, FOUND, PAUSED, Run};
+use readings::compare::fixed;
+use readings::engine::{CYCLE, Engine};
+use readings::twin::SOUND;
+
+/// What a call leaves.
+struct Left<'a> {
+    answer: &'a mut Answer,
+    run: &'a mut Run,
+    stack: &'a mut [u32],
+    output: &'a mut [u8],
+    cycle: &'a mut [u16],
+}
+
+/// An engine whose calls are meddled with at their end.
+struct Meddled(fn(Left));
+
+impl Engine for Meddled {
+    fn start(
+        &self,
+        table: &[u16],
+        task: u8,
+        upper: &[u8],
+        lower: &[u8],
+        run: &mut Run,
+        cycle: &mut [u16; CYCLE],
+    ) -> Answer {
+        let mut answer = SOUND.start(table, task, upper, lower, run, cycle);
+        self.0(Left {
+            answer: &mut answer,
+            run,
+            stack: &mut [],
+            output: &mut [],
+            cycle,
+        });
+        answer
+    }
+
+    fn next(
+        &self,
+        table: &[u16],
+        upper: &[u8],
+        lower: &[u8],
+        run: &mut Run,
+        stack: &mut [u32],
+        allowance: u32,
+        output: &mut [u8],
+    ) -> Answer {
+        let mut answer = SOUND.next(table, upper, lower, run, stack, allowance, output);
+        self.0(Left {
+            answer: &mut answer,
+            run,
+            stack,
+            output,
+            cycle: &mut [],
+        });
+        answer
+    }
+}
+
+fn noticed(meddle: fn(Left), said: &str) {
+    let difference = fixed::all(&Meddled(meddle)).expect_err("it is not noticed");
+    assert!(difference.contains(said), "noticed otherwise: {difference}");
+}
+
+#[test]
+fn output_after_the_reading() {
+    let meddle = |left: Left| {
+        if left.answer.kind == FOUND
+            && let Some(cell) = left.output.get_mut(left.answer.length as usize)
+        {
+            *cell = 0;
+        }
+    };
+    noticed(meddle, "output: cell");
+}
+
+#[test]
+fn output_on_a_refusal() {
+    let meddle = |left: Left| {
+        if left.answer.number == 22
+            && let Some(cell) = left.output.first_mut()
+        {
+            *cell = 1;
+        }
+    };
+    noticed(meddle, "output: cell 0");
+}
+
+#[test]
+fn a_dropped_frame_cleared() {
+    let meddle = |left: Left| {
+        let above = 4 * left.run.depth as usize;
+        if left.answer.kind == PAUSED
+            && let Some(cell) = left.stack.get_mut(above)
+        {
+            *cell = 77;
+        }
+    };
+    noticed(meddle, "stack: cell");
+}
+
+#[test]
+fn a_run_moved_on_by_a_refusal() {
+    noticed(
+        |left| left.run.depth += u32::from(left.answer.number == 23),
+        "run: cell 0",
+    );
+}
+
+#[test]
+fn a_step_invented() {
+    noticed(
+        |left| left.answer.steps += u32::from(left.answer.kind == ENDED),
+        "answer is",
+    );
+}
+
+#[test]
+fn a_length_told_without_meaning() {
+    noticed(
+        |left| left.answer.length += u32::from(left.answer.kind == PAUSED),
+        "answer is",
+    );
+}
+
+#[test]
+fn a_cycle_written_by_a_start_that_passes() {
+    let meddle = |left: Left| {
+        if left.answer.kind == DONE
+            && let Some(cell) = left.cycle.last_mut()
+        {
+            *cell = 0;
+        }
+    };
+    noticed(meddle, "cycle: cell 255");
+}
+
+#[test]
+fn a_cycle_in_the_wrong_order() {
+    let meddle = |left: Left| {
+        if left.answer.number == 12 && left.answer.length >= 3 {
+            left.cycle.swap(0, 1);
+        }
+    };
+    noticed(meddle, "no idle cycle");
+}
+
+#[test]
+fn a_cycle_told_twice_over() {
+    let meddle = |left: Left| {
+        if left.answer.number == 12 {
+            let length = left.answer.length as usize;
+            left.cycle.copy_within(0..length.min(100), length.min(100));
+            left.answer.length *= 2;
+        }
+    };
+    noticed(meddle, "no idle cycle");
+}

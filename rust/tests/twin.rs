@@ -1,0 +1,48 @@
+//! The comparison that the library is put to finds nothing in the benchmark's twin, and finds each planted fault.
+use readings::compare::fixed;
+use readings::engine::Engine;
+use readings::twin::{PLAIN, SOUND, Twin, fault};
+
+/// A fault is noticed, and so is said of it.
+fn found(engine: &impl Engine, said: &str) {
+    let difference = fixed::all(engine).expect_err("the fault is not noticed");
+    assert!(difference.contains(said), "noticed otherwise: {difference}");
+}
+
+#[test]
+fn the_twin_agrees() {
+    fixed::all(&SOUND).unwrap_or_else(|difference| panic!("{difference}"));
+}
+
+#[test]
+fn the_plain_twin_agrees() {
+    fixed::all(&PLAIN).unwrap_or_else(|difference| panic!("{difference}"));
+}
+
+#[test]
+fn an_arc_counted_before_its_push_is_noticed() {
+    found(&Twin::<{ fault::TRIED_EARLY }>, "stack: cell");
+}
+
+#[test]
+fn accepting_with_letters_unread_is_noticed() {
+    found(&Twin::<{ fault::UNREAD }>, "answer is Answer { kind: 1");
+}
+
+#[test]
+fn the_allowance_before_the_end_is_noticed() {
+    found(
+        &Twin::<{ fault::ALLOWANCE_FIRST }>,
+        "answer is Answer { kind: 2",
+    );
+}
+
+#[test]
+fn idle_cycles_of_the_wrong_task_are_noticed() {
+    found(&Twin::<{ fault::RECOGNITION_CYCLES }>, "number: 12");
+}
+
+#[test]
+fn a_frame_dropped_too_early_is_noticed() {
+    found(&Twin::<{ fault::DROPPED_EARLY }>, "searches, seed");
+}
