@@ -1,4 +1,5 @@
-/* The readings of a word over a finite transducer, one at a time: one for each accepting path, none left out and none twice.
+/* The readings of a word over a finite transducer, one at a time: one for each accepting path and none left out,
+ * so that an output of two paths comes twice.
  *
  * Nothing is allocated and nothing is kept between calls: the caller owns every buffer, lends it for one call, and may lend another
  * one with the same contents to the next. Every function is proved to answer and to leave what the definitions in crates/ say, for

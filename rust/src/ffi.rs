@@ -1,14 +1,14 @@
 //! The proved library, called through its C interface.
 //!
 //! ```
-//! use readings::answer::{Answer, FOUND, Run};
+//! use readings::answer::{Answer, DONE, ENDED, FOUND, PAUSED, Run};
 //! use readings::engine::{Engine, Texts};
 //! use readings::ffi::Library;
 //!
 //! // One state, initial and terminal; reading 01 writes 02 or 03 and stays there.
 //! let text = b"010001000100010002\n020000\n030000\n04000001020000\n04000001030000\n050005\n";
 //! let mut table = [0; 4612]; // every table has room here
-//! Library.read(text, &mut table);
+//! assert_eq!(Library.read(text, &mut table).kind, DONE);
 //!
 //! let word = [1];
 //! let (mut run, mut cycle) = (Run::default(), [0; 256]);
@@ -20,10 +20,12 @@
 //! let mut readings = Vec::new();
 //! loop {
 //!     let answer = Library.next(&table, &word, &[], &mut run, &mut stack, 1000, &mut output);
-//!     if answer.kind != FOUND {
-//!         break;
+//!     match answer.kind {
+//!         FOUND => readings.push(output[..answer.length as usize].to_vec()),
+//!         PAUSED => continue,
+//!         ENDED => break,
+//!         _ => panic!("refused with {}", answer.number),
 //!     }
-//!     readings.push(output[..answer.length as usize].to_vec());
 //! }
 //! assert_eq!(readings, [[2], [3]]);
 //! ```

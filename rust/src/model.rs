@@ -1,5 +1,5 @@
 //! What a start and a call must answer on anything that they are handed: the refusals in order, then the rule for one step.
-//! Plain and slow; nothing is taken from the engine's text.
+//! Plain and slow, on structs and vectors, after the specification's list of refusals and its rule for one step.
 use crate::answer::{Answer, Run};
 use crate::engine::{CYCLE, Engine, Texts};
 use crate::idle;

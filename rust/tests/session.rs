@@ -189,15 +189,30 @@ fn a_table_of_256_states() {
 #[test]
 fn a_stack_too_short() {
     let mut arcs: Vec<Arc> = (0..255).map(|s| Arc::new(s, 0, 1, s + 1)).collect();
-    arcs.push(Arc::new(255, 1, 0, 0));
+    arcs.push(Arc::new(255, 1, 1, 0));
     let table = Table {
         states: 256,
         initials: vec![0],
         terminals: vec![255],
         arcs,
     };
-    agrees(&SOUND, &input(&table, 2, &[1; 15], &[]), None);
+    let longest = format!("2000010FFF{}\n2F0001\n", "01".repeat(4_095));
+    agrees(&SOUND, &input(&table, 2, &[1; 15], &[]), Some(&longest));
     prints(input(&table, 2, &[1; 16], &[]), "2E16\n");
+}
+
+/// A reading from the first initial state, then such a chain from the second.
+#[test]
+fn a_refusal_after_a_reading() {
+    let mut arcs: Vec<Arc> = (0..254).map(|s| Arc::new(s, 0, 1, s + 1)).collect();
+    arcs.extend([Arc::new(254, 1, 1, 0), Arc::new(255, 1, 0, 255)]);
+    let table = Table {
+        states: 256,
+        initials: vec![255, 0],
+        terminals: vec![255],
+        arcs,
+    };
+    prints(input(&table, 2, &[1; 16], &[]), "2000010000\n2E16\n");
 }
 
 /// A table whose search for 23 letters 01 has exactly so many steps and no reading: chains of any length lead to a state with two
@@ -237,6 +252,25 @@ fn a_search_is_cut_after_65536_calls() {
     for (steps, line) in [(65_536_000, "2F0000\n"), (65_536_001, "2D0000\n")] {
         let input = input(&long_search(steps), 2, &[1; 23], &[]);
         agrees(&SOUND, &input, Some(line));
+    }
+}
+
+/// The same with one reading, which a last initial state leads to by 24 steps.
+fn with_reading(mut table: Table) -> Table {
+    let first = table.states;
+    let chain = (first..first + 23).map(|s| Arc::new(s, 1, 0, s + 1));
+    table.arcs.extend(chain);
+    table.initials.push(first);
+    table.terminals.push(first + 23);
+    table.states += 24;
+    table
+}
+
+#[test]
+fn a_reading_in_the_last_call() {
+    for (before, lines) in [(24, "2000010000\n2D0001\n"), (23, "2D0000\n")] {
+        let table = with_reading(long_search(65_536_000 - before));
+        agrees(&SOUND, &input(&table, 2, &[1; 23], &[]), Some(lines));
     }
 }
 

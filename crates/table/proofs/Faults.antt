@@ -34,7 +34,7 @@ module _ {A : Type 0} (key : A → ℕ) (same : A → Bool) (k : ℕ) (same-key 
 pub new-state : (before : List ℕ) (s top : ℕ) → largest stateKey before ≤ top → top < stateKey s → hasState before s ≡ false
 new-state before s top h g = new-by-key stateKey (λ r. eqb r s) (stateKey s) (λ r e. ap stateKey (eqb-true r s e)) before (omega arith)
 
-same-fields : (a b : Arc) → sameArc a b ≡ true → a ≡ b
+pub same-fields : (a b : Arc) → sameArc a b ≡ true → a ≡ b
 same-fields a b e =
     let f = and-four (eqb (a .source) (b .source)) (eqb (a .upper) (b .upper)) (eqb (a .lower) (b .lower)) (eqb (a .target) (b .target)) e in
     λ i. record {

@@ -7,6 +7,7 @@ pub mod Rules
 pub mod Turn
 pub mod Arcs
 pub mod Faults
+pub mod Rising
 pub mod Ruled
 pub mod Index
 pub mod Loaded

@@ -1,15 +1,15 @@
 -- What the code of the rules says, in the terms of Rules.
 use Prim.Native.Nat.{ℕ, _+_, _*_, _/_, _≤_, max}
 use mathlib.Core.Path.{_≡_}
-use mathlib.Core.Bool.{Bool, true, false}
+use mathlib.Core.Bool.{Bool, true, false, _&&_}
 use mathlib.Core.List.{List, [], _∷_}
-use lib.Dec.{eqb}
+use lib.Dec.{eqb, leb, ltb}
 use lib.ListN.{length}
 use Rattle.table.specs.declared.InputCause.{InputCause}
 use Rattle.table.specs.declared.Judged.{Judged}
 use Rattle.table.specs.declared.Judged.the-variants.{Kept, Broken}
 use Rattle.table.specs.Table.{Arc, Counts}
-use Rattle.table.specs.Rules.{any, each, sourceHolds, sameArc}
+use Rattle.table.specs.Rules.{any, each, stateHolds, letterHolds, sourceHolds, sameArc}
 use Rattle.table.specs.Loaded.{arcsIn}
 
 -- the lowest refusal of those that an item earns
@@ -57,3 +57,18 @@ lastSource (a ∷ b ∷ rest) = lastSource (b ∷ rest)
 -- rule 7 for a list of arcs and one more of that source
 abbrev pub SourcesRise : List ℕ → ℕ → Type 0
 SourcesRise cells source = (each sourceHolds [] (arcsAs cells) ≡ true) × (lastSource (arcsAs cells) ≤ source)
+
+-- a number for an arc by its source and letters: where it rises from arc to arc, sources do not fall and no arc stands twice
+abbrev pub orderKey : Arc → ℕ
+orderKey a = a .source * 4294967296 + a .lower * 65536 + a .upper + 1
+
+-- an arc with a target and letters in their limits and a key above `top`
+unfoldable pub rises : ℕ → ℕ → Arc → Bool
+rises states top a = stateHolds states (a .target) && (letterHolds (a .upper) && (letterHolds (a .lower) && ltb top (orderKey a)))
+
+-- each arc is of that kind, over the keys before it; the largest key shows that all sources are states
+abbrev pub eachRises : ℕ → List Arc → Bool
+eachRises states = each (λ before a. rises states (largest orderKey before) a) []
+
+unfoldable pub arcsRise : ℕ → List Arc → Bool
+arcsRise states arcs = eachRises states arcs && leb (largest orderKey arcs) (states * 4294967296)

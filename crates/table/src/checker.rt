@@ -9,7 +9,7 @@ ghost use Prim.Native.Nat.{_≤_};
 ghost use lib.ListN.{length, getD};
 ghost use Rattle.table.specs.Rules.{initialsKeep, terminalsKeep, arcsKeep, keepsRules};
 ghost use Rattle.table.specs.Loaded.{countsIn, tableIn};
-ghost use Rattle.table.specs.Judge.{arcsAs, Whole};
+ghost use Rattle.table.specs.Judge.{arcsAs, Whole, arcsRise};
 ghost use Rattle.table.specs.Index.{firstIndex};
 ghost use Rattle.table.specs.Calls.{layoutOf, LaidOut, checked};
 
@@ -45,7 +45,8 @@ fn terminals_hold(list: &[u16], states: u16) -> bool
     true
 }
 
-fn arcs_hold(cells: &[u16], states: u16) -> bool
+// Each arc judged with those before it.
+fn each_arc_holds(cells: &[u16], states: u16) -> bool
     requires { ⌜ Whole (now cells) ⌝ }
     ensures { λ r. ⌜ r ≡ arcsKeep states (arcsAs (now (cells .entry))) ⌝ }
 {
@@ -69,6 +70,40 @@ fn arcs_hold(cells: &[u16], states: u16) -> bool
     true
 }
 
+// Whether the arcs stand in order: then they keep the rules, and none has to be looked for among those before it. The last source is the
+// largest, so that one alone is held against the states.
+fn arcs_rise(cells: &[u16], states: u16) -> bool
+    requires { ⌜ Whole (now cells) ⌝ }
+    ensures { λ r. ⌜ r ≡ arcsRise states (arcsAs (now (cells .entry))) ⌝ }
+{
+    let mut top: u64 = 0;
+    let mut at = 0;
+    while at < cells.len() {
+        let source = cells[at];
+        let upper = cells[at + 1];
+        let lower = cells[at + 2];
+        let target = cells[at + 3];
+        if judge::is_rising(states, source, upper, lower, target, top) {
+            top = judge::order_key(source, upper, lower, target);
+            at += 4;
+        } else {
+            return false;
+        }
+    }
+    top <= states as u64 * 4294967296
+}
+
+// Arcs in order are held by one look at each, others each with those before it.
+fn arcs_hold(cells: &[u16], states: u16) -> bool
+    requires { ⌜ Whole (now cells) ⌝ }
+    ensures { λ r. ⌜ r ≡ arcsKeep states (arcsAs (now (cells .entry))) ⌝ }
+{
+    if arcs_rise(cells, states) {
+        return true;
+    }
+    each_arc_holds(cells, states)
+}
+
 // The first-arc index of arcs that keep the rules: the arcs of each source are counted, then the counts are added up.
 fn first_arcs(cells: &[u16], states: u16) -> [u16; 257]
     requires { ⌜ Whole (now cells) ⌝ }
@@ -77,11 +112,12 @@ fn first_arcs(cells: &[u16], states: u16) -> [u16; 257]
     ensures { λ r. ⌜ r ≡ firstIndex states (arcsAs (now (cells .entry))) ⌝ }
 {
     let mut first = [0u16; 257];
-    let mut at = 0;
-    while at < cells.len() {
-        let next = cells[at] as usize + 1;
+    let count = cells.len() / 4;
+    let mut k = 0;
+    while k < count {
+        let next = cells[4 * k] as usize + 1;
         first[next] = first[next] + 1;
-        at += 4;
+        k += 1;
     }
     let mut q: usize = 0;
     while q < states as usize {

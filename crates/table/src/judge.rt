@@ -7,7 +7,7 @@ ghost use Prim.Native.Nat.{_≤_, _*_, _/_};
 ghost use lib.ListN.{length};
 ghost use mathlib.Core.Bool.{true};
 ghost use Rattle.table.specs.Rules.{countsHold, initialFaults, terminalFaults, arcFaults, arcsKeep};
-ghost use Rattle.table.specs.Judge.{judged, hasState, largest, stateKey, arcKey, countsAs, arcAs, arcsAs, Whole, lastSource, SourcesRise, repeated};
+ghost use Rattle.table.specs.Judge.{judged, hasState, largest, stateKey, arcKey, countsAs, arcAs, arcsAs, Whole, lastSource, SourcesRise, repeated, orderKey, rises};
 
 // Rule 3: each count is within its limit.
 pub fn counts_hold(states: u16, initials: u16, terminals: u16, arcs: u16) -> bool
@@ -168,4 +168,27 @@ pub fn arc_fault(
     } else {
         Judged::Kept
     }
+}
+
+// A number for an arc by its source and letters, which rises where arcs stand in order.
+pub fn order_key(source: u16, upper: u16, lower: u16, target: u16) -> u64
+    ensures { λ r. ⌜ r ≡ orderKey (arcAs source upper lower target) ⌝ }
+{
+    source as u64 * 4294967296 + lower as u64 * 65536 + upper as u64 + 1
+}
+
+// Whether an arc has a target and letters in their limits and a key above `top`.
+pub fn is_rising(states: u16, source: u16, upper: u16, lower: u16, target: u16, top: u64) -> bool
+    ensures { λ r. ⌜ r ≡ rises states top (arcAs source upper lower target) ⌝ }
+{
+    if states <= target {
+        return false;
+    }
+    if 63 < upper {
+        return false;
+    }
+    if 63 < lower {
+        return false;
+    }
+    top < order_key(source, upper, lower, target)
 }

@@ -1,4 +1,4 @@
-use Prim.Native.Nat.{ℕ, _+_, _*_, _/_, _≤_, _<_, _-_}
+use Prim.Native.Nat.{ℕ, suc, _+_, _*_, _/_, _≤_, _<_, _-_}
 use native.Mathlib.Omega.{arith}
 use mathlib.Core.Path.{_≡_, refl, sym, ap, subst, _∙_}
 use mathlib.Core.List.{List}
@@ -9,7 +9,7 @@ use Rattle.table.specs.Table.{Arc}
 use Rattle.table.specs.Loaded.{arcsIn}
 use Rattle.table.specs.Index.{below}
 use Rattle.table.specs.Judge.{arcsAs}
-use Rattle.table.proofs.Arcs.{at-equal, arcHere, arcs-here, length-arcs}
+use Rattle.table.proofs.Arcs.{at-equal, arcAt, arcs-snoc, length-arcs}
 use Rattle.table.proofs.Index.{ending, ending-few, below-few, source-inside, Counts, Sums, counts-none, counts-more, sums-none, sums-more, sums-all}
 use Rattle.table.proofs.checker.first_arcs.Statement.{statement}
 use Rattle.table.proofs.checker.first_arcs.Tie as tie
@@ -17,67 +17,70 @@ use Rattle.table.proofs.checker.first_arcs.Reads as reads
 use Rattle.table.proofs.checker.first_arcs.Lts as lts
 
 abbrev Inv-loop : tie.InvT-loop
-Inv-loop cells states first₀ at₀ first at = (at ≤ length cells) × (at ≡ 4 * (at / 4)) × Counts (arcsIn (at / 4) cells) first
+Inv-loop cells states first₀ count k₀ first k = (count ≡ length cells / 4) × (k ≤ count) × Counts (arcsIn k cells) first
 
 abbrev μ-loop : tie.MeasureT-loop
-μ-loop cells states first₀ at₀ first at = length cells - at
+μ-loop cells states first₀ count k₀ first k = count - k
 
 abbrev Inv-loop2 : tie.InvT-loop2
-Inv-loop2 cells states first₀ at q₀ first q = (q ≤ states) × Sums (arcsAs cells) q first
+Inv-loop2 cells states first₀ count k q₀ first q = (q ≤ states) × Sums (arcsAs cells) q first
 
 abbrev μ-loop2 : tie.MeasureT-loop2
-μ-loop2 cells states first₀ at q₀ first q = states - q
+μ-loop2 cells states first₀ count k q₀ first q = states - q
 
 loop-holds : tie.Need-loop-holds Inv-loop μ-loop Inv-loop2 μ-loop2
 unfolding arcsIn
-loop-holds c = (omega arith, omega arith, counts-none)
+loop-holds c = (refl, omega arith, counts-none)
 
 mul-next : tie.Need-mul-next Inv-loop μ-loop Inv-loop2 μ-loop2
 mul-next c = search needs
+
+mul-next-2 : tie.Need-mul-next-2 Inv-loop μ-loop Inv-loop2 μ-loop2
+mul-next-2 c = search needs
 
 shared-slice-read-next : tie.Need-shared-slice-read-next Inv-loop μ-loop Inv-loop2 μ-loop2
 shared-slice-read-next c = search needs
 
 cast-next : tie.Need-cast-next Inv-loop μ-loop Inv-loop2 μ-loop2
-cast-next c = omega (arith, source-inside (c .before .before .before .args .states) (now (c .before .before .before .args .cells)) (length (now (c .before .before .before .args .cells)) / 4) (c .before .before .loop .at) (omega arith) (omega (arith, c .before .before .before .pre .0)) (c .before .before .before .pre .1 .1))
+cast-next c = omega (arith, source-inside (c .before .before .before .args .states) (now (c .before .before .before .args .cells)) (length (now (c .before .before .before .args .cells)) / 4) (4 * c .before .before .loop .k) (omega arith) (omega (arith, c .before .before .before .pre .0)) (c .before .before .before .pre .1 .1))
 
 add-next : tie.Need-add-next Inv-loop μ-loop Inv-loop2 μ-loop2
-add-next c = omega (arith, source-inside (c .before .before .before .args .states) (now (c .before .before .before .args .cells)) (length (now (c .before .before .before .args .cells)) / 4) (c .before .before .loop .at) (omega arith) (omega (arith, c .before .before .before .pre .0)) (c .before .before .before .pre .1 .1))
+add-next c = omega (arith, source-inside (c .before .before .before .args .states) (now (c .before .before .before .args .cells)) (length (now (c .before .before .before .args .cells)) / 4) (4 * c .before .before .loop .k) (omega arith) (omega (arith, c .before .before .before .pre .0)) (c .before .before .before .pre .1 .1))
 
 mul-first : tie.Need-mul-first Inv-loop μ-loop Inv-loop2 μ-loop2
-mul-first c = omega (arith, source-inside (c .before .before .before .args .states) (now (c .before .before .before .args .cells)) (length (now (c .before .before .before .args .cells)) / 4) (c .before .before .loop .at) (omega arith) (omega (arith, c .before .before .before .pre .0)) (c .before .before .before .pre .1 .1))
+mul-first c = omega (arith, source-inside (c .before .before .before .args .states) (now (c .before .before .before .args .cells)) (length (now (c .before .before .before .args .cells)) / 4) (4 * c .before .before .loop .k) (omega arith) (omega (arith, c .before .before .before .pre .0)) (c .before .before .before .pre .1 .1))
 
 array-read-first : tie.Need-array-read-first Inv-loop μ-loop Inv-loop2 μ-loop2
-array-read-first c = omega (arith, source-inside (c .before .before .before .args .states) (now (c .before .before .before .args .cells)) (length (now (c .before .before .before .args .cells)) / 4) (c .before .before .loop .at) (omega arith) (omega (arith, c .before .before .before .pre .0)) (c .before .before .before .pre .1 .1))
+array-read-first c = omega (arith, source-inside (c .before .before .before .args .states) (now (c .before .before .before .args .cells)) (length (now (c .before .before .before .args .cells)) / 4) (4 * c .before .before .loop .k) (omega arith) (omega (arith, c .before .before .before .pre .0)) (c .before .before .before .pre .1 .1))
 
 add-first : tie.Need-add-first Inv-loop μ-loop Inv-loop2 μ-loop2
 add-first c =
     omega (
       arith,
-      source-inside (c .before .before .before .args .states) (now (c .before .before .before .args .cells)) (length (now (c .before .before .before .args .cells)) / 4) (c .before .before .loop .at) (omega arith) (omega (arith, c .before .before .before .pre .0)) (c .before .before .before .pre .1 .1),
-      c .before .before .loop .inv .2 .1 (getD (now (c .before .before .before .args .cells)) (c .before .before .loop .at) 0 + 1) (omega (arith, source-inside (c .before .before .before .args .states) (now (c .before .before .before .args .cells)) (length (now (c .before .before .before .args .cells)) / 4) (c .before .before .loop .at) (omega arith) (omega (arith, c .before .before .before .pre .0)) (c .before .before .before .pre .1 .1))),
-      ending-few (arcsIn (c .before .before .loop .at / 4) (now (c .before .before .before .args .cells))) (getD (now (c .before .before .before .args .cells)) (c .before .before .loop .at) 0 + 1),
-      length-arcs (c .before .before .loop .at / 4) (now (c .before .before .before .args .cells)),
+      source-inside (c .before .before .before .args .states) (now (c .before .before .before .args .cells)) (length (now (c .before .before .before .args .cells)) / 4) (4 * c .before .before .loop .k) (omega arith) (omega (arith, c .before .before .before .pre .0)) (c .before .before .before .pre .1 .1),
+      c .before .before .loop .inv .2 .1 (getD (now (c .before .before .before .args .cells)) (4 * c .before .before .loop .k) 0 + 1) (omega (arith, source-inside (c .before .before .before .args .states) (now (c .before .before .before .args .cells)) (length (now (c .before .before .before .args .cells)) / 4) (4 * c .before .before .loop .k) (omega arith) (omega (arith, c .before .before .before .pre .0)) (c .before .before .before .pre .1 .1))),
+      ending-few (arcsIn (c .before .before .loop .k) (now (c .before .before .before .args .cells))) (getD (now (c .before .before .before .args .cells)) (4 * c .before .before .loop .k) 0 + 1),
+      length-arcs (c .before .before .loop .k) (now (c .before .before .before .args .cells)),
     )
 
 mul-first-2 : tie.Need-mul-first-2 Inv-loop μ-loop Inv-loop2 μ-loop2
-mul-first-2 c = omega (arith, source-inside (c .before .before .before .args .states) (now (c .before .before .before .args .cells)) (length (now (c .before .before .before .args .cells)) / 4) (c .before .before .loop .at) (omega arith) (omega (arith, c .before .before .before .pre .0)) (c .before .before .before .pre .1 .1))
+mul-first-2 c = omega (arith, source-inside (c .before .before .before .args .states) (now (c .before .before .before .args .cells)) (length (now (c .before .before .before .args .cells)) / 4) (4 * c .before .before .loop .k) (omega arith) (omega (arith, c .before .before .before .pre .0)) (c .before .before .before .pre .1 .1))
 
 array-write-first : tie.Need-array-write-first Inv-loop μ-loop Inv-loop2 μ-loop2
-array-write-first c = omega (arith, source-inside (c .before .before .before .args .states) (now (c .before .before .before .args .cells)) (length (now (c .before .before .before .args .cells)) / 4) (c .before .before .loop .at) (omega arith) (omega (arith, c .before .before .before .pre .0)) (c .before .before .before .pre .1 .1))
+array-write-first c = omega (arith, source-inside (c .before .before .before .args .states) (now (c .before .before .before .args .cells)) (length (now (c .before .before .before .args .cells)) / 4) (4 * c .before .before .loop .k) (omega arith) (omega (arith, c .before .before .before .pre .0)) (c .before .before .before .pre .1 .1))
 
-add-at : tie.Need-add-at Inv-loop μ-loop Inv-loop2 μ-loop2
-add-at c = search needs
+add-k : tie.Need-add-k Inv-loop μ-loop Inv-loop2 μ-loop2
+add-k c = search needs
 
 loop-less : tie.Need-loop-less Inv-loop μ-loop Inv-loop2 μ-loop2
 loop-less c = search needs
 
 loop-again : tie.Need-loop-again Inv-loop μ-loop Inv-loop2 μ-loop2
 loop-again c = (
+  c .before .before .loop .inv .0,
   omega arith,
-  omega arith,
-  subst (λ (l : List Arc). Counts l (set (c .before .before .loop .first) (getD (now (c .before .before .before .args .cells)) (c .before .before .loop .at) 0 + 1) (getD (c .before .before .loop .first) (getD (now (c .before .before .before .args .cells)) (c .before .before .loop .at) 0 + 1) 0 + 1))) (sym (arcs-here (now (c .before .before .before .args .cells)) (c .before .before .loop .at) (omega arith)))
-      (counts-more (arcsIn (c .before .before .loop .at / 4) (now (c .before .before .before .args .cells))) (arcHere (now (c .before .before .before .args .cells)) (c .before .before .loop .at)) (c .before .before .loop .first) (omega (arith, source-inside (c .before .before .before .args .states) (now (c .before .before .before .args .cells)) (length (now (c .before .before .before .args .cells)) / 4) (c .before .before .loop .at) (omega arith) (omega (arith, c .before .before .before .pre .0)) (c .before .before .before .pre .1 .1))) (c .before .before .loop .inv .2)),
+  subst (λ (l : List Arc). Counts l (set (c .before .before .loop .first) (getD (now (c .before .before .before .args .cells)) (4 * c .before .before .loop .k) 0 + 1) (getD (c .before .before .loop .first) (getD (now (c .before .before .before .args .cells)) (4 * c .before .before .loop .k) 0 + 1) 0 + 1))) (sym (at-equal (λ n. arcsIn n (now (c .before .before .before .args .cells))) (c .before .before .loop .k + 1) (suc (c .before .before .loop .k)) (omega arith) ∙ arcs-snoc (c .before .before .loop .k) (now (c .before .before .before .args .cells))))
+      (counts-more (arcsIn (c .before .before .loop .k) (now (c .before .before .before .args .cells))) (arcAt (now (c .before .before .before .args .cells)) (c .before .before .loop .k)) (c .before .before .loop .first) (omega (arith, source-inside (c .before .before .before .args .states) (now (c .before .before .before .args .cells)) (length (now (c .before .before .before .args .cells)) / 4) (4 * c .before .before .loop .k) (omega arith) (omega (arith, c .before .before .before .pre .0)) (c .before .before .before .pre .1 .1))) (c .before .before .loop .inv .2)),
 )
 
 loop2-holds : tie.Need-loop2-holds Inv-loop μ-loop Inv-loop2 μ-loop2
@@ -146,6 +149,7 @@ first-arcs-spec =
     μ-loop2
     loop-holds
     mul-next
+    mul-next-2
     shared-slice-read-next
     cast-next
     add-next
@@ -154,7 +158,7 @@ first-arcs-spec =
     add-first
     mul-first-2
     array-write-first
-    add-at
+    add-k
     loop-less
     loop-again
     loop2-holds

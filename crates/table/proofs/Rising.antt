@@ -1,0 +1,79 @@
+-- Arcs in the order of their keys: they keep the rules, and a loop goes through them with the largest key so far.
+use Prim.Native.Nat.{ℕ, suc, _+_, _*_, _/_, _<_, _≤_}
+use native.Mathlib.Omega.{arith}
+use mathlib.Core.Path.{_≡_, refl, sym, ap, _∙_}
+use mathlib.Core.Bool.{Bool, true, false, _&&_}
+use mathlib.Core.List.{List, [], _∷_, _++_}
+use lib.Dec.{leb, ltb}
+use borrow.Author.Tests.{ltb-true, leb-true, le-leb}
+use Rattle.table.specs.Table.{Arc}
+use Rattle.table.specs.Rules.{each, stateHolds, letterHolds, sourceHolds, sameArc, arcFaults, arcsKeep}
+use Rattle.table.specs.Loaded.{arcsIn}
+use Rattle.table.specs.Judge.{largest, orderKey, repeated, rises, eachRises, arcsRise}
+use Rattle.table.proofs.Tests.{and-left, and-right, and-both, and-four}
+use Rattle.table.proofs.Rules.{arcPasses}
+use Rattle.table.proofs.Arcs.{at-equal, arcHere, arc-here, arcs-here, arcs-more, arcs-fail}
+use Rattle.table.proofs.Turn.{kept-empty, largest-snoc}
+use Rattle.table.proofs.Faults.{new-by-key, same-fields, arc-new}
+
+abbrev rising : ℕ → List Arc → Arc → Bool
+rising n before a = rises n (largest orderKey before) a
+
+-- a key above those before it, of an arc with letters, shows rule 7
+source-held : (before : List Arc) (a : Arc) → a .upper ≤ 63 → a .lower ≤ 63 → largest orderKey before < orderKey a → sourceHolds before a ≡ true
+unfolding largest
+source-held [] a u l h = refl
+source-held (b ∷ []) a u l h = le-leb (b .source) (a .source) (omega arith)
+source-held (b ∷ d ∷ rest) a u l h = source-held (d ∷ rest) a u l (omega arith)
+
+-- and rule 8
+arc-unseen : (before : List Arc) (a : Arc) → largest orderKey before < orderKey a → repeated before a ≡ false
+arc-unseen before a h = new-by-key orderKey (λ b. sameArc b a) (orderKey a) (λ b e. ap orderKey (same-fields b a e)) before h
+
+-- with a key at most that of any arc of the last state, its source is a state too
+rising-passes : (n : ℕ) (before : List Arc) (a : Arc) → rises n (largest orderKey before) a ≡ true → orderKey a ≤ n * 4294967296 → arcPasses n before a ≡ true
+unfolding rises
+rising-passes n before a e g =
+    let f = and-four (stateHolds n (a .target)) (letterHolds (a .upper)) (letterHolds (a .lower)) (ltb (largest orderKey before) (orderKey a)) e in
+    let u = leb-true (a .upper) 63 (f .1) in
+    let l = leb-true (a .lower) 63 (f .2) in
+    let k = ltb-true (largest orderKey before) (orderKey a) (f .3) in
+    kept-empty (arcFaults n before a) (arc-new n before a (omega arith) (ltb-true _ _ (f .0)) u l (source-held before a u l k) (arc-unseen before a k))
+
+each-passes : (n : ℕ) (before arcs : List Arc) → each (rising n) before arcs ≡ true → largest orderKey arcs ≤ n * 4294967296 → each (arcPasses n) before arcs ≡ true
+unfolding each largest
+each-passes n before [] e h = refl
+each-passes n before (a ∷ arcs) e h =
+    and-both (rising-passes n before a (and-left (rising n before a) (each (rising n) (before ++ (a ∷ [])) arcs) e) (omega arith))
+    (each-passes n (before ++ (a ∷ [])) arcs (and-right (rising n before a) (each (rising n) (before ++ (a ∷ [])) arcs) e) (omega arith))
+
+pub rising-keep : (n : ℕ) (arcs : List Arc) → arcsRise n arcs ≡ true → arcsKeep n arcs ≡ true
+unfolding arcsRise
+rising-keep n arcs e = each-passes n [] arcs (and-left (eachRises n arcs) _ e) (leb-true (largest orderKey arcs) (n * 4294967296) (and-right (eachRises n arcs) _ e))
+
+-- One turn of the loop, at the place of a cell.
+
+module _ (n : ℕ) (cells : List ℕ) (at top : ℕ) (e : at ≡ 4 * (at / 4)) (is : top ≡ largest orderKey (arcsIn (at / 4) cells)) where
+  here : rising n (arcsIn (at / 4) cells) (arcHere cells (4 * (at / 4))) ≡ rises n top (arcHere cells at)
+  here = ap (rising n (arcsIn (at / 4) cells)) (arc-here cells at e) ∙ ap (λ (m : ℕ). rises n m (arcHere cells at)) (sym is)
+
+  pub rise-more : eachRises n (arcsIn (at / 4) cells) ≡ true → rises n top (arcHere cells at) ≡ true → eachRises n (arcsIn ((at + 4) / 4) cells) ≡ true
+  rise-more r t =
+      at-equal (λ m. eachRises n (arcsIn m cells)) ((at + 4) / 4) (suc (at / 4)) (omega arith) ∙ arcs-more (rising n) cells (at / 4) r (here ∙ t)
+
+  pub rise-fails : (m : ℕ) → at / 4 < m → rises n top (arcHere cells at) ≡ false → arcsRise n (arcsIn m cells) ≡ false
+  unfolding arcsRise
+  rise-fails m g t = ap (λ (b : Bool). b && leb (largest orderKey (arcsIn m cells)) (n * 4294967296)) (arcs-fail (rising n) cells m (at / 4) g (here ∙ t))
+
+  pub rise-top : rises n top (arcHere cells at) ≡ true → orderKey (arcHere cells at) ≡ largest orderKey (arcsIn ((at + 4) / 4) cells)
+  unfolding rises
+  rise-top t =
+      let a = arcHere cells at in
+      let f = and-four (stateHolds n (a .target)) (letterHolds (a .upper)) (letterHolds (a .lower)) (ltb top (orderKey a)) t in
+      omega (arith, ltb-true top (orderKey a) (f .3), ap (largest orderKey) (arcs-here cells at e), largest-snoc orderKey (arcsIn (at / 4) cells) a, is)
+
+  pub rise-ends : (m : ℕ) → at / 4 ≡ m → eachRises n (arcsIn (at / 4) cells) ≡ true → arcsRise n (arcsIn m cells) ≡ leb top (n * 4294967296)
+  unfolding arcsRise
+  rise-ends m g r =
+      sym (at-equal (λ k. eachRises n (arcsIn k cells) && leb (largest orderKey (arcsIn k cells)) (n * 4294967296)) (at / 4) m g)
+      ∙ ap (λ (b : Bool). b && leb (largest orderKey (arcsIn (at / 4) cells)) (n * 4294967296)) r ∙ ap (λ (k : ℕ). leb k (n * 4294967296)) (sym is)
