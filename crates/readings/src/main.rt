@@ -6,7 +6,6 @@
 //     2E number                    a refusal
 //
 // Where standard input cannot be read or standard output not be written, it says so on standard error and stops.
-use machine::Run;
 use session::Lined;
 use session::Opening;
 use session::Talk;
@@ -66,16 +65,12 @@ fn speak(
     table: &[u16],
     upper: &[u8],
     lower: &[u8],
-    run: Run,
+    first: Talk,
     stack: &mut [u32],
     output: &mut [u8],
     line: &mut [u8],
 ) {
-    let mut talk = Talk {
-        run,
-        count: 0,
-        calls: 65536,
-    };
+    let mut talk = first;
     let mut on = true;
     while on {
         let lined = speaker::next_line(table, upper, lower, talk, stack, output, line);
@@ -96,7 +91,7 @@ fn speak(
 }
 
 // The session of an opening, with a stack of 4,096 frames and 4,096 letters of output.
-fn answer(table: &[u16], query: &[u8], upper: usize, lower: usize, run: Run, line: &mut [u8])
+fn answer(table: &[u16], query: &[u8], upper: usize, lower: usize, talk: Talk, line: &mut [u8])
     requires { ⌜ 4 + upper + lower ≤ length (now query) ⌝ }
 {
     let mut stack = [0u32; 16384];
@@ -108,7 +103,7 @@ fn answer(table: &[u16], query: &[u8], upper: usize, lower: usize, run: Run, lin
         table,
         &query[3..upper_end],
         &query[lower_start..lower_end],
-        run,
+        talk,
         &mut stack,
         &mut output,
         line,
@@ -138,8 +133,8 @@ fn main() {
         Opening::Refused(refusal) => {
             refuse(refusal, &mut line);
         }
-        Opening::Ready { upper, lower, run } => {
-            answer(&table, &query, upper, lower, run, &mut line);
+        Opening::Ready { upper, lower, talk } => {
+            answer(&table, &query, upper, lower, talk, &mut line);
         }
     }
 }

@@ -29,12 +29,13 @@ use Rattle.machine.specs.declared.Started.{Started}
 use Rattle.machine.specs.Asked.{Asked, turned, runs, asked}
 use Rattle.machine.specs.Idle.{hasIdleCycle}
 use Rattle.machine.specs.Start.{firstRun, startedWith, startedAs, started, StartIs}
+use Rattle.session.specs.declared.Talk.{Talk}
 use Rattle.session.specs.declared.Opening.{Opening}
 use Rattle.session.specs.declared.Opening.the-variants.{Ready, Refused}
 use Rattle.session.specs.Parts.{tableText, queryText, tableSize}
 use Rattle.session.specs.Query.{taskIn, upperLength, lowerLength, upperIn, lowerIn, isQuery, queryOf}
 use Rattle.session.specs.Opened.{Opened, refused, ready, openedAs, startedOn, openedQuery, openedTable, opened}
-use Rattle.session.specs.Begun.{Begun, begunNot, begun, BegunIs}
+use Rattle.session.specs.Begun.{Begun, firstTalk, begunNot, begun, BegunIs}
 use Rattle.session.proofs.Parts.{size-inside}
 use Rattle.session.proofs.Query.{IsQuery, query-facts}
 
@@ -50,7 +51,7 @@ module _ (o : Opened) (table query : List ℕ) where
   module _ (cells b : List ℕ) (run : Run) (e : o ≡ ready cells b run) where
     abbrev stored : Begun
     stored =
-        record { opening = Ready (upperLength b) (lowerLength b) run; table = cells ++ drop (length cells) table; query = b ++ drop (length b) query }
+        record { opening = Ready (upperLength b) (lowerLength b) (firstTalk run); table = cells ++ drop (length cells) table; query = b ++ drop (length b) query }
 
     by-room : (x : Bool) (r : Opening) (t q : List ℕ) → (leb (length cells) (length table) && leb (length b) (length query)) ≡ x
         → BegunIs (cond x stored (begunNot (State DestinationShort) table query)) r t q → Is r t q
@@ -72,11 +73,11 @@ module _ (o : Opened) (table query : List ℕ) where
         by-room false (Refused (State DestinationShort)) table query
         (ap (λ (x : Bool). leb (length cells) (length table) && x) (lt-leb (length b) (length query) h) ∙ nothing (leb (length cells) (length table))) (refl, refl, refl)
 
-    pub begun-ready : length cells ≤ length table → length b ≤ length query → (upper lower : ℕ) (t q : List ℕ) → upper ≡ upperLength b → lower ≡ lowerLength b
-        → t ≡ cells ++ drop (length cells) table → q ≡ b ++ drop (length b) query → Is (Ready upper lower run) t q
-    begun-ready h g upper lower t q u l i j =
-        by-room true (Ready upper lower run) t q (ap₂ _&&_ (le-leb (length cells) (length table) h) (le-leb (length b) (length query) g))
-        (ap₂ (λ (m n : ℕ). Ready m n run) u l, i, j)
+    pub begun-ready : length cells ≤ length table → length b ≤ length query → (upper lower : ℕ) (talk : Talk) (t q : List ℕ) → upper ≡ upperLength b → lower ≡ lowerLength b → talk ≡ firstTalk run
+        → t ≡ cells ++ drop (length cells) table → q ≡ b ++ drop (length b) query → Is (Ready upper lower talk) t q
+    begun-ready h g upper lower talk t q u l k i j =
+        by-room true (Ready upper lower talk) t q (ap₂ _&&_ (le-leb (length cells) (length table) h) (le-leb (length b) (length query) g))
+        ((λ x. Ready (u x) (l x) (k x)), i, j)
 
 -- The start.
 

@@ -1,21 +1,22 @@
--- The lines that the public calls give, one after another, are those of the definition.
+-- The texts that the public calls give, one after another, are those of the definition's lines.
 use Prim.Native.Nat.{ℕ, zero, suc, _+_, _≤_, _<_}
 use native.Mathlib.Omega.{arith}
 use mathlib.Core.Path.{_≡_, refl, sym, ap, ap₂, subst, _∙_}
 use mathlib.Core.Bool.{Bool, true, false, cond, _&&_}
 use mathlib.Core.Option.{Option, none, some}
-use mathlib.Core.List.{List, [], _∷_, _++_, append-nil}
+use mathlib.Core.List.{List, [], _∷_, _++_, map, append-nil}
 use lib.Dec.{leb, ltb}
-use lib.ListN.{length, take, drop, replicate, length-append, length-drop}
-use lib.Seq.{take-nil, take-append-le, drop-append-le}
+use lib.ListN.{length, take, drop, replicate, length-append, length-drop, length-replicate}
+use lib.Seq.{take-nil, take-at, take-append-le, drop-append-le}
 use borrow.Author.Tests.{leb-false, le-leb}
 use Rattle.table.specs.declared.InputCause.the-variants.{CountLimit, Malformed, Misplaced}
+use Rattle.table.specs.declared.Refusal.{Refusal}
 use Rattle.table.specs.declared.Refusal.the-variants.{Input, State}
 use Rattle.table.specs.declared.StateCause.the-variants.{DestinationShort}
 use Rattle.table.specs.Table.{Table}
 use Rattle.table.specs.Rules.{isEmpty, keepsRules}
 use Rattle.table.specs.Loaded.{cellsOf, loaded}
-use Rattle.table.specs.Line.{Line, linesOf, malformed, bytesOf}
+use Rattle.table.specs.Line.{Line, linesOf, malformed, bytesOf, lineText}
 use Rattle.table.specs.Parse.{Parsed, accepted, turnedDown, parsed}
 use Rattle.table.proofs.Tests.{and-left}
 use Rattle.table.proofs.Loaded.{loaded-cells}
@@ -33,16 +34,58 @@ use Rattle.session.specs.declared.Talk.{Talk}
 use Rattle.session.specs.declared.Opening.{Opening}
 use Rattle.session.specs.declared.Opening.the-variants.{Ready}
 use Rattle.session.specs.declared.Said.the-variants as S
+use Rattle.session.specs.declared.Lined.the-variants as L
 use Rattle.session.specs.Parts.{tableText, queryText}
 use Rattle.session.specs.Query.{Asked, fault, says, taskIn, upperLength, lowerLength, upperIn, lowerIn, isQuery, queryOf}
 use Rattle.session.specs.Opened.{Opened, refused, ready, openedAs, startedOn, openedQuery, openedTable, opened}
-use Rattle.session.specs.Begun.{begunNot, begun, BegunIs}
-use Rattle.session.specs.Lines.{readingLine, limitLine}
+use Rattle.session.specs.Begun.{Begun, firstTalk, begunNot, begun, BegunIs}
+use Rattle.session.specs.Lines.{readingLine, limitLine, refusalLine, storedLine}
 use Rattle.session.specs.Session.{told, linesLeft, linesOn, sessionLines}
-use Rattle.session.specs.Next.{Heard, heardBy, heard, Spoken, spokenOf, nextLine}
-use Rattle.session.specs.Given.{onward, given, firstTalk, givenLines}
+use Rattle.session.specs.Next.{heardBy, heard, Spoken, spokenOf, nextLine, Lining, linedAs, liningOf, liningNot, lining, refusalLined, refusalLeft}
+use Rattle.session.specs.Given.{textsAs, textsBy, spoken, spokenAfter}
 use Rattle.session.proofs.Query.{IsQuery, query-facts, query-most}
 use Rattle.session.proofs.Begun.{cells-most}
+use Rattle.session.proofs.Output.{next-length}
+
+-- A line's text at the front of the line buffer.
+
+-- a buffer with room for every line stays one
+stored-room : (b line : List ℕ) → 8203 ≤ length line → 8203 ≤ length (storedLine b line)
+stored-room b line room = omega (arith, length-append (lineText b) (drop (length (lineText b)) line), length-drop (length (lineText b)) line)
+
+stored-front : (b line : List ℕ) → take (length (lineText b)) (storedLine b line) ≡ lineText b
+stored-front b line = take-at (lineText b) (drop (length (lineText b)) line) (length (lineText b)) refl
+
+-- what follows a line, if another does
+abbrev onward : Option Talk → (Talk → List (List ℕ)) → List (List ℕ)
+onward none k = []
+onward (some t) k = k t
+
+texts-lined : (s : Spoken) (line : List ℕ) (k : Talk → List ℕ → List ℕ → List ℕ → List (List ℕ))
+    → textsBy (liningOf s line) k ≡ lineText (s .bytes) ∷ onward (s .after) (λ t. k t (s .stack) (s .output) (storedLine (s .bytes) line))
+texts-lined s line k = go (s .after)
+  where
+    l : List ℕ
+    l = storedLine (s .bytes) line
+
+    go : (a : Option Talk)
+        → textsAs (linedAs a (length (lineText (s .bytes)))) l (λ t. k t (s .stack) (s .output) l) ≡ lineText (s .bytes) ∷ onward a (λ t. k t (s .stack) (s .output) l)
+    go none = ap (λ (x : List ℕ). x ∷ []) (stored-front (s .bytes) line)
+    go (some t) = ap (λ (x : List ℕ). x ∷ k t (s .stack) (s .output) l) (stored-front (s .bytes) line)
+
+-- the line of a refusal alone
+texts-refused : (n : ℕ) (r : Refusal) (line : List ℕ) → 5 ≤ length line
+    → take n (textsAs (refusalLined r line) (refusalLeft r line) (λ t. [])) ≡ map lineText (take n (refusalLine r ∷ []))
+texts-refused n r line room =
+    ap
+    (λ (b : Bool). take n (textsAs (cond b (L.Last (length (lineText (refusalLine r)))) (L.Refused (State DestinationShort))) (cond b (storedLine (refusalLine r) line) line) (λ t. [])))
+    (le-leb 5 (length line) room)
+    ∙ ap (λ (x : List ℕ). take n (x ∷ [])) (stored-front (refusalLine r) line)
+    ∙ one n
+  where
+    one : (n : ℕ) → take n (lineText (refusalLine r) ∷ []) ≡ map lineText (take n (refusalLine r ∷ []))
+    one zero = refl
+    one (suc n) = ap (λ (ls : List (List ℕ)). lineText (refusalLine r) ∷ ls) (take-nil n ∙ sym (ap (map lineText) (take-nil n)))
 
 -- The lines that are left, by the next one.
 
@@ -94,30 +137,50 @@ module _ (cells upper lower : List ℕ) where
   unfolding nextLine
   next-heard talk stack output e = simp e
 
-  -- a line at a time
-  pub given-lines : (n : ℕ) (talk : Talk) (stack output : List ℕ)
-      → given cells upper lower n talk stack output ≡ take n (left (talk .calls) (talk .run) stack output (talk .count))
-  unfolding given
-  given-lines zero talk stack output = refl
-  given-lines (suc n) talk stack output = go (leb 1000 (talk .count)) refl (λ t s o. given-lines n t s o)
+  -- the next line, then those after it
+  left-next : (talk : Talk) (stack output : List ℕ)
+      → left (talk .calls) (talk .run) stack output (talk .count) ≡ nextLine cells upper lower talk stack output .bytes ∷ after (nextLine cells upper lower talk stack output)
+  left-next talk stack output = go (leb 1000 (talk .count)) refl
     where
-      turn : Spoken → List (List ℕ)
-      turn s = s .bytes ∷ onward (s .after) (λ t. given cells upper lower n t (s .stack) (s .output))
+      whole : Spoken → List (List ℕ)
+      whole s = s .bytes ∷ after s
 
-      rest : (a : Option Talk) (s o : List ℕ) → ((t : Talk) (s o : List ℕ) → given cells upper lower n t s o ≡ take n (left (t .calls) (t .run) s o (t .count)))
-          → onward a (λ t. given cells upper lower n t s o) ≡ take n (onward a (λ t. left (t .calls) (t .run) s o (t .count)))
-      rest none s o f = sym (take-nil n)
-      rest (some t) s o f = f t s o
+      go : (b : Bool) → leb 1000 (talk .count) ≡ b → left (talk .calls) (talk .run) stack output (talk .count) ≡ whole (nextLine cells upper lower talk stack output)
+      go true e = left-limit (talk .calls) (talk .run) stack output (talk .count) e ∙ sym (ap whole (next-limit talk stack output e))
+      go false e = left-heard (talk .count) e (talk .calls) (talk .run) stack output ∙ sym (ap whole (next-heard talk stack output e))
 
-      go : (b : Bool) → leb 1000 (talk .count) ≡ b → ((t : Talk) (s o : List ℕ) → given cells upper lower n t s o ≡ take n (left (t .calls) (t .run) s o (t .count)))
-          → turn (nextLine cells upper lower talk stack output) ≡ take (suc n) (left (talk .calls) (talk .run) stack output (talk .count))
-      go true e f =
-          ap turn (next-limit talk stack output e) ∙ ap (λ (ls : List (List ℕ)). limitLine (talk .count) ∷ ls) (sym (take-nil n))
-          ∙ sym (ap (take (suc n)) (left-limit (talk .calls) (talk .run) stack output (talk .count) e))
-      go false e f =
-          let h : Heard = heard cells upper lower (talk .calls) (talk .run) stack output in
-          ap turn (next-heard talk stack output e) ∙ ap (λ (ls : List (List ℕ)). spokenOf (talk .count) h .bytes ∷ ls) (rest (spokenOf (talk .count) h .after) (h .stack) (h .output) f)
-          ∙ sym (ap (take (suc n)) (left-heard (talk .count) e (talk .calls) (talk .run) stack output))
+  -- where there is room, the call leaves the next line's text
+  lining-next : (talk : Talk) (stack output line : List ℕ) → 8203 ≤ length line → length output ≤ 4096
+      → lining cells upper lower talk stack output line ≡ liningOf (nextLine cells upper lower talk stack output) line
+  unfolding lining
+  lining-next talk stack output line room few =
+      ap (λ (b : Bool). cond b (liningOf (nextLine cells upper lower talk stack output) line) (liningNot stack output line))
+      (ap₂ _&&_ (le-leb 8203 (length line) room) (le-leb (length output) 4096 few))
+
+  -- call after call, the texts are those of the lines left
+  spoken-lines : (n : ℕ) (talk : Talk) (stack output line : List ℕ) → 8203 ≤ length line → length output ≤ 4096
+      → spoken cells upper lower n talk stack output line ≡ map lineText (take n (left (talk .calls) (talk .run) stack output (talk .count)))
+  unfolding spoken
+  spoken-lines zero talk stack output line room few = refl
+  spoken-lines (suc n) talk stack output line room few =
+      ap (λ (x : Lining). textsBy x on) (lining-next talk stack output line room few)
+      ∙ texts-lined next line on
+      ∙ ap (λ (ls : List (List ℕ)). lineText (next .bytes) ∷ ls)
+      (rest (next .after) (next .stack) (next .output) (storedLine (next .bytes) line) (stored-room (next .bytes) line room) (omega (arith, next-length cells upper lower talk stack output))
+      (λ t s o l g h. spoken-lines n t s o l g h))
+      ∙ sym (ap (λ (ls : List (List ℕ)). map lineText (take (suc n) ls)) (left-next talk stack output))
+    where
+      next : Spoken
+      next = nextLine cells upper lower talk stack output
+
+      on : Talk → List ℕ → List ℕ → List ℕ → List (List ℕ)
+      on t s o l = spoken cells upper lower n t s o l
+
+      rest : (a : Option Talk) (s o l : List ℕ) → 8203 ≤ length l → length o ≤ 4096
+          → ((t : Talk) (s o l : List ℕ) → 8203 ≤ length l → length o ≤ 4096 → spoken cells upper lower n t s o l ≡ map lineText (take n (left (t .calls) (t .run) s o (t .count))))
+          → onward a (λ t. spoken cells upper lower n t s o l) ≡ map lineText (take n (onward a (λ t. left (t .calls) (t .run) s o (t .count))))
+      rest none s o l g h f = sym (ap (map lineText) (take-nil n))
+      rest (some t) s o l g h f = f t s o l g h
 
 -- Cells beyond the table play no part.
 
@@ -219,30 +282,33 @@ lower-stored b rest q =
     ap (take (lowerLength b)) (drop-append-le (4 + upperLength b) b rest (omega (arith, q .size)))
     ∙ take-append-le (lowerLength b) (drop (4 + upperLength b) b) rest (omega (arith, q .size, length-drop (4 + upperLength b) b))
 
-module _ (table query : List ℕ) (room : 4612 ≤ length table) (space : 514 ≤ length query) (n : ℕ) where
-  by-opened : (o : Opened) → WholeIf o → givenLines n (begun o table query) ≡ take n (linesOn o)
-  by-opened (refused r) w = refl
+module _ (table query line : List ℕ) (room : 4612 ≤ length table) (space : 514 ≤ length query) (long : 8203 ≤ length line) (n : ℕ) where
+  by-opened : (o : Opened) → WholeIf o → spokenAfter n (begun o table query) line ≡ map lineText (take n (linesOn o))
+  by-opened (refused r) w = texts-refused n r line (omega arith)
   by-opened (ready cells b run) w =
-      ap (givenLines n)
+      ap (λ (x : Begun). spokenAfter n x line)
       (ap
       (λ (x : Bool). cond x
-      (record { opening = Ready (upperLength b) (lowerLength b) run; table = cells ++ drop (length cells) table; query = b ++ drop (length b) query })
+      (record { opening = Ready (upperLength b) (lowerLength b) (firstTalk run); table = cells ++ drop (length cells) table; query = b ++ drop (length b) query })
       (begunNot (State DestinationShort) table query))
       (ap₂ _&&_ (le-leb (length cells) (length table) (omega (arith, w .few))) (le-leb (length b) (length query) (omega (arith, w .short)))))
-      ∙ ap₂ (λ (u l : List ℕ). given (cells ++ drop (length cells) table) u l n (firstTalk run) (replicate 16384 0) (replicate 4096 0))
+      ∙ ap₂ (λ (u l : List ℕ). spoken (cells ++ drop (length cells) table) u l n (firstTalk run) (replicate 16384 0) (replicate 4096 0) line)
       (upper-stored b (drop (length b) query) (w .query)) (lower-stored b (drop (length b) query) (w .query))
-      ∙ given-lines (cells ++ drop (length cells) table) (upperIn b) (lowerIn b) n (firstTalk run) (replicate 16384 0) (replicate 4096 0)
-      ∙ ap (take n) same
+      ∙ spoken-lines (cells ++ drop (length cells) table) (upperIn b) (lowerIn b) n (firstTalk run) (replicate 16384 0) (replicate 4096 0) line long few
+      ∙ ap (λ (ls : List (List ℕ)). map lineText (take n ls)) same
     where
+      few : length {A = ℕ} (replicate 4096 0) ≤ 4096
+      few = omega (arith, length-replicate {A = ℕ} 4096 0)
+
       same : linesLeft (cells ++ drop (length cells) table) (upperIn b) (lowerIn b) 65536 run (replicate 16384 0) (replicate 4096 0) 0 ≡ linesOn (ready cells b run)
       same =
           ap (λ (c : List ℕ). linesLeft (c ++ drop (length cells) table) (upperIn b) (lowerIn b) 65536 run (replicate 16384 0) (replicate 4096 0) 0) (w .cells-are)
           ∙ left-same (w .table) (w .keeps) (drop (length cells) table) (upperIn b) (lowerIn b) 65536 run (replicate 16384 0) (replicate 4096 0) 0
           ∙ ap (λ (c : List ℕ). linesLeft c (upperIn b) (lowerIn b) 65536 run (replicate 16384 0) (replicate 4096 0) 0) (sym (w .cells-are))
 
-  pub lines-given : (input : List ℕ) → givenLines n (begun (opened input) table query) ≡ take n (sessionLines input)
+  pub lines-spoken : (input : List ℕ) → spokenAfter n (begun (opened input) table query) line ≡ map lineText (take n (sessionLines input))
   unfolding sessionLines
-  lines-given input = by-opened (opened input) (opened-whole input)
+  lines-spoken input = by-opened (opened input) (opened-whole input)
 
 -- There are at most 1,001 lines.
 
@@ -278,16 +344,16 @@ lines-few input = go (opened input)
 -- Where the opening is ready, the words are within the bytes for the query.
 
 pub ready-inside : (input table query : List ℕ) (r : Opening) (t q : List ℕ) → BegunIs (begun (opened input) table query) r t q
-    → (upper lower : ℕ) (run : Run) → r ≡ Ready upper lower run → 4 + upper + lower ≤ length q
-ready-inside input table query r t q I upper lower run e = go (opened input) (opened-whole input) I
+    → (upper lower : ℕ) (talk : Talk) → r ≡ Ready upper lower talk → 4 + upper + lower ≤ length q
+ready-inside input table query r t q I upper lower talk e = go (opened input) (opened-whole input) I
   where
     go : (o : Opened) → WholeIf o → BegunIs (begun o table query) r t q → 4 + upper + lower ≤ length q
     go (refused c) w I = absurd (let z : _≡_ {A = ℕ} 0 1 = cc (sym e ∙ I .0) in omega arith)
-    go (ready cells b run′) w I = by (leb (length cells) (length table) && leb (length b) (length query)) I
+    go (ready cells b run) w I = by (leb (length cells) (length table) && leb (length b) (length query)) I
       where
         by : (x : Bool)
             → BegunIs
-            (cond x (record { opening = Ready (upperLength b) (lowerLength b) run′; table = cells ++ drop (length cells) table; query = b ++ drop (length b) query })
+            (cond x (record { opening = Ready (upperLength b) (lowerLength b) (firstTalk run); table = cells ++ drop (length cells) table; query = b ++ drop (length b) query })
             (begunNot (State DestinationShort) table query)) r t q
             → 4 + upper + lower ≤ length q
         by true I =

@@ -1,29 +1,39 @@
--- What the two public calls come to.
+-- What the three public calls come to, by their contracts: the opening, then the lines of one that is ready, or the line of one that is refused.
 use Prim.Native.Nat.{ℕ, _≤_}
-use mathlib.Core.Path.{_≡_, ap, _∙_}
-use mathlib.Core.List.{List}
+use mathlib.Core.Path.{_≡_, refl, ap, _∙_}
+use mathlib.Core.List.{List, [], _∷_, _++_, map, flatten}
 use lib.ListN.{length, take}
 use lib.Seq.{take-all}
+use Rattle.table.specs.Line.{lineText}
+use Rattle.table.specs.Text.{joinLines}
 use Rattle.session.specs.Opened.{opened}
 use Rattle.session.specs.Begun.{begun}
-use Rattle.table.specs.Text.{joinLines}
 use Rattle.session.specs.Session.{sessionLines, sessionText}
-use Rattle.session.specs.Given.{givenLines}
-use Rattle.session.proofs.Given.{lines-given, lines-few}
+use Rattle.session.specs.Given.{spokenAfter}
+use Rattle.session.proofs.Given.{lines-spoken, lines-few}
 
--- Whatever the lent cells held, an opening and then any number of lines give the session's lines, from the first on.
-pub session-lines : (input table query : List ℕ) → 4612 ≤ length table → 514 ≤ length query → (n : ℕ)
-    → givenLines n (begun (opened input) table query) ≡ take n (sessionLines input)
-session-lines input table query room space n = lines-given table query room space n input
-
--- They are at most 1,001, and so many give all.
+-- There are at most 1,001 lines.
 pub session-few : (input : List ℕ) → length (sessionLines input) ≤ 1001
 session-few input = lines-few input
 
-pub session-all : (input table query : List ℕ) → 4612 ≤ length table → 514 ≤ length query → givenLines 1001 (begun (opened input) table query) ≡ sessionLines input
-session-all input table query room space = session-lines input table query room space 1001 ∙ take-all 1001 (sessionLines input) (session-few input)
+-- the text of some lines is their texts, one after another
+join-texts : (ls : List (List ℕ)) → flatten (map lineText ls) ≡ joinLines ls
+unfolding joinLines flatten
+join-texts [] = refl
+join-texts (b ∷ ls) = ap (λ (l : List ℕ). lineText b ++ l) (join-texts ls)
 
--- so the lines' texts, one after another, are the session's text
-pub session-text : (input table query : List ℕ) → 4612 ≤ length table → 514 ≤ length query → joinLines (givenLines 1001 (begun (opened input) table query)) ≡ sessionText input
-unfolding sessionText
-session-text input table query room space = ap joinLines (session-all input table query room space)
+-- For every input, whatever the cells for the table, the bytes for the query and the line buffer held, and however long they are beyond what is
+-- asked here, and for every number of calls. Fixed are the stack and the output buffer of the first call: 16,384 and 4,096 zeros.
+module _ (input table query line : List ℕ) (room : 4612 ≤ length table) (space : 514 ≤ length query) (long : 8203 ≤ length line) where
+  -- The opening, and then at most n calls, give the texts of the session's lines, from the first on.
+  pub session-lines : (n : ℕ) → spokenAfter n (begun (opened input) table query) line ≡ map lineText (take n (sessionLines input))
+  session-lines n = lines-spoken table query line room space long n input
+
+  -- 1,001 calls give all of them
+  pub session-all : spokenAfter 1001 (begun (opened input) table query) line ≡ map lineText (sessionLines input)
+  session-all = session-lines 1001 ∙ ap (map lineText) (take-all 1001 (sessionLines input) (session-few input))
+
+  -- so what they give, one after another, is the session's text
+  pub session-text : flatten (spokenAfter 1001 (begun (opened input) table query) line) ≡ sessionText input
+  unfolding sessionText
+  session-text = ap flatten session-all ∙ join-texts (sessionLines input)

@@ -7,6 +7,7 @@ pub mod Gathering
 pub mod Turns
 pub mod Begun
 pub mod Next
+pub mod Output
 pub mod Given
 pub mod Headlines
 pub mod Cases

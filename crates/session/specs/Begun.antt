@@ -9,6 +9,8 @@ use lib.ListN.{length, drop}
 use Rattle.table.specs.declared.Refusal.{Refusal}
 use Rattle.table.specs.declared.Refusal.the-variants.{State}
 use Rattle.table.specs.declared.StateCause.the-variants.{DestinationShort}
+use Rattle.machine.specs.declared.Run.{Run}
+use Rattle.session.specs.declared.Talk.{Talk}
 use Rattle.session.specs.declared.Opening.{Opening}
 use Rattle.session.specs.declared.Opening.the-variants.{Ready, Refused}
 use Rattle.session.specs.Query.{upperLength, lowerLength}
@@ -19,6 +21,10 @@ pub record Begun : Type 0 where
   pub table : List ℕ
   pub query : List ℕ
 
+-- "65,536 calls", no reading yet
+abbrev pub firstTalk : Run → Talk
+firstTalk run = record { run = run; count = 0; calls = 65536 }
+
 -- a refusal leaves all as it was
 abbrev pub begunNot : Refusal → List ℕ → List ℕ → Begun
 begunNot r table query = record { opening = Refused r; table = table; query = query }
@@ -28,7 +34,7 @@ begun (refused r) table query = begunNot r table query
 begun (ready cells b run) table query =
     cond (leb (length cells) (length table) && leb (length b) (length query))
     (record {
-      opening = Ready (upperLength b) (lowerLength b) run;
+      opening = Ready (upperLength b) (lowerLength b) (firstTalk run);
       table = cells ++ drop (length cells) table;
       query = b ++ drop (length b) query;
     })

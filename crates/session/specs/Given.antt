@@ -1,39 +1,38 @@
--- The lines that the public calls give: an opening, then a line at a time, each with the talk, the stack and the output buffer as the one before
--- left them.
+-- What the public calls give, by what their contracts say: `begun` of the opening, then `lining` of next_line or `refusalLined` and `refusalLeft`
+-- of refused_line. A call gives the text that it leaves at the front of the line buffer.
 use Prim.Native.Nat.{ℕ, zero, suc, _+_}
-use mathlib.Core.Option.{Option, none, some}
 use mathlib.Core.List.{List, [], _∷_}
 use lib.ListN.{take, drop, replicate}
-use Rattle.machine.specs.declared.Run.{Run}
 use Rattle.session.specs.declared.Talk.{Talk}
 use Rattle.session.specs.declared.Opening.{Opening}
 use Rattle.session.specs.declared.Opening.the-variants.{Ready, Refused}
-use Rattle.session.specs.Lines.{refusalLine}
+use Rattle.session.specs.declared.Lined.{Lined}
+use Rattle.session.specs.declared.Lined.the-variants as L
 use Rattle.session.specs.Begun.{Begun}
-use Rattle.session.specs.Next.{nextLine}
+use Rattle.session.specs.Next.{Lining, lining, refusalLined, refusalLeft}
 
--- the lines after one, if another follows
-abbrev pub onward : Option Talk → (Talk → List (List ℕ)) → List (List ℕ)
-onward none k = []
-onward (some t) k = k t
+-- the text of a call by its answer and the line buffer after it, and those of the calls after it; a refusal gives none, and k goes on after More
+abbrev pub textsAs : Lined → List ℕ → (Talk → List (List ℕ)) → List (List ℕ)
+textsAs (L.More n talk) line k = take n line ∷ k talk
+textsAs (L.Last n) line k = take n line ∷ []
+textsAs (L.Refused r) line k = []
 
--- at most n lines
-unfoldable pub given : (cells upper lower : List ℕ) → ℕ → Talk → List ℕ → List ℕ → List (List ℕ)
-given cells upper lower zero talk stack output = []
-given cells upper lower (suc n) talk stack output =
-    nextLine cells upper lower talk stack output .bytes
-    ∷ onward (nextLine cells upper lower talk stack output .after)
-    (λ t. given cells upper lower n t (nextLine cells upper lower talk stack output .stack) (nextLine cells upper lower talk stack output .output))
+-- the next call has the talk, the stack, the output and the line buffer as this one leaves them
+abbrev pub textsBy : Lining → (Talk → (stack output line : List ℕ) → List (List ℕ)) → List (List ℕ)
+textsBy x k = textsAs (x .lined) (x .line) (λ talk. k talk (x .stack) (x .output) (x .line))
 
--- "65,536 calls", no reading yet
-abbrev pub firstTalk : Run → Talk
-firstTalk run = record { run = run; count = 0; calls = 65536 }
+-- at most n calls of next_line
+unfoldable pub spoken : (cells upper lower : List ℕ) → ℕ → Talk → (stack output line : List ℕ) → List (List ℕ)
+spoken cells upper lower zero talk stack output line = []
+spoken cells upper lower (suc n) talk stack output line = textsBy (lining cells upper lower talk stack output line) (λ t s o l. spoken cells upper lower n t s o l)
 
--- at most n lines, by what the opening answered, and left in the cells for the table and the bytes for the query
-abbrev pub givenBy : ℕ → Opening → List ℕ → List ℕ → List (List ℕ)
-givenBy n (Refused r) table query = take n (refusalLine r ∷ [])
-givenBy n (Ready upper lower run) table query =
-    given table (take upper (drop 3 query)) (take lower (drop (4 + upper) query)) n (firstTalk run) (replicate 16384 0) (replicate 4096 0)
+-- at most n calls, by what the opening answered, and left in the cells for the table and the bytes for the query: one of refused_line, or those of
+-- next_line, the words being parts of the query's bytes, with "4,096 stack frames, 4,096 letters of output", all 0
+abbrev pub spokenBy : ℕ → Opening → (table query line : List ℕ) → List (List ℕ)
+spokenBy n (Refused r) table query line = take n (textsAs (refusalLined r line) (refusalLeft r line) (λ talk. []))
+spokenBy n (Ready upper lower talk) table query line =
+    spoken table (take upper (drop 3 query)) (take lower (drop (4 + upper) query)) n talk (replicate 16384 0) (replicate 4096 0) line
 
-abbrev pub givenLines : ℕ → Begun → List (List ℕ)
-givenLines n x = givenBy n (x .opening) (x .table) (x .query)
+-- the same of what an opening comes to
+abbrev pub spokenAfter : ℕ → Begun → (line : List ℕ) → List (List ℕ)
+spokenAfter n x line = spokenBy n (x .opening) (x .table) (x .query) line

@@ -1,5 +1,5 @@
--- What a session reads and prints: Parts, Query, Opened, Lines and Session. Begun and Next say what the two public calls answer, and leave in
--- what they are lent, Given which lines they give one after another; Asking says only what inner functions promise.
+-- What a session reads and prints: Parts, Query, Opened, Lines and Session. Begun and Next say what the three public calls answer, and leave in
+-- what they are lent, Given which texts they give one after another; Asking says only what inner functions promise.
 pub mod Parts
 pub mod Query
 pub mod Opened

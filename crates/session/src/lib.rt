@@ -22,12 +22,12 @@ pub enum Asking {
     Words { upper: usize, lower: usize },
 }
 
-// What an opening answers: the lengths of the query's words and the run to go on with, or a refusal.
+// What an opening answers: the lengths of the query's words and the talk to begin with, or a refusal.
 pub enum Opening {
     Ready {
         upper: usize,
         lower: usize,
-        run: Run,
+        talk: Talk,
     },
     Refused(Refusal),
 }

@@ -1,9 +1,11 @@
 // The opening of a session: the input's length, the table, the query, the start; then 24.
 use crate::Asking;
 use crate::Opening;
+use crate::Talk;
 use crate::asker;
 use crate::splitter;
 use engine::starter;
+use machine::Run;
 use machine::StartAnswer;
 use table::Answer;
 use table::InputCause;
@@ -18,7 +20,7 @@ ghost use lib.ListN.{length, drop};
 ghost use Rattle.table.specs.Line.{linesOf};
 ghost use Rattle.session.specs.Query.{isQuery, upperLength, lowerLength, queryOf};
 ghost use Rattle.session.specs.Opened.{startedOn, openedQuery, opened};
-ghost use Rattle.session.specs.Begun.{begun, BegunIs};
+ghost use Rattle.session.specs.Begun.{firstTalk, begun, BegunIs};
 
 // Cells to the front of others.
 fn copy_cells(from: &[u16], to: &mut [u16])
@@ -48,6 +50,17 @@ fn longer(b: u8) -> u32
     ensures { λ r. ⌜ r ≡ b ⌝ }
 {
     b as u32
+}
+
+// No reading told yet, and 65,536 calls.
+fn first_talk(run: Run) -> Talk
+    ensures { λ r. ⌜ r ≡ firstTalk run ⌝ }
+{
+    Talk {
+        run,
+        count: 0,
+        calls: 65536,
+    }
 }
 
 // The start, then 24. Only where both are passed are the lent cells written.
@@ -83,8 +96,8 @@ fn begin_search(
     }
     copy_cells(cells, table);
     copy_bytes(bytes, query);
-    let run = started.run;
-    Opening::Ready { upper, lower, run }
+    let talk = first_talk(started.run);
+    Opening::Ready { upper, lower, talk }
 }
 
 // The query, then the start.
