@@ -156,6 +156,7 @@ module _ (s : Setup) (first initials terminals arcs upper lower : List ℕ) (R :
   top-of n d c G h =
       record {
         on-stack = omega (arith, G .deep);
+        few-frames = omega (arith, G .deep);
         some-left = h;
         few-initials = omega (arith, rules .few-initials, rules .few-states);
         whole-arcs = R .whole;

@@ -28,7 +28,7 @@ use Rattle.frames.specs.declared.Frame.{Frame}
 use Rattle.frames.specs.Frames.{frameOf}
 use Rattle.frames.specs.Sides.{fitOf, arcOf, passedOf, followBy}
 use Rattle.step.specs.Setting.{taskBy, queryBy, machineBy, held, InBounds, Top}
-use Rattle.step.specs.Stepping.{moveAs, enteredAt}
+use Rattle.step.specs.Stepping.{moveAs, triedBelow, enteredAt}
 
 pub pred-suc : (k : ℕ) → (k ≡ 0 → ⊥) → k ≡ suc (k - 1)
 pred-suc zero y = absurd (y refl)
@@ -57,12 +57,12 @@ module _ (s : Setup) (initials arcs upper lower : List ℕ) (n : ℕ) (c : List 
   abbrev M : Machine
   M = machineBy s initials [] arcs upper lower
 
-  pub begins-is : (d : ℕ) → d ≡ 0 → n < length initials → Pushes (n + 1) (getD initials n 0) 0 0 ≡ moveAs n (move M store (held n d c))
-  begins-is d e h = go (length initials - n) (let z : 0 < length initials - n = omega arith in z) ∙ ap (moveAs n) (sym (move-start M store (held n d c) e))
+  pub begins-is : (d : ℕ) → d ≡ 0 → n < length initials → Pushes (n + 1) 1 (getD initials n 0) 0 0 ≡ moveAs n d (move M store (held n d c))
+  begins-is d e h = go (length initials - n) (let z : 0 < length initials - n = omega arith in z) ∙ ap (moveAs n d) (sym (move-start M store (held n d c) e))
     where
-      go : (k : ℕ) → 0 < k → Pushes (n + 1) (getD initials n 0) 0 0 ≡ moveAs n (moveStart M n k)
+      go : (k : ℕ) → 0 < k → Pushes (n + 1) 1 (getD initials n 0) 0 0 ≡ moveAs n d (moveStart M n k)
       go zero z = absurd (omega arith)
-      go (suc k) z = refl
+      go (suc k) z = ap (λ (j : ℕ). Pushes (n + 1) (suc j) (getD initials n 0) 0 0) (sym e)
 
   untried-is : (f : F.Frame Passed) → untried M f ≡ below (suc (f .state)) (arcsAs arcs) - f .next
   untried-is f = let h = below-rises (f .state) (arcsAs arcs) in let z : (below (f .state) (arcsAs arcs) + (below (suc (f .state)) (arcsAs arcs) - below (f .state) (arcsAs arcs))) - f .next ≡ below (suc (f .state)) (arcsAs arcs) - f .next = omega arith in z
@@ -77,8 +77,8 @@ module _ (s : Setup) (initials arcs upper lower : List ℕ) (n : ℕ) (c : List 
     at-top : (j : ℕ) → untried M f ≡ j → move M store (held n d c) ≡ moveTop M f j
     at-top j u = move-top M store (held n d c) k e ∙ ap (moveTop M f) u
 
-    pub drops-is : end ≤ f .next → Drops ≡ moveAs n (move M store (held n d c))
-    drops-is h = ap (moveAs n) (sym (at-top 0 (untried-is f ∙ (let z : end - f .next ≡ 0 = omega arith in z))))
+    pub drops-is : end ≤ f .next → Drops ≡ moveAs n d (move M store (held n d c))
+    drops-is h = ap (moveAs n d) (sym (at-top 0 (untried-is f ∙ (let z : end - f .next ≡ 0 = omega arith in z))))
 
     module _ (h : f .next < end) (w : 4 * f .next + 3 < length arcs) (r : (s .up || s .low) ≡ true) where
       abbrev o : Option Passed
@@ -91,22 +91,22 @@ module _ (s : Setup) (initials arcs upper lower : List ℕ) (n : ℕ) (c : List 
       tries = at-top (suc (pred (end - f .next))) (untried-is f ∙ (let z : end - f .next ≡ suc (pred (end - f .next)) = omega arith in z))
           ∙ ap (tryArc M f) (ap (λ (a : Arc). followArc (queryBy s upper lower) a (f .datum)) arc-is ∙ follow-is s r upper lower (arcOf arcs (f .next)) (f .datum))
 
-      pub skips-is : Fails ≡ fitOf o → Skips ≡ moveAs n (move M store (held n d c))
-      skips-is z = go o z ∙ ap (moveAs n) (sym tries)
+      pub skips-is : Fails ≡ fitOf o → Skips ≡ moveAs n d (move M store (held n d c))
+      skips-is z = go o z ∙ ap (moveAs n d) (sym tries)
         where
-          go : (x : Option Passed) → Fails ≡ fitOf x → Skips ≡ moveAs n (tryArc M f x)
+          go : (x : Option Passed) → Fails ≡ fitOf x → Skips ≡ moveAs n d (tryArc M f x)
           go none z = refl
           go (some v) z = absurd (let y : _≡_ {A = ℕ} 0 1 = cc in omega arith)
 
-      pub pushes-is : (u l : ℕ) → Fits u l ≡ fitOf o → Pushes n (getD arcs (4 * f .next + 3) 0) u l ≡ moveAs n (move M store (held n d c))
-      pushes-is u l z = go o z ∙ ap (moveAs n) (sym tries)
+      pub pushes-is : (u l : ℕ) → Fits u l ≡ fitOf o → Pushes n (suc d) (getD arcs (4 * f .next + 3) 0) u l ≡ moveAs n d (move M store (held n d c))
+      pushes-is u l z = go o z ∙ ap (moveAs n d) (sym tries)
         where
-          go : (x : Option Passed) → Fits u l ≡ fitOf x → Pushes n (getD arcs (4 * f .next + 3) 0) u l ≡ moveAs n (tryArc M f x)
+          go : (x : Option Passed) → Fits u l ≡ fitOf x → Pushes n (suc d) (getD arcs (4 * f .next + 3) 0) u l ≡ moveAs n d (tryArc M f x)
           go none z = absurd (let y : _≡_ {A = ℕ} 0 1 = cc in omega arith)
           go (some v) z =
               let p : u ≡ v .up = cc in
               let q : l ≡ v .low = cc in
-              ap (λ (a : Arc). Pushes n (a .target) u l) (sym arc-is) ∙ ap₂ (λ (x y : ℕ). Pushes n (getD (arcsAs arcs) (f .next) noArc .target) x y) p q
+              ap (λ (a : Arc). Pushes n (suc d) (a .target) u l) (sym arc-is) ∙ ap₂ (λ (x y : ℕ). Pushes n (suc d) (getD (arcsAs arcs) (f .next) noArc .target) x y) p q
 
   -- the same by the frame that the code looked at
   module _ (first : List ℕ) (d : ℕ) (T : Top first initials arcs n d c) (z : d ≡ 0 → ⊥) (g : Frame) (E : g ≡ frameOf (lookAt c (d - 1))) where
@@ -128,7 +128,7 @@ module _ (s : Setup) (initials arcs upper lower : List ℕ) (n : ℕ) (c : List 
     pub state-indexed : g .state + 1 < length first
     state-indexed = omega (arith, state-is, bounds .indexed)
 
-    pub drops-by : getD first (g .state + 1) 0 ≤ g .next → Drops ≡ moveAs n (move M store (held n d c))
+    pub drops-by : getD first (g .state + 1) 0 ≤ g .next → Drops ≡ moveAs n d (move M store (held n d c))
     drops-by h = drops-is d (d - 1) top-is (omega (arith, next-is, end-is))
 
     pub small-up : g .up < 4294967295
@@ -150,18 +150,14 @@ module _ (s : Setup) (initials arcs upper lower : List ℕ) (n : ℕ) (c : List 
       fit-is : fit ≡ fitOf (followBy s upper lower (arcOf arcs (lookAt c (d - 1) .next)) (lookAt c (d - 1) .datum))
       fit-is = ap (λ (x : Frame). fitOf (followBy s upper lower (arcOf arcs (x .next)) (passedOf (x .up) (x .low)))) E
 
-      pub skips-by : (s .up || s .low) ≡ true → Fails ≡ fit → Skips ≡ moveAs n (move M store (held n d c))
+      pub skips-by : (s .up || s .low) ≡ true → Fails ≡ fit → Skips ≡ moveAs n d (move M store (held n d c))
       skips-by r y = skips-is d (d - 1) top-is untried-arc (bounds .next-in untried-arc) r (y ∙ fit-is)
 
-      pub pushes-by : (s .up || s .low) ≡ true → (u l : ℕ) → Fits u l ≡ fit → Pushes n (getD arcs (4 * g .next + 3) 0) u l ≡ moveAs n (move M store (held n d c))
-      pushes-by r u l y =
-          ap (λ (k : ℕ). Pushes n (getD arcs (4 * k + 3) 0) u l) next-is ∙ pushes-is d (d - 1) top-is untried-arc (bounds .next-in untried-arc) r u l (y ∙ fit-is)
+      pub pushes-by : (s .up || s .low) ≡ true → (a u l : ℕ) → a ≡ suc d → Fits u l ≡ fit → Pushes n a (getD arcs (4 * g .next + 3) 0) u l ≡ moveAs n d (move M store (held n d c))
+      pushes-by r a u l z y =
+          ap₂ (λ (j k : ℕ). Pushes n j (getD arcs (4 * k + 3) 0) u l) z next-is ∙ pushes-is d (d - 1) top-is untried-arc (bounds .next-in untried-arc) r u l (y ∙ fit-is)
 
 -- The cells after a push.
-
-abbrev pub triedBelow : List ℕ → ℕ → List ℕ
-triedBelow c zero = c
-triedBelow c (suc d) = putAt c d (triedOf (lookAt c d))
 
 module _ (c : List ℕ) (d : ℕ) where
   pub tried-none : d ≡ 0 → c ≡ triedBelow c d
@@ -177,12 +173,5 @@ module _ (c : List ℕ) (d : ℕ) where
       go zero = refl
       go (suc k) = length-put c k (triedOf (lookAt c k))
 
-  pub entered-is : (f : F.Frame Passed) → putAt (triedBelow c d) d f ≡ enteredAt c d f
-  entered-is f = go d
-    where
-      go : (k : ℕ) → putAt (triedBelow c k) k f ≡ enteredAt c k f
-      go zero = refl
-      go (suc k) = refl
-
-  pub entered-length : (f : F.Frame Passed) → length (enteredAt c d f) ≡ length c
-  entered-length f = ap length (sym (entered-is f)) ∙ length-put (triedBelow c d) d f ∙ tried-length
+  pub entered-length : (k : ℕ) (f : F.Frame Passed) → length (enteredAt c d k f) ≡ length c
+  entered-length k f = length-put (triedBelow c d) k f ∙ tried-length

@@ -10,15 +10,15 @@ use borrow.Author.Tests.{ltb-true, ltb-false, lt-ltb, le-ltb}
 use Rattle.table.specs.declared.StateCause.the-variants.{StackFull, OutputFull}
 use Rattle.machine.specs.Frames as F
 use Rattle.machine.specs.Transducer.{Passed, member}
-use Rattle.machine.specs.Stack.{framesIn, roomIn, lookAt}
+use Rattle.machine.specs.Stack.{framesIn, roomIn, lookAt, putAt}
 use Rattle.frames.specs.declared.Setup.{Setup}
 use Rattle.frames.specs.Frames.{frameBy}
 use Rattle.frames.specs.Sides.{passedOf, doneBy, writtenOf}
 use Rattle.frames.specs.Output.{Tried, sideBy, lettersBy}
 use Rattle.step.specs.declared.Verdict.{Verdict}
 use Rattle.step.specs.declared.Verdict.the-variants.{Turned, Enters, Accepts}
-use Rattle.step.proofs.Moves.{entered-length}
-use Rattle.step.specs.Stepping.{verdictOf, enteredAt, verdictBy, passesBy, findsBy, pushedCells, pushedOutput, Pushable}
+use Rattle.step.proofs.Moves.{tried-length, entered-length}
+use Rattle.step.specs.Stepping.{verdictOf, triedBelow, verdictBy, passesBy, findsBy, pushedCells, pushedOutput, Pushable}
 
 -- the room
 pub no-room : (d m : ℕ) → 33024 ≤ d → false ≡ ltb d (min m 33024)
@@ -72,7 +72,7 @@ module _ (b a : Bool) (l n : ℕ) where
 not-true-false : {A : Type 0} → true ≡ false → A
 not-true-false e = absurd (let y : _≡_ {A = ℕ} 0 1 = cc in omega arith)
 
-module _ (s : Setup) (first terminals arcs upper lower : List ℕ) (d st u x : ℕ) (c b : List ℕ) (P : Pushable s first terminals arcs upper lower d st u x c b) where
+module _ (s : Setup) (first terminals arcs upper lower : List ℕ) (d k st u x : ℕ) (c b : List ℕ) (P : Pushable s first terminals arcs upper lower d k st u x c b) where
   abbrev accepting : Bool
   accepting = member st terminals && doneBy s upper lower (passedOf u x)
 
@@ -87,43 +87,48 @@ module _ (s : Setup) (first terminals arcs upper lower : List ℕ) (d st u x : �
 
   -- what a push answers and leaves
   abbrev Left : Verdict → List ℕ → List ℕ → Type 0
-  Left r e o = (r ≡ met) × (e ≡ pushedCells r c d f) × (o ≡ pushedOutput r s arcs e d b)
+  Left r e o = (r ≡ met) × (e ≡ pushedCells r c d k f) × (o ≡ pushedOutput r s arcs e k b)
 
-  pub enter-ready : (v : Verdict) → v ≡ met → passesBy v ≡ true → ((d < framesIn c) × (st < length first)) × ((k : ℕ) → d ≡ suc k → lookAt c k .next ≤ 1024)
-  enter-ready v e h =
-      let y : d < roomIn c = ltb-true d (roomIn c) (has-room (ltb d (roomIn c)) accepting (length b) w v e h) in
-      ((omega arith, P .indexes y), P .counts)
+  module _ (v : Verdict) (e : v ≡ met) (h : passesBy v ≡ true) where
+    room : d < roomIn c
+    room = ltb-true d (roomIn c) (has-room (ltb d (roomIn c)) accepting (length b) w v e h)
 
-  pub made-cells : (v : Verdict) (e : List ℕ) → passesBy v ≡ true → e ≡ enteredAt c d f → e ≡ pushedCells v c d f
-  made-cells (Turned cause) e h y = not-true-false (sym h)
-  made-cells Enters e h y = y
-  made-cells (Accepts n) e h y = y
+    pub count-ready : (d ≤ framesIn c) × ((j : ℕ) → d ≡ suc j → lookAt c j .next ≤ 1024)
+    count-ready = (omega (arith, room), P .counts)
 
-  pub kept-cells : (v : Verdict) (e : List ℕ) → passesBy v ≡ false → e ≡ c → e ≡ pushedCells v c d f
+    pub enter-ready : (g : List ℕ) → g ≡ triedBelow c d → (k < framesIn g) × (st < length first)
+    enter-ready g y = (omega (arith, ap length y, tried-length c d, P .places room), P .indexes room)
+
+  pub made-cells : (v : Verdict) (g e : List ℕ) → passesBy v ≡ true → g ≡ triedBelow c d → e ≡ putAt g k f → e ≡ pushedCells v c d k f
+  made-cells (Turned cause) g e h y z = not-true-false (sym h)
+  made-cells Enters g e h y z = z ∙ ap (λ (l : List ℕ). putAt l k f) y
+  made-cells (Accepts n) g e h y z = z ∙ ap (λ (l : List ℕ). putAt l k f) y
+
+  pub kept-cells : (v : Verdict) (e : List ℕ) → passesBy v ≡ false → e ≡ c → e ≡ pushedCells v c d k f
   kept-cells (Turned cause) e h y = y
   kept-cells Enters e h y = not-true-false h
   kept-cells (Accepts n) e h y = not-true-false h
 
-  pub cells-length : (v : Verdict) (e : List ℕ) → e ≡ pushedCells v c d f → length e ≡ length c
+  pub cells-length : (v : Verdict) (e : List ℕ) → e ≡ pushedCells v c d k f → length e ≡ length c
   cells-length (Turned cause) e y = ap length y
-  cells-length Enters e y = ap length y ∙ entered-length c d f
-  cells-length (Accepts n) e y = ap length y ∙ entered-length c d f
+  cells-length Enters e y = ap length y ∙ entered-length c d k f
+  cells-length (Accepts n) e y = ap length y ∙ entered-length c d k f
 
-  pub write-ready : (v : Verdict) (e : List ℕ) (k : ℕ) → v ≡ met → findsBy v ≡ true → e ≡ pushedCells v c d f → k ≡ w
-      → Tried arcs (sideBy s) e d × ((k ≡ length (lettersBy s arcs e d)) × (k ≤ length b))
-  write-ready (Turned cause) e k E h y z = not-true-false (sym h)
-  write-ready Enters e k E h y z = not-true-false (sym h)
-  write-ready (Accepts n) e k E h y z =
-      let K : k ≡ n = z ∙ sym (counted (ltb d (roomIn c)) accepting (length b) w n E) in
+  pub write-ready : (v : Verdict) (e : List ℕ) (m : ℕ) → v ≡ met → findsBy v ≡ true → e ≡ pushedCells v c d k f → m ≡ w
+      → Tried arcs (sideBy s) e k × ((m ≡ length (lettersBy s arcs e k)) × (m ≤ length b))
+  write-ready (Turned cause) e m E h y z = not-true-false (sym h)
+  write-ready Enters e m E h y z = not-true-false (sym h)
+  write-ready (Accepts n) e m E h y z =
+      let K : m ≡ n = z ∙ sym (counted (ltb d (roomIn c)) accepting (length b) w n E) in
       let R = P .writes n E e y in
       (R .0, (K ∙ R .1 .0, omega (arith, K, R .1 .1)))
 
-  pub found : (v : Verdict) (e o : List ℕ) → v ≡ met → findsBy v ≡ true → e ≡ pushedCells v c d f → o ≡ lettersBy s arcs e d ++ drop (length (lettersBy s arcs e d)) b → Left v e o
+  pub found : (v : Verdict) (e o : List ℕ) → v ≡ met → findsBy v ≡ true → e ≡ pushedCells v c d k f → o ≡ lettersBy s arcs e k ++ drop (length (lettersBy s arcs e k)) b → Left v e o
   found (Turned cause) e o E h y z = not-true-false (sym h)
   found Enters e o E h y z = not-true-false (sym h)
   found (Accepts n) e o E h y z = (E, y, z)
 
-  pub not-found : (v : Verdict) (e o : List ℕ) → v ≡ met → findsBy v ≡ false → e ≡ pushedCells v c d f → o ≡ b → Left v e o
+  pub not-found : (v : Verdict) (e o : List ℕ) → v ≡ met → findsBy v ≡ false → e ≡ pushedCells v c d k f → o ≡ b → Left v e o
   not-found (Turned cause) e o E h y z = (E, y, z)
   not-found Enters e o E h y z = (E, y, z)
   not-found (Accepts n) e o E h y z = not-true-false h

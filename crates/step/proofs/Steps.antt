@@ -36,30 +36,30 @@ module _ (t : Table) (q : Query) where
   abbrev pub effectAs : ℕ → ℕ → List ℕ → Move → Held (List ℕ)
   effectAs n d c Drops = held n (pred d) c
   effectAs n d c Skips = held n d (putAt c (pred d) (triedOf (lookAt c (pred d))))
-  effectAs n d c (Pushes m s u l) = afterPush t q m d c s (passedOf u l)
+  effectAs n d c (Pushes m k s u l) = afterPush t q m d c s (passedOf u l)
 
   abbrev pub madeAs : ℕ → ℕ → List ℕ → Move → Held (List ℕ) → Stepped (List ℕ)
   madeAs l d c Drops e = moves e
   madeAs l d c Skips e = moves e
-  madeAs l d c (Pushes m s u x) e = pushed (machine t q) store (ltb d (roomIn c)) l e
+  madeAs l d c (Pushes m k s u x) e = pushed (machine t q) store (ltb d (roomIn c)) l e
 
   module _ (n : ℕ) (c : List ℕ) where
     abbrev by : ℕ → S.Move (F.Frame Passed)
     by d = moveBy (machine t q) n (framesOf store c d)
 
-    effect-start : (k : ℕ) → 0 < k → effect (machine t q) store (moveStart (machine t q) n k) (held n 0 c) ≡ effectAs n 0 c (moveAs n (moveStart (machine t q) n k))
+    effect-start : (k : ℕ) → 0 < k → effect (machine t q) store (moveStart (machine t q) n k) (held n 0 c) ≡ effectAs n 0 c (moveAs n 0 (moveStart (machine t q) n k))
     effect-start zero h = absurd (omega arith)
     effect-start (suc k) h = ap (λ (m : ℕ). held m 1 (putAt c 0 (entering (machine t q) (getD (t .initials) n 0) (passedOf 0 0)))) (let e : suc n ≡ n + 1 = omega arith in e)
 
-    effect-arc : (d : ℕ) (o : Option Passed) → effect (machine t q) store (tryArc (machine t q) (lookAt c d) o) (held n (suc d) c) ≡ effectAs n (suc d) c (moveAs n (tryArc (machine t q) (lookAt c d) o))
+    effect-arc : (d : ℕ) (o : Option Passed) → effect (machine t q) store (tryArc (machine t q) (lookAt c d) o) (held n (suc d) c) ≡ effectAs n (suc d) c (moveAs n (suc d) (tryArc (machine t q) (lookAt c d) o))
     effect-arc d none = refl
     effect-arc d (some x) = refl
 
-    effect-top : (d k : ℕ) → effect (machine t q) store (moveTop (machine t q) (lookAt c d) k) (held n (suc d) c) ≡ effectAs n (suc d) c (moveAs n (moveTop (machine t q) (lookAt c d) k))
+    effect-top : (d k : ℕ) → effect (machine t q) store (moveTop (machine t q) (lookAt c d) k) (held n (suc d) c) ≡ effectAs n (suc d) c (moveAs n (suc d) (moveTop (machine t q) (lookAt c d) k))
     effect-top d zero = refl
     effect-top d (suc k) = effect-arc d (machine t q .follow (lookAt c d .next) (lookAt c d .datum))
 
-    effect-by : (d : ℕ) → (d ≡ 0 → n < length (t .initials)) → effect (machine t q) store (by d) (held n d c) ≡ effectAs n d c (moveAs n (by d))
+    effect-by : (d : ℕ) → (d ≡ 0 → n < length (t .initials)) → effect (machine t q) store (by d) (held n d c) ≡ effectAs n d c (moveAs n d (by d))
     effect-by zero h = effect-start (length (t .initials) - n) (let k : n < length (t .initials) = h refl in omega arith)
     effect-by (suc d) h = effect-top d (untried (machine t q) (lookAt c d))
 
@@ -79,7 +79,7 @@ module _ (t : Table) (q : Query) where
         by-top zero e = let z : _≡_ {A = ℕ} 0 1 = cc in omega arith
         by-top (suc k) e = by-arc (machine t q .follow (lookAt c d .next) (lookAt c d .datum)) e
 
-    made-by : (l d : ℕ) (m : S.Move (F.Frame Passed)) → (m ≡ S.over → ⊥) → made (machine t q) store l (held n d c) m ≡ madeAs l d c (moveAs n m) (effect (machine t q) store m (held n d c))
+    made-by : (l d : ℕ) (m : S.Move (F.Frame Passed)) → (m ≡ S.over → ⊥) → made (machine t q) store l (held n d c) m ≡ madeAs l d c (moveAs n d m) (effect (machine t q) store m (held n d c))
     made-by l d S.over h = absurd (h refl)
     made-by l d S.drops h = refl
     made-by l d (S.begins g) h = refl
@@ -87,7 +87,7 @@ module _ (t : Table) (q : Query) where
     made-by l d (S.pushes f g) h = refl
 
     module _ (d : ℕ) (h : d ≡ 0 → n < length (t .initials)) where
-      pub effect-as : effect (machine t q) store (move (machine t q) store (held n d c)) (held n d c) ≡ effectAs n d c (moveAs n (move (machine t q) store (held n d c)))
+      pub effect-as : effect (machine t q) store (move (machine t q) store (held n d c)) (held n d c) ≡ effectAs n d c (moveAs n d (move (machine t q) store (held n d c)))
       unfolding move
       effect-as = effect-by d h
 
@@ -95,10 +95,10 @@ module _ (t : Table) (q : Query) where
       unfolding move
       move-there = not-over d h
 
-      pub step-as : (l : ℕ) (r : Move) → r ≡ moveAs n (move (machine t q) store (held n d c)) → step (machine t q) store l (held n d c) ≡ madeAs l d c r (effectAs n d c r)
+      pub step-as : (l : ℕ) (r : Move) → r ≡ moveAs n d (move (machine t q) store (held n d c)) → step (machine t q) store l (held n d c) ≡ madeAs l d c r (effectAs n d c r)
       unfolding step move
       step-as l r e =
-          made-by l d (by d) (not-over d h) ∙ ap (madeAs l d c (moveAs n (by d))) (effect-by d h) ∙ ap (λ (x : Move). madeAs l d c x (effectAs n d c x)) (sym e)
+          made-by l d (by d) (not-over d h) ∙ ap (madeAs l d c (moveAs n d (by d))) (effect-by d h) ∙ ap (λ (x : Move). madeAs l d c x (effectAs n d c x)) (sym e)
 
       room-for : (N : ℕ) → d < N → (m : S.Move (F.Frame Passed)) → RoomFor N d m
       room-for N k S.over = tt
@@ -108,10 +108,10 @@ module _ (t : Table) (q : Query) where
       room-for N k (S.pushes f g) = k
 
       -- the run after a push that finds room is a place in a search
-      pub push-good : (N : ℕ) → Good (machine t q) store N (held n d c) → d < N → (m s u l : ℕ) → Pushes m s u l ≡ moveAs n (move (machine t q) store (held n d c))
+      pub push-good : (N : ℕ) → Good (machine t q) store N (held n d c) → d < N → (m k s u l : ℕ) → Pushes m k s u l ≡ moveAs n d (move (machine t q) store (held n d c))
           → Good (machine t q) store N (afterPush t q m d c s (passedOf u l))
-      push-good N G k m s u l e =
-          subst (Good (machine t q) store N) (effect-as ∙ ap (effectAs n d c) (sym e)) (move-good (machine t q) store store-laws N (held n d c) G (room-for N k (move (machine t q) store (held n d c))))
+      push-good N G h m k s u l e =
+          subst (Good (machine t q) store N) (effect-as ∙ ap (effectAs n d c) (sym e)) (move-good (machine t q) store store-laws N (held n d c) G (room-for N h (move (machine t q) store (held n d c))))
 
 -- What a push comes to, by the verdict: the run after it, whether its path accepts, and its output.
 

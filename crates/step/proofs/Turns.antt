@@ -15,6 +15,7 @@ use Rattle.machine.specs.Query.{Query}
 use Rattle.machine.specs.Machine.{Machine, accepts, output}
 use Rattle.machine.specs.Frames as F
 use Rattle.machine.specs.Frames.{Held, framesOf, walkTo, pathOf, entering}
+use Rattle.machine.specs.Step as S
 use Rattle.machine.specs.Step.{Stepped, moves, finds, refuses, triedOf, move, pushed, step}
 use Rattle.machine.specs.Transducer.{Passed, member, machine}
 use Rattle.machine.specs.Stack.{roomIn, lookAt, putAt, store}
@@ -34,8 +35,8 @@ use Rattle.frames.specs.Frames.{frameBy}
 use Rattle.frames.specs.Sides.{passedOf, doneBy, writtenOf}
 use Rattle.frames.specs.Output.{Tried, sideBy, lettersBy}
 use Rattle.step.specs.Setting.{queryBy, tableBy, machineBy, held, Ready}
-use Rattle.step.specs.Stepping.{moveAs, verdictOf, enteredAt, afterPush, pushedCells, pushedOutput, Pushable, runBy, TurnIs}
-use Rattle.step.proofs.Moves.{begins-is, triedBelow, tried-length, entered-is, entered-length}
+use Rattle.step.specs.Stepping.{moveAs, verdictOf, triedBelow, enteredAt, afterPush, pushedCells, pushedOutput, Pushable, runBy, TurnIs}
+use Rattle.step.proofs.Moves.{begins-is, tried-length, entered-length}
 use Rattle.step.proofs.Steps.{effectAs, step-as, push-good, turned-is, enters-are, PathIs, Found, accepts-are}
 use Rattle.step.proofs.Bounds.{done-is, written-is, rules, first-length, first-at, output-letters, tried-of, top-of}
 
@@ -45,9 +46,8 @@ unfolding move
 same-move s initials terminals arcs upper lower h = refl
 
 -- the frame that was pushed is the top one
-pub entered-top : (c : List ℕ) (d : ℕ) (f : F.Frame Passed) → d < roomIn c → lookAt (enteredAt c d f) d ≡ f
-entered-top c d f h =
-    ap (λ (l : List ℕ). lookAt l d) (sym (entered-is c d f)) ∙ store-laws .look-same (triedBelow c d) d f (let z = tried-length c d in omega arith)
+pub entered-top : (c : List ℕ) (d : ℕ) (f : F.Frame Passed) → d < roomIn c → lookAt (enteredAt c d d f) d ≡ f
+entered-top c d f h = store-laws .look-same (triedBelow c d) d f (let z = tried-length c d in omega arith)
 
 -- what a step makes of a push, where the run after it has m initial states started and depth d
 abbrev pub turnAs : ℕ → ℕ → ℕ → Verdict → Turn
@@ -69,40 +69,48 @@ module _ (s : Setup) (first initials terminals arcs upper lower : List ℕ) (R :
   M = machineBy s initials terminals arcs upper lower
 
   module _ (task n d : ℕ) (c : List ℕ) (G : Good M store (roomIn c) (held n d c)) (left : d ≡ 0 → n < length initials) where
-    tells : (r : Move) → r ≡ moveAs n (move (machineBy s initials [] arcs upper lower) store (held n d c)) → r ≡ moveAs n (move M store (held n d c))
-    tells r e = e ∙ ap (moveAs n) (same-move s initials terminals arcs upper lower (held n d c))
+    tells : (r : Move) → r ≡ moveAs n d (move (machineBy s initials [] arcs upper lower) store (held n d c)) → r ≡ moveAs n d (move M store (held n d c))
+    tells r e = e ∙ ap (moveAs n d) (same-move s initials terminals arcs upper lower (held n d c))
 
     module _ (b : List ℕ) where
       turn-by : (x : Stepped (List ℕ)) (r : Turn) (e o : List ℕ) → step M store (length b) (held n d c) ≡ x → TurnIs task x c b r e o → TurnIs task (step M store (length b) (held n d c)) c b r e o
       turn-by x r e o k T = subst (λ (y : Stepped (List ℕ)). TurnIs task y c b r e o) (sym k) T
 
-      pub drop-turn : Drops ≡ moveAs n (move (machineBy s initials [] arcs upper lower) store (held n d c)) → TurnIs task (step M store (length b) (held n d c)) c b (Moved (runBy task n (d - 1))) c b
+      pub drop-turn : Drops ≡ moveAs n d (move (machineBy s initials [] arcs upper lower) store (held n d c)) → TurnIs task (step M store (length b) (held n d c)) c b (Moved (runBy task n (d - 1))) c b
       drop-turn e = turn-by (moves (held n (pred d) c)) _ _ _ (step-as t q n c d left (length b) Drops (tells Drops e)) (ap (λ (j : ℕ). Moved (runBy task n j)) (let z : d - 1 ≡ pred d = omega arith in z), refl, refl)
 
-      pub skip-turn : Skips ≡ moveAs n (move (machineBy s initials [] arcs upper lower) store (held n d c)) → (e : List ℕ) → e ≡ putAt c (d - 1) (triedOf (lookAt c (d - 1)))
+      pub skip-turn : Skips ≡ moveAs n d (move (machineBy s initials [] arcs upper lower) store (held n d c)) → (e : List ℕ) → e ≡ putAt c (d - 1) (triedOf (lookAt c (d - 1)))
           → TurnIs task (step M store (length b) (held n d c)) c b (Moved (runBy task n d)) e b
       skip-turn k e h =
           turn-by (moves (effectAs t q n d c Skips)) _ _ _ (step-as t q n c d left (length b) Skips (tells Skips k))
           (refl, h ∙ ap (λ (j : ℕ). putAt c j (triedOf (lookAt c j))) (let z : d - 1 ≡ pred d = omega arith in z), refl)
 
     -- no frame is dropped, and no arc tried, at depth 0
-    deep : (r : Move) → r ≡ moveAs n (move (machineBy s initials [] arcs upper lower) store (held n d c)) → ((m st u x : ℕ) → r ≡ Pushes m st u x → ⊥) → 1 ≤ d
+    deep : (r : Move) → r ≡ moveAs n d (move (machineBy s initials [] arcs upper lower) store (held n d c)) → ((m a st u x : ℕ) → r ≡ Pushes m a st u x → ⊥) → 1 ≤ d
     deep r e other = go d refl
       where
         go : (k : ℕ) → d ≡ k → 1 ≤ d
-        go zero z = absurd (other _ _ _ _ (e ∙ sym (begins-is s initials arcs upper lower n c d z (left z))))
+        go zero z = absurd (other _ _ _ _ _ (e ∙ sym (begins-is s initials arcs upper lower n c d z (left z))))
         go (suc k) z = omega arith
 
-    pub drop-deep : Drops ≡ moveAs n (move (machineBy s initials [] arcs upper lower) store (held n d c)) → 1 ≤ d
-    drop-deep e = deep Drops e (λ m st u x z. let y : _≡_ {A = ℕ} 0 1 = cc in omega arith)
+    pub drop-deep : Drops ≡ moveAs n d (move (machineBy s initials [] arcs upper lower) store (held n d c)) → 1 ≤ d
+    drop-deep e = deep Drops e (λ m a st u x z. let y : _≡_ {A = ℕ} 0 1 = cc in omega arith)
 
-    pub skip-deep : Skips ≡ moveAs n (move (machineBy s initials [] arcs upper lower) store (held n d c)) → 1 ≤ d
-    skip-deep e = deep Skips e (λ m st u x z. let y : _≡_ {A = ℕ} 0 1 = cc in omega arith)
+    pub skip-deep : Skips ≡ moveAs n d (move (machineBy s initials [] arcs upper lower) store (held n d c)) → 1 ≤ d
+    skip-deep e = deep Skips e (λ m a st u x z. let y : _≡_ {A = ℕ} 0 1 = cc in omega arith)
 
     pub skip-next : (k : ℕ) → d ≡ suc k → lookAt c k .next ≤ 1024
     skip-next k j = top-of s first initials terminals arcs upper lower R n d c G left .top-in k j .next-small
 
-    module _ (b : List ℕ) (m st u x : ℕ) (e : Pushes m st u x ≡ moveAs n (move (machineBy s initials [] arcs upper lower) store (held n d c))) where
+    -- a push adds a frame to those that there are
+    push-depth : (m a st u x : ℕ) (v : S.Move (F.Frame Passed)) → Pushes m a st u x ≡ moveAs n d v → a ≡ suc d
+    push-depth m a st u x S.over z = absurd (let y : _≡_ {A = ℕ} 0 1 = cc in omega arith)
+    push-depth m a st u x S.drops z = absurd (let y : _≡_ {A = ℕ} 0 1 = cc in omega arith)
+    push-depth m a st u x (S.begins g) z = cc
+    push-depth m a st u x (S.skips f) z = absurd (let y : _≡_ {A = ℕ} 0 1 = cc in omega arith)
+    push-depth m a st u x (S.pushes f g) z = cc
+
+    module _ (b : List ℕ) (m a st u x : ℕ) (e : Pushes m a st u x ≡ moveAs n d (move (machineBy s initials [] arcs upper lower) store (held n d c))) where
       abbrev p : Passed
       p = passedOf u x
 
@@ -117,22 +125,22 @@ module _ (s : Setup) (first initials terminals arcs upper lower : List ℕ) (R :
 
       module _ (room : d < roomIn c) where
         good : Good M store (roomIn c) after
-        good = push-good t q n c d left (roomIn c) G room m st u x (tells _ e)
+        good = push-good t q n c d left (roomIn c) G room m a st u x (tells _ e)
 
-        top : lookAt (enteredAt c d f) d ≡ f
+        top : lookAt (enteredAt c d d f) d ≡ f
         top = entered-top c d f room
 
-        placed : Placed M m (f ∷ framesOf store (enteredAt c d f) d)
-        placed = subst (λ (g : F.Frame Passed). Placed M m (g ∷ framesOf store (enteredAt c d f) d)) top (good .placed)
+        placed : Placed M m (f ∷ framesOf store (enteredAt c d d f) d)
+        placed = subst (λ (g : F.Frame Passed). Placed M m (g ∷ framesOf store (enteredAt c d d f) d)) top (good .placed)
 
         accepts-after : accepts M (pathOf M store after) ≡ accepting
-        accepts-after = accepts-top M m f (framesOf store (enteredAt c d f) d) placed ∙ ap (λ (v : Bool). member st terminals && v) (done-is s (R .reads-some) initials terminals arcs upper lower p)
+        accepts-after = accepts-top M m f (framesOf store (enteredAt c d d f) d) placed ∙ ap (λ (v : Bool). member st terminals && v) (done-is s (R .reads-some) initials terminals arcs upper lower p)
 
         length-after : length (output M (pathOf M store after)) ≡ writtenOf s p
-        length-after = written-length t q (walkTo m (framesOf store (enteredAt c d f) d)) p (placed .datum-is) ∙ written-is s (R .reads-some) upper lower p
+        length-after = written-length t q (walkTo m (framesOf store (enteredAt c d d f) d)) p (placed .datum-is) ∙ written-is s (R .reads-some) upper lower p
 
         in-states : st < s .states
-        in-states = in-range t q (rules s first initials terminals arcs upper lower R) m f (framesOf store (enteredAt c d f) d) placed .state-in
+        in-states = in-range t q (rules s first initials terminals arcs upper lower R) m f (framesOf store (enteredAt c d d f) d) placed .state-in
 
         pub indexed : st < length first
         indexed = omega (arith, in-states, first-length s first initials terminals arcs upper lower R, rules s first initials terminals arcs upper lower R .few-states)
@@ -140,11 +148,11 @@ module _ (s : Setup) (first initials terminals arcs upper lower : List ℕ) (R :
         pub frame-is : frameBy st (getD first st 0) u x ≡ f
         frame-is = ap (λ (k : ℕ). frameBy st k u x) (first-at s first initials terminals arcs upper lower R st (omega (arith, in-states)))
 
-        pub letters-after : output M (pathOf M store after) ≡ lettersBy s arcs (enteredAt c d f) d
-        letters-after = output-letters s first initials terminals arcs upper lower R m (enteredAt c d f) d f placed
+        pub letters-after : output M (pathOf M store after) ≡ lettersBy s arcs (enteredAt c d d f) d
+        letters-after = output-letters s first initials terminals arcs upper lower R m (enteredAt c d d f) d f placed
 
-        pub tried-after : Tried arcs (sideBy s) (enteredAt c d f) d
-        tried-after = tried-of s first initials terminals arcs upper lower R m (enteredAt c d f) d f (omega (arith, entered-length c d f)) placed
+        pub tried-after : Tried arcs (sideBy s) (enteredAt c d d f) d
+        tried-after = tried-of s first initials terminals arcs upper lower R m (enteredAt c d d f) d f (omega (arith, entered-length c d d f)) placed
 
       facts : ltb d (roomIn c) ≡ true → PathIs t q after (length b) (writtenOf s p) accepting
       facts z = let room : d < roomIn c = ltb-true d (roomIn c) z in (accepts-after room, length-after room)
@@ -153,20 +161,20 @@ module _ (s : Setup) (first initials terminals arcs upper lower : List ℕ) (R :
       verdict = verdictOf (ltb d (roomIn c)) accepting (length b) (writtenOf s p)
 
       pushes : step M store (length b) (held n d c) ≡ pushed M store (ltb d (roomIn c)) (length b) after
-      pushes = step-as t q n c d left (length b) (Pushes m st u x) (tells (Pushes m st u x) e)
+      pushes = step-as t q n c d left (length b) (Pushes m a st u x) (tells (Pushes m a st u x) e)
 
       stop-turn : (cause : StateCause) → Turned cause ≡ verdict → (g o : List ℕ) → g ≡ c → o ≡ b → TurnIs task (step M store (length b) (held n d c)) c b (Stopped cause) g o
       stop-turn cause v g o y z =
           turn-by b (refuses (State cause)) _ _ _ (pushes ∙ turned-is t q after (length b) (writtenOf s p) accepting (ltb d (roomIn c)) facts cause v) (refl, y, z)
 
-      module _ (g : List ℕ) (entered : g ≡ enteredAt c d (frameBy st (getD first st 0) u x)) where
-        cells-is : d < roomIn c → g ≡ enteredAt c d f
-        cells-is room = entered ∙ ap (enteredAt c d) (frame-is room)
+      module _ (g : List ℕ) (entered : g ≡ enteredAt c d d (frameBy st (getD first st 0) u x)) where
+        cells-is : d < roomIn c → g ≡ enteredAt c d d f
+        cells-is room = entered ∙ ap (enteredAt c d d) (frame-is room)
 
-        enter-turn : Enters ≡ verdict → (o : List ℕ) → o ≡ b → TurnIs task (step M store (length b) (held n d c)) c b (Moved (runBy task m (d + 1))) g o
+        enter-turn : Enters ≡ verdict → (o : List ℕ) → o ≡ b → TurnIs task (step M store (length b) (held n d c)) c b (Moved (runBy task m (suc d))) g o
         enter-turn v o z =
             let E = enters-are t q after (length b) (writtenOf s p) accepting (ltb d (roomIn c)) facts v in
-            turn-by b (moves after) _ _ _ (pushes ∙ E .1) (ap (λ (j : ℕ). Moved (runBy task m j)) (let y : d + 1 ≡ suc d = omega arith in y), cells-is (ltb-true d (roomIn c) (E .0)), z)
+            turn-by b (moves after) _ _ _ (pushes ∙ E .1) (refl, cells-is (ltb-true d (roomIn c) (E .0)), z)
 
         module _ (k : ℕ) (v : Accepts k ≡ verdict) where
           F₀ : Found t q after (length b) (writtenOf s p) accepting (ltb d (roomIn c)) k
@@ -181,36 +189,43 @@ module _ (s : Setup) (first initials terminals arcs upper lower : List ℕ) (R :
           write-ready : Tried arcs (sideBy s) g d × ((k ≡ length (lettersBy s arcs g d)) × (k ≤ length b))
           write-ready = (subst (λ (l : List ℕ). Tried arcs (sideBy s) l d) (sym (cells-is room₀)) (tried-after room₀), (F₀ .counted ∙ ap length word-is, F₀ .has-space))
 
-          find-turn : (o : List ℕ) → o ≡ lettersBy s arcs g d ++ drop (length (lettersBy s arcs g d)) b → TurnIs task (step M store (length b) (held n d c)) c b (Finds (runBy task m (d + 1)) k) g o
+          find-turn : (o : List ℕ) → o ≡ lettersBy s arcs g d ++ drop (length (lettersBy s arcs g d)) b → TurnIs task (step M store (length b) (held n d c)) c b (Finds (runBy task m (suc d)) k) g o
           find-turn o w =
               turn-by b (finds after (output M (pathOf M store after))) _ _ _ (pushes ∙ F₀ .told) (
-                ap₂ (λ (y z : ℕ). Finds (runBy task m y) z) (let z : d + 1 ≡ suc d = omega arith in z) (F₀ .counted),
+                ap (Finds (runBy task m (suc d))) (F₀ .counted),
                 cells-is room₀,
                 w ∙ ap (λ (l : List ℕ). l ++ drop (length l) b) (sym word-is),
               )
 
+      after-is : a ≡ suc d
+      after-is = push-depth m a st u x (move (machineBy s initials [] arcs upper lower) store (held n d c)) e
+
+      top-is : a - 1 ≡ d
+      top-is = omega (arith, after-is)
+
+      pub after-some : 1 ≤ a
+      after-some = omega (arith, after-is)
+
       -- what a push may rely on
-      pub pushable : Pushable s first terminals arcs upper lower d st u x c b
+      pub pushable : Pushable s first terminals arcs upper lower d (a - 1) st u x c b
       pushable =
-          record {
+          subst (λ (j : ℕ). Pushable s first terminals arcs upper lower d j st u x c b) (sym top-is)
+          (record {
             reads-some = R .reads-some;
+            places = λ h. omega arith;
             indexes = indexed;
             counts = skip-next;
             writes = λ k v g z. write-ready g z k v;
-          }
+          })
 
-      pub enters-depth : Enters ≡ verdict → d < 33024
-      enters-depth v = let h = ltb-true d (roomIn c) (enters-are t q after (length b) (writtenOf s p) accepting (ltb d (roomIn c)) facts v .0) in omega arith
-
-      pub accepts-depth : (k : ℕ) → Accepts k ≡ verdict → d < 33024
-      accepts-depth k v = let h = room₀ (enteredAt c d (frameBy st (getD first st 0) u x)) refl k v in omega arith
-
-      push-by : (v : Verdict) (g o : List ℕ) → v ≡ verdict → g ≡ pushedCells v c d (frameBy st (getD first st 0) u x) → o ≡ pushedOutput v s arcs g d b
-          → TurnIs task (step M store (length b) (held n d c)) c b (turnAs task m (d + 1) v) g o
+      push-by : (v : Verdict) (g o : List ℕ) → v ≡ verdict → g ≡ pushedCells v c d d (frameBy st (getD first st 0) u x) → o ≡ pushedOutput v s arcs g d b
+          → TurnIs task (step M store (length b) (held n d c)) c b (turnAs task m (suc d) v) g o
       push-by (Turned cause) g o v y z = stop-turn cause v g o y z
       push-by Enters g o v y z = enter-turn g y v o z
       push-by (Accepts k) g o v y z = find-turn g y k v o z
 
-      pub push-turn : (v : Verdict) (g o : List ℕ) (r : Turn) → v ≡ verdict → g ≡ pushedCells v c d (frameBy st (getD first st 0) u x) → o ≡ pushedOutput v s arcs g d b
-          → r ≡ turnAs task m (d + 1) v → TurnIs task (step M store (length b) (held n d c)) c b r g o
-      push-turn v g o r k y z e = subst (λ (j : Turn). TurnIs task (step M store (length b) (held n d c)) c b j g o) (sym e) (push-by v g o k y z)
+      pub push-turn : (v : Verdict) (g o : List ℕ) (r : Turn) → v ≡ verdict → g ≡ pushedCells v c d (a - 1) (frameBy st (getD first st 0) u x)
+          → o ≡ pushedOutput v s arcs g (a - 1) b → r ≡ turnAs task m a v → TurnIs task (step M store (length b) (held n d c)) c b r g o
+      push-turn v g o r y z w e =
+          subst (λ (i : Turn). TurnIs task (step M store (length b) (held n d c)) c b i g o) (sym (e ∙ ap (λ (i : ℕ). turnAs task m i v) after-is))
+          (push-by v g o y (z ∙ ap (λ (i : ℕ). pushedCells v c d i (frameBy st (getD first st 0) u x)) top-is) (w ∙ ap (λ (i : ℕ). pushedOutput v s arcs g i b) top-is))

@@ -58,6 +58,7 @@ pub record InBounds (first arcs stack : List ℕ) (d : ℕ) : Type 0 where
 -- what a step may look at: the top frame, or an initial state that is left
 pub record Top (first initials arcs : List ℕ) (n d : ℕ) (stack : List ℕ) : Type 0 where
   pub on-stack : d ≤ framesIn stack
+  pub few-frames : d ≤ 33024
   pub some-left : d ≡ 0 → n < length initials
   pub few-initials : length initials ≤ 256
   pub whole-arcs : Whole arcs

@@ -13,7 +13,7 @@ use Rattle.machine.specs.Frames.{Held, entering}
 use Rattle.machine.specs.Step as S
 use Rattle.machine.specs.Step.{Stepped, ends, moves, finds, refuses, triedOf}
 use Rattle.machine.specs.Transducer.{Passed, member, machine}
-use Rattle.machine.specs.Stack.{roomIn, lookAt, putAt}
+use Rattle.machine.specs.Stack.{framesIn, roomIn, lookAt, putAt}
 use Rattle.machine.specs.declared.Run.{Run}
 use Rattle.table.specs.Table.{Table}
 use Rattle.machine.specs.Query.{Query}
@@ -29,13 +29,13 @@ use Rattle.frames.specs.Sides.{passedOf, doneBy, writtenOf}
 use Rattle.frames.specs.Output.{Tried, sideBy, lettersBy}
 use Rattle.step.specs.Setting.{held}
 
--- the machine's move as the code tells it, where n initial states are started; the end is not told here
-abbrev pub moveAs : ℕ → S.Move (F.Frame Passed) → Move
-moveAs n S.over = Drops
-moveAs n S.drops = Drops
-moveAs n (S.begins g) = Pushes (n + 1) (g .state) (g .datum .up) (g .datum .low)
-moveAs n (S.skips f) = Skips
-moveAs n (S.pushes f g) = Pushes n (g .state) (g .datum .up) (g .datum .low)
+-- the machine's move as the code tells it, where n initial states are started and d frames are used; the end is not told here
+abbrev pub moveAs : ℕ → ℕ → S.Move (F.Frame Passed) → Move
+moveAs n d S.over = Drops
+moveAs n d S.drops = Drops
+moveAs n d (S.begins g) = Pushes (n + 1) (suc d) (g .state) (g .datum .up) (g .datum .low)
+moveAs n d (S.skips f) = Skips
+moveAs n d (S.pushes f g) = Pushes n (suc d) (g .state) (g .datum .up) (g .datum .low)
 
 -- 22, then acceptance, then 23, where the buffer has l letters and the output n
 abbrev pub verdictOf : Bool → Bool → ℕ → ℕ → Verdict
@@ -43,14 +43,18 @@ verdictOf false a l n = Turned StackFull
 verdictOf true false l n = Enters
 verdictOf true true l n = cond (ltb l n) (Turned OutputFull) (Accepts n)
 
--- the cells after a push: the arc counted as tried in the frame below, the new frame on top
-abbrev pub enteredAt : List ℕ → ℕ → F.Frame Passed → List ℕ
-enteredAt c zero f = putAt c 0 f
-enteredAt c (suc d) f = putAt (putAt c d (triedOf (lookAt c d))) (suc d) f
+-- the cells with an arc counted as tried in the top one of d frames, if there is one
+abbrev pub triedBelow : List ℕ → ℕ → List ℕ
+triedBelow c zero = c
+triedBelow c (suc d) = putAt c d (triedOf (lookAt c d))
+
+-- the cells after a push from d frames: that, and the new frame at k
+abbrev pub enteredAt : List ℕ → ℕ → ℕ → F.Frame Passed → List ℕ
+enteredAt c d k f = putAt (triedBelow c d) k f
 
 -- the run after a push
 abbrev pub afterPush : Table → Query → ℕ → ℕ → List ℕ → ℕ → Passed → Held (List ℕ)
-afterPush t q n d c s x = held n (suc d) (enteredAt c d (entering (machine t q) s x))
+afterPush t q n d c s x = held n (suc d) (enteredAt c d d (entering (machine t q) s x))
 
 -- what a push meets, by the cells and the buffer
 abbrev pub verdictBy : Setup → List ℕ → List ℕ → List ℕ → ℕ → ℕ → ℕ → ℕ → List ℕ → List ℕ → Verdict
@@ -70,24 +74,25 @@ findsBy Enters = false
 findsBy (Accepts n) = true
 
 -- the cells after it: a refusal leaves them as they were
-abbrev pub pushedCells : Verdict → List ℕ → ℕ → F.Frame Passed → List ℕ
-pushedCells (Turned cause) c d f = c
-pushedCells Enters c d f = enteredAt c d f
-pushedCells (Accepts n) c d f = enteredAt c d f
+abbrev pub pushedCells : Verdict → List ℕ → ℕ → ℕ → F.Frame Passed → List ℕ
+pushedCells (Turned cause) c d k f = c
+pushedCells Enters c d k f = enteredAt c d k f
+pushedCells (Accepts n) c d k f = enteredAt c d k f
 
--- the output after it, from the cells e that it left: "only Found writes output"
+-- the output after it, from the cells e that it left and the frames below the new one at k: "only Found writes output"
 abbrev pub pushedOutput : Verdict → Setup → List ℕ → List ℕ → ℕ → List ℕ → List ℕ
-pushedOutput (Turned cause) s arcs e d b = b
-pushedOutput Enters s arcs e d b = b
-pushedOutput (Accepts n) s arcs e d b = lettersBy s arcs e d ++ drop (length (lettersBy s arcs e d)) b
+pushedOutput (Turned cause) s arcs e k b = b
+pushedOutput Enters s arcs e k b = b
+pushedOutput (Accepts n) s arcs e k b = lettersBy s arcs e k ++ drop (length (lettersBy s arcs e k)) b
 
--- what a push may rely on where it finds room, and where its path accepts
-pub record Pushable (s : Setup) (first terminals arcs upper lower : List ℕ) (d state u l : ℕ) (c b : List ℕ) : Type 0 where
+-- what a push of frame number k may rely on where it finds room, and where its path accepts
+pub record Pushable (s : Setup) (first terminals arcs upper lower : List ℕ) (d k state u l : ℕ) (c b : List ℕ) : Type 0 where
   pub reads-some : (s .up || s .low) ≡ true
+  pub places : d < roomIn c → k < framesIn c
   pub indexes : d < roomIn c → state < length first
-  pub counts : (k : ℕ) → d ≡ suc k → lookAt c k .next ≤ 1024
-  pub writes : (k : ℕ) → Accepts k ≡ verdictBy s terminals upper lower d state u l c b → (e : List ℕ) → e ≡ enteredAt c d (frameBy state (getD first state 0) u l)
-      → Tried arcs (sideBy s) e d × ((k ≡ length (lettersBy s arcs e d)) × (k ≤ length b))
+  pub counts : (j : ℕ) → d ≡ suc j → lookAt c j .next ≤ 1024
+  pub writes : (m : ℕ) → Accepts m ≡ verdictBy s terminals upper lower d state u l c b → (e : List ℕ) → e ≡ enteredAt c d k (frameBy state (getD first state 0) u l)
+      → Tried arcs (sideBy s) e k × ((m ≡ length (lettersBy s arcs e k)) × (m ≤ length b))
 
 -- a refusal in a step is a state's
 abbrev pub StoppedBy : Refusal → Turn → Type 0

@@ -15,20 +15,21 @@ ghost use lib.Dec.{ltb};
 ghost use lib.ListN.{length, getD};
 ghost use Rattle.machine.specs.Step.{move, step};
 ghost use Rattle.machine.specs.Transducer.{member};
-ghost use Rattle.machine.specs.Stack.{framesIn, roomIn, lookAt, store};
+ghost use Rattle.machine.specs.Stack.{framesIn, roomIn, lookAt, putAt, store};
 ghost use Rattle.machine.specs.Reading.{heldOf};
 ghost use Rattle.machine.specs.Place.{Good};
 ghost use Rattle.frames.specs.Sides.{passedOf, doneBy, writtenOf};
 ghost use Rattle.frames.specs.Frames.{frameBy};
 ghost use Rattle.step.specs.Setting.{machineBy, held, Ready, Top};
-ghost use Rattle.step.specs.Stepping.{moveAs, verdictOf, enteredAt, verdictBy, passesBy, findsBy, Pushable, pushedCells, pushedOutput, runBy, TurnIs};
+ghost use Rattle.step.specs.Stepping.{moveAs, verdictOf, triedBelow, verdictBy, passesBy, findsBy, Pushable, pushedCells, pushedOutput, runBy, TurnIs};
 
-// What a step is to do: a frame dropped, an arc tried that does not fit, or a frame pushed.
+// What a step is to do: a frame dropped, an arc tried that does not fit, or a frame pushed, with the run's numbers after it.
 pub enum Move {
     Drops,
     Skips,
     Pushes {
         started: u32,
+        depth: u32,
         state: u16,
         up: u32,
         low: u32,
@@ -63,6 +64,14 @@ pub fn longer(x: u16) -> u32
     x as u32
 }
 
+// The depth after a push. Every frame below stays, also one with no arcs left: its letter is still needed for the output.
+fn above(depth: u32) -> u32
+    requires { ⌜ depth ≤ 33024 ⌝ }
+    ensures { λ r. ⌜ r ≡ suc depth ⌝ }
+{
+    depth + 1
+}
+
 // What the next step is to do.
 fn choose(
     setup: Setup,
@@ -77,12 +86,13 @@ fn choose(
 ) -> Move
     requires { ⌜ Top (now first) (now initials) (now arcs) started depth (now stack) ⌝ }
     requires { ⌜ (setup .up || setup .low) ≡ true ⌝ }
-    ensures { λ r. ⌜ r ≡ moveAs started (move (machineBy setup (now (initials .entry)) [] (now (arcs .entry)) (now (upper .entry)) (now (lower .entry))) store (held started depth (now (stack .entry)))) ⌝ }
+    ensures { λ r. ⌜ r ≡ moveAs started depth (move (machineBy setup (now (initials .entry)) [] (now (arcs .entry)) (now (upper .entry)) (now (lower .entry))) store (held started depth (now (stack .entry)))) ⌝ }
 {
     if depth == 0 {
         let i = started as usize;
         return Move::Pushes {
             started: started + 1,
+            depth: 1,
             state: initials[i],
             up: 0,
             low: 0,
@@ -91,13 +101,15 @@ fn choose(
     let f = cells::look(stack, depth as usize - 1);
     let state = f.state as usize;
     let next = f.next as usize;
-    if wide(first[state + 1]) <= next {
+    let end = wide(first[state + 1]);
+    if end <= next {
         return Move::Drops;
     }
     match sides::follow(setup, arcs, next, upper, lower, f.up, f.low) {
         Fit::Fails => Move::Skips,
         Fit::Fits(up, low) => Move::Pushes {
             started,
+            depth: above(depth),
             state: arcs[4 * next + 3],
             up,
             low,
@@ -166,16 +178,22 @@ fn finds(met: Verdict) -> bool
     }
 }
 
-// A frame pushed: the arc that led to it is counted as tried in the frame below.
-fn enter(first: &[u16], depth: u32, state: u16, up: u32, low: u32, stack: &mut [u32])
-    requires { ⌜ (depth < framesIn (now stack)) × (state < length (now first)) ⌝ }
+// The arc that leads to a push, counted as tried in the frame that it leaves. At depth 0 there is none.
+fn count_arc(depth: u32, stack: &mut [u32])
+    requires { ⌜ depth ≤ framesIn (now stack) ⌝ }
     requires { ⌜ ((d : ℕ) → depth ≡ suc d → lookAt (now stack) d .next ≤ 1024) ⌝ }
-    ensures { λ _. ⌜ now (stack .exit) ≡ enteredAt (now (stack .entry)) depth (frameBy state (getD (now (first .entry)) state 0) up low) ⌝ }
+    ensures { λ _. ⌜ now (stack .exit) ≡ triedBelow (now (stack .entry)) depth ⌝ }
 {
-    let at = depth as usize;
     if depth != 0 {
-        cells::count_tried(stack, at - 1);
+        cells::count_tried(stack, depth as usize - 1);
     }
+}
+
+// A new frame, put at its place.
+fn enter(first: &[u16], top: u32, state: u16, up: u32, low: u32, stack: &mut [u32])
+    requires { ⌜ (top < framesIn (now stack)) × (state < length (now first)) ⌝ }
+    ensures { λ _. ⌜ now (stack .exit) ≡ putAt (now (stack .entry)) top (frameBy state (getD (now (first .entry)) state 0) up low) ⌝ }
+{
     let i = state as usize;
     let f = Frame {
         state: longer(state),
@@ -183,10 +201,11 @@ fn enter(first: &[u16], depth: u32, state: u16, up: u32, low: u32, stack: &mut [
         up,
         low,
     };
-    cells::put(stack, at, f);
+    cells::put(stack, top as usize, f);
 }
 
-// A push: judged first; then, where it is made, the frame is entered, and on an accepting path the output written.
+// A push of frame number `top`: judged first; then, where it is made, its arc is counted and the frame put, and on an accepting path
+// the output is written.
 fn push(
     setup: Setup,
     first: &[u16],
@@ -195,16 +214,17 @@ fn push(
     upper: &[u8],
     lower: &[u8],
     depth: u32,
+    top: u32,
     state: u16,
     up: u32,
     low: u32,
     stack: &mut [u32],
     output: &mut [u8],
 ) -> Verdict
-    requires { ⌜ Pushable setup (now first) (now terminals) (now arcs) (now upper) (now lower) depth state up low (now stack) (now output) ⌝ }
+    requires { ⌜ Pushable setup (now first) (now terminals) (now arcs) (now upper) (now lower) depth top state up low (now stack) (now output) ⌝ }
     ensures { λ r. ⌜ (r ≡ verdictBy setup (now (terminals .entry)) (now (upper .entry)) (now (lower .entry)) depth state up low (now (stack .entry)) (now (output .entry)))
-        × (now (stack .exit) ≡ pushedCells r (now (stack .entry)) depth (frameBy state (getD (now (first .entry)) state 0) up low))
-        × (now (output .exit) ≡ pushedOutput r setup (now (arcs .entry)) (now (stack .exit)) depth (now (output .entry))) ⌝ }
+        × (now (stack .exit) ≡ pushedCells r (now (stack .entry)) depth top (frameBy state (getD (now (first .entry)) state 0) up low))
+        × (now (output .exit) ≡ pushedOutput r setup (now (arcs .entry)) (now (stack .exit)) top (now (output .entry))) ⌝ }
 {
     let space = output.len();
     let met = judge(
@@ -220,11 +240,12 @@ fn push(
         space,
     );
     if passes(met) {
-        enter(first, depth, state, up, low, stack);
+        count_arc(depth, stack);
+        enter(first, top, state, up, low, stack);
     }
     if finds(met) {
         let length = sides::written(setup, up, low);
-        output::write(setup, arcs, stack, depth as usize, length, output);
+        output::write(setup, arcs, stack, top as usize, length, output);
     }
     met
 }
@@ -268,6 +289,7 @@ pub fn step(
         }
         Move::Pushes {
             started,
+            depth: after,
             state,
             up,
             low,
@@ -280,6 +302,7 @@ pub fn step(
                 upper,
                 lower,
                 depth,
+                after - 1,
                 state,
                 up,
                 low,
@@ -287,8 +310,8 @@ pub fn step(
                 output,
             ) {
                 Verdict::Turned(cause) => Turn::Stopped(cause),
-                Verdict::Enters => Turn::Moved(at(run, started, depth + 1)),
-                Verdict::Accepts(length) => Turn::Finds(at(run, started, depth + 1), length),
+                Verdict::Enters => Turn::Moved(at(run, started, after)),
+                Verdict::Accepts(length) => Turn::Finds(at(run, started, after), length),
             }
         }
     }

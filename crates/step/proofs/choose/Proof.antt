@@ -7,14 +7,14 @@ use Rattle.step.proofs.Moves.{begins-is, state-indexed, drops-by, small
 use Rattle.step.proofs.choose.Statement.{statement}
 use Rattle.step.proofs.choose.Tie as tie
 
-add-t17 : tie.Need-add-t17
-add-t17 c = let h = c .before .before .before .before .before .before .before .pre .0 .some-left (c .if1 .taken) in omega (arith, c .before .before .before .before .before .before .before .pre .0 .few-initials)
+add-t18 : tie.Need-add-t18
+add-t18 c = let h = c .before .before .before .before .before .before .before .pre .0 .some-left (c .if1 .taken) in omega (arith, c .before .before .before .before .before .before .before .pre .0 .few-initials)
 
-mul-t18 : tie.Need-mul-t18
-mul-t18 c = search needs
+mul-t19 : tie.Need-mul-t19
+mul-t19 c = search needs
 
-shared-slice-read-t20 : tie.Need-shared-slice-read-t20
-shared-slice-read-t20 c = c .before .before .before .before .before .before .before .before .pre .0 .some-left (c .before .if1 .taken)
+shared-slice-read-t21 : tie.Need-shared-slice-read-t21
+shared-slice-read-t21 c = c .before .before .before .before .before .before .before .before .pre .0 .some-left (c .before .if1 .taken)
 
 returns : tie.Need-returns
 returns c = begins-is (c .before .before .before .before .before .before .before .before .args .setup) (now (c .before .before .before .before .before .before .before .before .args .initials)) (now (c .before .before .before .before .before .before .before .before .args .arcs)) (now (c .before .before .before .before .before .before .before .before .args .upper)) (now (c .before .before .before .before .before .before .before .before .args .lower)) (c .before .before .before .before .before .before .before .before .args .started) (now (c .before .before .before .before .before .before .before .before .args .stack)) (c .before .before .before .before .before .before .before .before .args .depth) (c .before .if1 .taken) (c .before .before .before .before .before .before .before .before .pre .0 .some-left (c .before .if1 .taken))
@@ -55,31 +55,34 @@ enum-told c = search needs
 enum-known-up : tie.Need-enum-known-up
 enum-known-up c = search needs
 
-mul-t28 : tie.Need-mul-t28
-mul-t28 c = search needs
+above-requires : tie.Need-above-requires
+above-requires c κs = c .before .before .before .before .before .before .before .before .before .before .before .before .before .before .before .before .before .pre .0 .few-frames
 
-add-t29 : tie.Need-add-t29
-add-t29 c = search needs
+mul-t29 : tie.Need-mul-t29
+mul-t29 c = search needs
 
-mul-t30 : tie.Need-mul-t30
-mul-t30 c = search needs
+add-t30 : tie.Need-add-t30
+add-t30 c = search needs
 
-shared-slice-read-t32 : tie.Need-shared-slice-read-t32
-shared-slice-read-t32 c = arc-in (c .before .before .before .before .before .before .before .before .before .before .before .before .before .before .before .before .before .before .args .setup) (now (c .before .before .before .before .before .before .before .before .before .before .before .before .before .before .before .before .before .before .args .initials)) (now (c .before .before .before .before .before .before .before .before .before .before .before .before .before .before .before .before .before .before .args .arcs)) (now (c .before .before .before .before .before .before .before .before .before .before .before .before .before .before .before .before .before .before .args .upper)) (now (c .before .before .before .before .before .before .before .before .before .before .before .before .before .before .before .before .before .before .args .lower)) (c .before .before .before .before .before .before .before .before .before .before .before .before .before .before .before .before .before .before .args .started) (now (c .before .before .before .before .before .before .before .before .before .before .before .before .before .before .before .before .before .before .args .stack)) (now (c .before .before .before .before .before .before .before .before .before .before .before .before .before .before .before .before .before .before .args .first)) (c .before .before .before .before .before .before .before .before .before .before .before .before .before .before .before .before .before .before .args .depth) (c .before .before .before .before .before .before .before .before .before .before .before .before .before .before .before .before .before .before .pre .0) (c .before .before .before .before .before .before .before .before .before .before .before .if1 .left) (c .before .before .before .before .before .before .before .before .before .before .look .result) (c .before .before .before .before .before .before .before .before .before .before .look .ensures) (subst (λ (x : ℕ). c .before .before .before .before .before .before .before .before .before .before .look .result .next < x) (c .before .before .before .before .before .before .wide .ensures) (c .before .before .before .before .before .if2 .left))
+mul-t31 : tie.Need-mul-t31
+mul-t31 c = search needs
+
+shared-slice-read-t33 : tie.Need-shared-slice-read-t33
+shared-slice-read-t33 c = arc-in (c .before .before .before .before .before .before .before .before .before .before .before .before .before .before .before .before .before .before .before .args .setup) (now (c .before .before .before .before .before .before .before .before .before .before .before .before .before .before .before .before .before .before .before .args .initials)) (now (c .before .before .before .before .before .before .before .before .before .before .before .before .before .before .before .before .before .before .before .args .arcs)) (now (c .before .before .before .before .before .before .before .before .before .before .before .before .before .before .before .before .before .before .before .args .upper)) (now (c .before .before .before .before .before .before .before .before .before .before .before .before .before .before .before .before .before .before .before .args .lower)) (c .before .before .before .before .before .before .before .before .before .before .before .before .before .before .before .before .before .before .before .args .started) (now (c .before .before .before .before .before .before .before .before .before .before .before .before .before .before .before .before .before .before .before .args .stack)) (now (c .before .before .before .before .before .before .before .before .before .before .before .before .before .before .before .before .before .before .before .args .first)) (c .before .before .before .before .before .before .before .before .before .before .before .before .before .before .before .before .before .before .before .args .depth) (c .before .before .before .before .before .before .before .before .before .before .before .before .before .before .before .before .before .before .before .pre .0) (c .before .before .before .before .before .before .before .before .before .before .before .before .if1 .left) (c .before .before .before .before .before .before .before .before .before .before .before .look .result) (c .before .before .before .before .before .before .before .before .before .before .before .look .ensures) (subst (λ (x : ℕ). c .before .before .before .before .before .before .before .before .before .before .before .look .result .next < x) (c .before .before .before .before .before .before .before .wide .ensures) (c .before .before .before .before .before .before .if2 .left))
 
 returns-3 : tie.Need-returns-3
 returns-3 c = skips-by (c .before .before .before .before .before .before .before .before .before .before .before .before .before .before .before .before .args .setup) (now (c .before .before .before .before .before .before .before .before .before .before .before .before .before .before .before .before .args .initials)) (now (c .before .before .before .before .before .before .before .before .before .before .before .before .before .before .before .before .args .arcs)) (now (c .before .before .before .before .before .before .before .before .before .before .before .before .before .before .before .before .args .upper)) (now (c .before .before .before .before .before .before .before .before .before .before .before .before .before .before .before .before .args .lower)) (c .before .before .before .before .before .before .before .before .before .before .before .before .before .before .before .before .args .started) (now (c .before .before .before .before .before .before .before .before .before .before .before .before .before .before .before .before .args .stack)) (now (c .before .before .before .before .before .before .before .before .before .before .before .before .before .before .before .before .args .first)) (c .before .before .before .before .before .before .before .before .before .before .before .before .before .before .before .before .args .depth) (c .before .before .before .before .before .before .before .before .before .before .before .before .before .before .before .before .pre .0) (c .before .before .before .before .before .before .before .before .before .if1 .left) (c .before .before .before .before .before .before .before .before .look .result) (c .before .before .before .before .before .before .before .before .look .ensures) (subst (λ (x : ℕ). c .before .before .before .before .before .before .before .before .look .result .next < x) (c .before .before .before .before .wide .ensures) (c .before .before .before .if2 .left)) (c .before .before .before .before .before .before .before .before .before .before .before .before .before .before .before .before .pre .1) (sym (c .enum-told .given .1) ∙ c .before .before .follow .ensures)
 
 returns-4 : tie.Need-returns-4
-returns-4 c = pushes-by (c .before .before .before .before .before .before .before .before .before .before .before .before .before .before .before .before .before .before .args .setup) (now (c .before .before .before .before .before .before .before .before .before .before .before .before .before .before .before .before .before .before .args .initials)) (now (c .before .before .before .before .before .before .before .before .before .before .before .before .before .before .before .before .before .before .args .arcs)) (now (c .before .before .before .before .before .before .before .before .before .before .before .before .before .before .before .before .before .before .args .upper)) (now (c .before .before .before .before .before .before .before .before .before .before .before .before .before .before .before .before .before .before .args .lower)) (c .before .before .before .before .before .before .before .before .before .before .before .before .before .before .before .before .before .before .args .started) (now (c .before .before .before .before .before .before .before .before .before .before .before .before .before .before .before .before .before .before .args .stack)) (now (c .before .before .before .before .before .before .before .before .before .before .before .before .before .before .before .before .before .before .args .first)) (c .before .before .before .before .before .before .before .before .before .before .before .before .before .before .before .before .before .before .args .depth) (c .before .before .before .before .before .before .before .before .before .before .before .before .before .before .before .before .before .before .pre .0) (c .before .before .before .before .before .before .before .before .before .before .before .if1 .left) (c .before .before .before .before .before .before .before .before .before .before .look .result) (c .before .before .before .before .before .before .before .before .before .before .look .ensures) (subst (λ (x : ℕ). c .before .before .before .before .before .before .before .before .before .before .look .result .next < x) (c .before .before .before .before .before .before .wide .ensures) (c .before .before .before .before .before .if2 .left)) (c .before .before .before .before .before .before .before .before .before .before .before .before .before .before .before .before .before .before .pre .1) _ _ (sym (c .before .before .up .given .1) ∙ c .before .before .before .before .follow .ensures)
+returns-4 c = pushes-by (c .before .before .before .before .before .before .before .before .before .before .before .before .before .before .before .before .before .before .before .args .setup) (now (c .before .before .before .before .before .before .before .before .before .before .before .before .before .before .before .before .before .before .before .args .initials)) (now (c .before .before .before .before .before .before .before .before .before .before .before .before .before .before .before .before .before .before .before .args .arcs)) (now (c .before .before .before .before .before .before .before .before .before .before .before .before .before .before .before .before .before .before .before .args .upper)) (now (c .before .before .before .before .before .before .before .before .before .before .before .before .before .before .before .before .before .before .before .args .lower)) (c .before .before .before .before .before .before .before .before .before .before .before .before .before .before .before .before .before .before .before .args .started) (now (c .before .before .before .before .before .before .before .before .before .before .before .before .before .before .before .before .before .before .before .args .stack)) (now (c .before .before .before .before .before .before .before .before .before .before .before .before .before .before .before .before .before .before .before .args .first)) (c .before .before .before .before .before .before .before .before .before .before .before .before .before .before .before .before .before .before .before .args .depth) (c .before .before .before .before .before .before .before .before .before .before .before .before .before .before .before .before .before .before .before .pre .0) (c .before .before .before .before .before .before .before .before .before .before .before .before .if1 .left) (c .before .before .before .before .before .before .before .before .before .before .before .look .result) (c .before .before .before .before .before .before .before .before .before .before .before .look .ensures) (subst (λ (x : ℕ). c .before .before .before .before .before .before .before .before .before .before .before .look .result .next < x) (c .before .before .before .before .before .before .before .wide .ensures) (c .before .before .before .before .before .before .if2 .left)) (c .before .before .before .before .before .before .before .before .before .before .before .before .before .before .before .before .before .before .before .pre .1) _ _ _ (c .before .above .ensures) (sym (c .before .before .before .up .given .1) ∙ c .before .before .before .before .before .follow .ensures)
 
 pub choose-spec : {M : Type 1} → statement M
 choose-spec =
     tie.close
     (tie.spec
-    add-t17
-    mul-t18
-    shared-slice-read-t20
+    add-t18
+    mul-t19
+    shared-slice-read-t21
     returns
     sub-look
     look-requires
@@ -93,9 +96,10 @@ choose-spec =
     follow-requires
     enum-told
     enum-known-up
-    mul-t28
-    add-t29
-    mul-t30
-    shared-slice-read-t32
+    above-requires
+    mul-t29
+    add-t30
+    mul-t31
+    shared-slice-read-t33
     returns-3
     returns-4)

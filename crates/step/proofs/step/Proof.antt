@@ -15,7 +15,7 @@ use Rattle.step.specs.Setting.{machineBy}
 use Rattle.step.specs.Stepping.{TurnIs}
 use Rattle.machine.specs.declared.Run.{Run}
 use Rattle.step.proofs.Bounds.{top-of}
-use Rattle.step.proofs.Turns.{finds-ap, drop-turn, skip-turn, drop-deep, skip-deep, skip-next, pushable, enters-depth, accepts-depth, push-turn, turnAs}
+use Rattle.step.proofs.Turns.{finds-ap, drop-turn, skip-turn, drop-deep, skip-deep, skip-next, after-some, pushable, push-turn, turnAs}
 use Rattle.step.proofs.step.Statement.{statement}
 use Rattle.step.proofs.step.Tie as tie
 use Rattle.step.proofs.step.Reads as reads
@@ -52,8 +52,11 @@ count-tried-requires c κs = let a = c .before .before .before .before .before .
 enum-known-started : tie.Need-enum-known-started
 enum-known-started c = search needs
 
+sub-push : tie.Need-sub-push
+sub-push c = let a = c .before .before .before .before .before .before .before .before .before .before .before .before .before .args in let p = c .before .before .before .before .before .before .before .before .before .before .before .before .before .pre in after-some (a .setup) (now (a .first)) (now (a .initials)) (now (a .terminals)) (now (a .arcs)) (now (a .upper)) (now (a .lower)) (p .0) (a .run .task) (a .run .started) (a .run .depth) (now (a .stack)) (p .1 .0) (p .1 .1) (now (a .output)) _ _ _ _ _ (sym (c .before .started .given .1) ∙ c .before .before .before .choose .ensures)
+
 push-requires : tie.Need-push-requires
-push-requires c κs = let a = c .before .before .before .before .before .before .before .before .before .before .before .before .before .before .before .args in let p = c .before .before .before .before .before .before .before .before .before .before .before .before .before .before .before .pre in pushable (a .setup) (now (a .first)) (now (a .initials)) (now (a .terminals)) (now (a .arcs)) (now (a .upper)) (now (a .lower)) (p .0) (a .run .task) (a .run .started) (a .run .depth) (now (a .stack)) (p .1 .0) (p .1 .1) (now (a .output)) _ _ _ _ (sym (c .before .before .before .started .given .1) ∙ c .before .before .before .before .before .choose .ensures)
+push-requires c κs = let a = c .before .before .before .before .before .before .before .before .before .before .before .before .before .before .before .args in let p = c .before .before .before .before .before .before .before .before .before .before .before .before .before .before .before .pre in pushable (a .setup) (now (a .first)) (now (a .initials)) (now (a .terminals)) (now (a .arcs)) (now (a .upper)) (now (a .lower)) (p .0) (a .run .task) (a .run .started) (a .run .depth) (now (a .stack)) (p .1 .0) (p .1 .1) (now (a .output)) _ _ _ _ _ (sym (c .before .before .before .started .given .1) ∙ c .before .before .before .before .before .choose .ensures)
 
 enum-known-cause : tie.Need-enum-known-cause
 enum-known-cause c = search needs
@@ -61,17 +64,11 @@ enum-known-cause c = search needs
 enum-told-3 : tie.Need-enum-told-3
 enum-told-3 c = search needs
 
-add-at : tie.Need-add-at
-add-at c = let a = c .before .before .before .before .before .before .before .before .before .before .before .before .before .before .before .before .before .before .before .before .before .before .args in let p = c .before .before .before .before .before .before .before .before .before .before .before .before .before .before .before .before .before .before .before .before .before .before .pre in omega (arith, enters-depth (a .setup) (now (a .first)) (now (a .initials)) (now (a .terminals)) (now (a .arcs)) (now (a .upper)) (now (a .lower)) (p .0) (a .run .task) (a .run .started) (a .run .depth) (now (a .stack)) (p .1 .0) (p .1 .1) (now (a .output)) _ _ _ _ (sym (c .before .before .before .before .before .before .before .before .before .before .started .given .1) ∙ c .before .before .before .before .before .before .before .before .before .before .before .before .choose .ensures) (sym (c .enum-told3 .given .1) ∙ c .before .before .before .before .before .before .push .ensures .0))
-
 at-requires-2 : tie.Need-at-requires-2
 at-requires-2 c κs = search needs
 
 enum-known-length : tie.Need-enum-known-length
 enum-known-length c = search needs
-
-add-at-2 : tie.Need-add-at-2
-add-at-2 c = let a = c .before .before .before .before .before .before .before .before .before .before .before .before .before .before .before .before .before .before .before .before .before .before .before .args in let p = c .before .before .before .before .before .before .before .before .before .before .before .before .before .before .before .before .before .before .before .before .before .before .before .pre in omega (arith, accepts-depth (a .setup) (now (a .first)) (now (a .initials)) (now (a .terminals)) (now (a .arcs)) (now (a .upper)) (now (a .lower)) (p .0) (a .run .task) (a .run .started) (a .run .depth) (now (a .stack)) (p .1 .0) (p .1 .1) (now (a .output)) _ _ _ _ (sym (c .before .before .before .before .before .before .before .before .before .before .before .started .given .1) ∙ c .before .before .before .before .before .before .before .before .before .before .before .before .before .choose .ensures) _ (sym (c .before .length .given .1) ∙ c .before .before .before .before .before .before .before .push .ensures .0))
 
 at-requires-3 : tie.Need-at-requires-3
 at-requires-3 c κs = search needs
@@ -95,7 +92,7 @@ same-length-4 : tie.Need-same-length-4
 same-length-4 c = search needs
 
 returns-3 : tie.Need-returns-3
-returns-3 c = let a = c .before .before .before .before .before .before .before .before .before .before .before .before .before .before .before .before .before .before .before .before .before .before .before .args in let p = c .before .before .before .before .before .before .before .before .before .before .before .before .before .before .before .before .before .before .before .before .before .before .before .pre in push-turn (a .setup) (now (a .first)) (now (a .initials)) (now (a .terminals)) (now (a .arcs)) (now (a .upper)) (now (a .lower)) (p .0) (a .run .task) (a .run .started) (a .run .depth) (now (a .stack)) (p .1 .0) (p .1 .1) (now (a .output)) _ _ _ _ (sym (c .before .before .before .before .before .before .before .before .before .before .before .started .given .1) ∙ c .before .before .before .before .before .before .before .before .before .before .before .before .before .choose .ensures) _ _ _ _ (c .before .before .before .before .before .before .before .push .ensures .0) (c .before .before .before .before .before .before .before .push .ensures .1) (c .before .before .before .before .before .before .before .push .ensures .2) (ap (turnAs _ _ _) (sym (c .before .cause .given .1)))
+returns-3 c = let a = c .before .before .before .before .before .before .before .before .before .before .before .before .before .before .before .before .before .before .before .before .before .before .before .args in let p = c .before .before .before .before .before .before .before .before .before .before .before .before .before .before .before .before .before .before .before .before .before .before .before .pre in push-turn (a .setup) (now (a .first)) (now (a .initials)) (now (a .terminals)) (now (a .arcs)) (now (a .upper)) (now (a .lower)) (p .0) (a .run .task) (a .run .started) (a .run .depth) (now (a .stack)) (p .1 .0) (p .1 .1) (now (a .output)) _ _ _ _ _ (sym (c .before .before .before .before .before .before .before .before .before .before .before .started .given .1) ∙ c .before .before .before .before .before .before .before .before .before .before .before .before .before .choose .ensures) _ _ _ _ (c .before .before .before .before .before .before .before .push .ensures .0) (c .before .before .before .before .before .before .before .push .ensures .1) (c .before .before .before .before .before .before .before .push .ensures .2) (ap (turnAs _ _ _) (sym (c .before .cause .given .1)))
 
 same-length-5 : tie.Need-same-length-5
 same-length-5 c = search needs
@@ -104,7 +101,7 @@ same-length-6 : tie.Need-same-length-6
 same-length-6 c = search needs
 
 returns-4 : tie.Need-returns-4
-returns-4 c = let a = c .before .before .before .before .before .before .before .before .before .before .before .before .before .before .before .before .before .before .before .before .before .before .before .args in let p = c .before .before .before .before .before .before .before .before .before .before .before .before .before .before .before .before .before .before .before .before .before .before .before .pre in push-turn (a .setup) (now (a .first)) (now (a .initials)) (now (a .terminals)) (now (a .arcs)) (now (a .upper)) (now (a .lower)) (p .0) (a .run .task) (a .run .started) (a .run .depth) (now (a .stack)) (p .1 .0) (p .1 .1) (now (a .output)) _ _ _ _ (sym (c .before .before .before .before .before .before .before .before .before .before .before .started .given .1) ∙ c .before .before .before .before .before .before .before .before .before .before .before .before .before .choose .ensures) _ _ _ _ (c .before .before .before .before .before .before .before .push .ensures .0) (c .before .before .before .before .before .before .before .push .ensures .1) (c .before .before .before .before .before .before .before .push .ensures .2) (ap Moved (c .at2 .ensures) ∙ ap (turnAs _ _ _) (sym (c .before .enum-told3 .given .1)))
+returns-4 c = let a = c .before .before .before .before .before .before .before .before .before .before .before .before .before .before .before .before .before .before .before .before .before .before .before .args in let p = c .before .before .before .before .before .before .before .before .before .before .before .before .before .before .before .before .before .before .before .before .before .before .before .pre in push-turn (a .setup) (now (a .first)) (now (a .initials)) (now (a .terminals)) (now (a .arcs)) (now (a .upper)) (now (a .lower)) (p .0) (a .run .task) (a .run .started) (a .run .depth) (now (a .stack)) (p .1 .0) (p .1 .1) (now (a .output)) _ _ _ _ _ (sym (c .before .before .before .before .before .before .before .before .before .before .before .started .given .1) ∙ c .before .before .before .before .before .before .before .before .before .before .before .before .before .choose .ensures) _ _ _ _ (c .before .before .before .before .before .before .before .push .ensures .0) (c .before .before .before .before .before .before .before .push .ensures .1) (c .before .before .before .before .before .before .before .push .ensures .2) (ap Moved (c .at2 .ensures) ∙ ap (turnAs _ _ _) (sym (c .before .enum-told3 .given .1)))
 
 same-length-7 : tie.Need-same-length-7
 same-length-7 c = search needs
@@ -113,7 +110,7 @@ same-length-8 : tie.Need-same-length-8
 same-length-8 c = search needs
 
 returns-5 : tie.Need-returns-5
-returns-5 c = let a = c .before .before .before .before .before .before .before .before .before .before .before .before .before .before .before .before .before .before .before .before .before .before .before .before .args in let p = c .before .before .before .before .before .before .before .before .before .before .before .before .before .before .before .before .before .before .before .before .before .before .before .before .pre in push-turn (a .setup) (now (a .first)) (now (a .initials)) (now (a .terminals)) (now (a .arcs)) (now (a .upper)) (now (a .lower)) (p .0) (a .run .task) (a .run .started) (a .run .depth) (now (a .stack)) (p .1 .0) (p .1 .1) (now (a .output)) _ _ _ _ (sym (c .before .before .before .before .before .before .before .before .before .before .before .before .started .given .1) ∙ c .before .before .before .before .before .before .before .before .before .before .before .before .before .before .choose .ensures) _ _ _ _ (c .before .before .before .before .before .before .before .before .push .ensures .0) (c .before .before .before .before .before .before .before .before .push .ensures .1) (c .before .before .before .before .before .before .before .before .push .ensures .2) (finds-ap _ (c .at3 .ensures) ∙ ap (turnAs _ _ _) (sym (c .before .before .length .given .1)))
+returns-5 c = let a = c .before .before .before .before .before .before .before .before .before .before .before .before .before .before .before .before .before .before .before .before .before .before .before .before .args in let p = c .before .before .before .before .before .before .before .before .before .before .before .before .before .before .before .before .before .before .before .before .before .before .before .before .pre in push-turn (a .setup) (now (a .first)) (now (a .initials)) (now (a .terminals)) (now (a .arcs)) (now (a .upper)) (now (a .lower)) (p .0) (a .run .task) (a .run .started) (a .run .depth) (now (a .stack)) (p .1 .0) (p .1 .1) (now (a .output)) _ _ _ _ _ (sym (c .before .before .before .before .before .before .before .before .before .before .before .before .started .given .1) ∙ c .before .before .before .before .before .before .before .before .before .before .before .before .before .before .choose .ensures) _ _ _ _ (c .before .before .before .before .before .before .before .before .push .ensures .0) (c .before .before .before .before .before .before .before .before .push .ensures .1) (c .before .before .before .before .before .before .before .before .push .ensures .2) (finds-ap _ (c .at3 .ensures) ∙ ap (turnAs _ _ _) (sym (c .before .before .length .given .1)))
 
 pub step-spec : {M : Type 1} → statement M
 step-spec =
@@ -128,13 +125,12 @@ step-spec =
     sub-count-tried
     count-tried-requires
     enum-known-started
+    sub-push
     push-requires
     enum-known-cause
     enum-told-3
-    add-at
     at-requires-2
     enum-known-length
-    add-at-2
     at-requires-3
     same-length
     returns
