@@ -44,5 +44,8 @@ fn idle_cycles_of_the_wrong_task_are_noticed() {
 
 #[test]
 fn a_frame_dropped_too_early_is_noticed() {
-    found(&Twin::<{ fault::DROPPED_EARLY }>, "searches, seed");
+    found(
+        &Twin::<{ fault::DROPPED_EARLY }>,
+        "steps: 6, length: 0 }, expected Answer { kind: 1, number: 0, steps: 6, length: 1 }",
+    );
 }

@@ -4,6 +4,7 @@ use crate::answer::{Answer, Run};
 use crate::engine::Engine;
 use crate::lent::Lent;
 use crate::model::Model;
+use std::fmt;
 
 /// What a call is handed; afterwards, what it left.
 #[derive(Clone, Debug)]
@@ -15,6 +16,25 @@ pub struct Call {
     pub stack: Vec<u32>,
     pub allowance: u32,
     pub output: Vec<u8>,
+}
+
+/// For a report: stack and output by their lengths, which with the seed and the case are enough.
+impl fmt::Display for Call {
+    fn fmt(&self, f: &mut fmt::Formatter) -> fmt::Result {
+        let Call {
+            table,
+            upper,
+            lower,
+            run,
+            stack,
+            allowance,
+            output,
+        } = self;
+        let (cells, letters) = (stack.len(), output.len());
+        write!(f, "table {table:?}, words {upper:?} and {lower:?}")?;
+        write!(f, ", {run:?}, {cells} cells of stack")?;
+        write!(f, ", allowance {allowance}, {letters} letters of output")
+    }
 }
 
 /// Makes a call with the model, with the engine, and compares. The call holds then what was left.
@@ -30,7 +50,7 @@ pub fn compare(engine: &impl Engine, call: &mut Call) -> Result<Answer, String> 
         &mut call.output,
     );
     check(engine, &before, call, expected)
-        .map_err(|difference| format!("{difference}, in {before:?}"))?;
+        .map_err(|difference| format!("{difference}, in a call on {before}"))?;
     Ok(expected)
 }
 
