@@ -24,11 +24,13 @@ use Rattle.frames.specs.declared.Setup.{Setup}
 use Rattle.frames.specs.declared.Fit.{Fit}
 use Rattle.frames.specs.declared.Fit.the-variants.{Fits, Fails}
 use Rattle.step.specs.declared.Move.the-variants.{Drops, Skips, Pushes}
+use Rattle.step.specs.declared.Verdict.{Verdict}
+use Rattle.step.specs.declared.Verdict.the-variants.{Turned, Enters, Accepts}
 use Rattle.frames.specs.declared.Frame.{Frame}
 use Rattle.frames.specs.Frames.{frameOf}
 use Rattle.frames.specs.Sides.{fitOf, arcOf, passedOf, followBy}
 use Rattle.step.specs.Setting.{taskBy, queryBy, machineBy, held, InBounds, Top}
-use Rattle.step.specs.Stepping.{moveAs, triedBelow, enteredAt}
+use Rattle.step.specs.Stepping.{moveAs, refusesBy, triedBelow, countedCells, enteredAt}
 
 pub pred-suc : (k : ℕ) → (k ≡ 0 → ⊥) → k ≡ suc (k - 1)
 pred-suc zero y = absurd (y refl)
@@ -165,6 +167,16 @@ module _ (c : List ℕ) (d : ℕ) where
 
   pub tried-one : (k : ℕ) → d ≡ suc k → putAt c k (triedOf (lookAt c k)) ≡ triedBelow c d
   tried-one k e = ap (triedBelow c) (sym e)
+
+  pub refused-counts : (v : Verdict) → refusesBy v ≡ true → c ≡ countedCells v c d
+  refused-counts (Turned cause) h = refl
+  refused-counts Enters h = absurd (let y : _≡_ {A = ℕ} 0 1 = cc in omega arith)
+  refused-counts (Accepts n) h = absurd (let y : _≡_ {A = ℕ} 0 1 = cc in omega arith)
+
+  pub made-counts : (v : Verdict) → refusesBy v ≡ false → triedBelow c d ≡ countedCells v c d
+  made-counts (Turned cause) h = absurd (let y : _≡_ {A = ℕ} 0 1 = cc in omega arith)
+  made-counts Enters h = refl
+  made-counts (Accepts n) h = refl
 
   pub tried-length : length (triedBelow c d) ≡ length c
   tried-length = go d

@@ -10,7 +10,7 @@ use borrow.Author.Tests.{ltb-true, ltb-false, lt-ltb, le-ltb}
 use Rattle.table.specs.declared.StateCause.the-variants.{StackFull, OutputFull}
 use Rattle.machine.specs.Frames as F
 use Rattle.machine.specs.Transducer.{Passed, member}
-use Rattle.machine.specs.Stack.{framesIn, roomIn, lookAt, putAt}
+use Rattle.machine.specs.Stack.{framesIn, roomIn, putAt}
 use Rattle.frames.specs.declared.Setup.{Setup}
 use Rattle.frames.specs.Frames.{frameBy}
 use Rattle.frames.specs.Sides.{passedOf, doneBy, writtenOf}
@@ -18,7 +18,7 @@ use Rattle.frames.specs.Output.{Tried, sideBy, lettersBy}
 use Rattle.step.specs.declared.Verdict.{Verdict}
 use Rattle.step.specs.declared.Verdict.the-variants.{Turned, Enters, Accepts}
 use Rattle.step.proofs.Moves.{tried-length, entered-length}
-use Rattle.step.specs.Stepping.{verdictOf, triedBelow, verdictBy, passesBy, findsBy, pushedCells, pushedOutput, Pushable}
+use Rattle.step.specs.Stepping.{verdictOf, verdictBy, refusesBy, findsBy, countedCells, pushedCells, pushedOutput, Pushable}
 
 -- the room
 pub no-room : (d m : ℕ) → 33024 ≤ d → false ≡ ltb d (min m 33024)
@@ -49,12 +49,12 @@ module _ (b a : Bool) (l n : ℕ) where
         ap Accepts y ∙ ap (λ (v : Bool). cond v (Turned OutputFull) (Accepts n)) (sym (le-ltb l n (omega (arith, y)))) ∙ ap₂ (λ (v y : Bool). verdictOf v y l n) (sym h) (sym e)
 
   -- a push that is made found room
-  has-room : (v : Verdict) → v ≡ verdictOf b a l n → passesBy v ≡ true → b ≡ true
+  has-room : (v : Verdict) → v ≡ verdictOf b a l n → refusesBy v ≡ false → b ≡ true
   has-room v e h = go b refl
     where
       go : (x : Bool) → b ≡ x → b ≡ true
       go true z = z
-      go false z = let y : _≡_ {A = Bool} false true = ap passesBy (full z ∙ sym e) ∙ h in absurd (let k : _≡_ {A = ℕ} 0 1 = cc in omega arith)
+      go false z = let y : _≡_ {A = Bool} true false = ap refusesBy (full z ∙ sym e) ∙ h in absurd (let k : _≡_ {A = ℕ} 0 1 = cc in omega arith)
 
   -- the length that it tells is the output's
   counted : (k : ℕ) → Accepts k ≡ verdictOf b a l n → k ≡ n
@@ -89,25 +89,26 @@ module _ (s : Setup) (first terminals arcs upper lower : List ℕ) (d k st u x :
   abbrev Left : Verdict → List ℕ → List ℕ → Type 0
   Left r e o = (r ≡ met) × (e ≡ pushedCells r c d k f) × (o ≡ pushedOutput r s arcs e k b)
 
-  module _ (v : Verdict) (e : v ≡ met) (h : passesBy v ≡ true) where
-    room : d < roomIn c
-    room = ltb-true d (roomIn c) (has-room (ltb d (roomIn c)) accepting (length b) w v e h)
+  -- the arc is counted
+  pub counted-length : (v : Verdict) (g : List ℕ) → g ≡ countedCells v c d → length g ≡ length c
+  counted-length (Turned cause) g y = ap length y
+  counted-length Enters g y = ap length y ∙ tried-length c d
+  counted-length (Accepts n) g y = ap length y ∙ tried-length c d
 
-    pub count-ready : (d ≤ framesIn c) × ((j : ℕ) → d ≡ suc j → lookAt c j .next ≤ 1024)
-    count-ready = (omega (arith, room), P .counts)
+  pub enter-ready : (v : Verdict) (g : List ℕ) → v ≡ met → refusesBy v ≡ false → g ≡ countedCells v c d → (k < framesIn g) × (st < length first)
+  enter-ready v g e h y =
+      let room : d < roomIn c = ltb-true d (roomIn c) (has-room (ltb d (roomIn c)) accepting (length b) w v e h) in
+      (omega (arith, counted-length v g y, P .places room), P .indexes room)
 
-    pub enter-ready : (g : List ℕ) → g ≡ triedBelow c d → (k < framesIn g) × (st < length first)
-    enter-ready g y = (omega (arith, ap length y, tried-length c d, P .places room), P .indexes room)
-
-  pub made-cells : (v : Verdict) (g e : List ℕ) → passesBy v ≡ true → g ≡ triedBelow c d → e ≡ putAt g k f → e ≡ pushedCells v c d k f
-  made-cells (Turned cause) g e h y z = not-true-false (sym h)
+  pub made-cells : (v : Verdict) (g e : List ℕ) → refusesBy v ≡ false → g ≡ countedCells v c d → e ≡ putAt g k f → e ≡ pushedCells v c d k f
+  made-cells (Turned cause) g e h y z = not-true-false h
   made-cells Enters g e h y z = z ∙ ap (λ (l : List ℕ). putAt l k f) y
   made-cells (Accepts n) g e h y z = z ∙ ap (λ (l : List ℕ). putAt l k f) y
 
-  pub kept-cells : (v : Verdict) (e : List ℕ) → passesBy v ≡ false → e ≡ c → e ≡ pushedCells v c d k f
+  pub kept-cells : (v : Verdict) (e : List ℕ) → refusesBy v ≡ true → e ≡ countedCells v c d → e ≡ pushedCells v c d k f
   kept-cells (Turned cause) e h y = y
-  kept-cells Enters e h y = not-true-false h
-  kept-cells (Accepts n) e h y = not-true-false h
+  kept-cells Enters e h y = not-true-false (sym h)
+  kept-cells (Accepts n) e h y = not-true-false (sym h)
 
   pub cells-length : (v : Verdict) (e : List ℕ) → e ≡ pushedCells v c d k f → length e ≡ length c
   cells-length (Turned cause) e y = ap length y

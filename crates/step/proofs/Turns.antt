@@ -212,6 +212,7 @@ module _ (s : Setup) (first initials terminals arcs upper lower : List ℕ) (R :
           subst (λ (j : ℕ). Pushable s first terminals arcs upper lower d j st u x c b) (sym top-is)
           (record {
             reads-some = R .reads-some;
+            on-stack = omega (arith, G .deep);
             places = λ h. omega arith;
             indexes = indexed;
             counts = skip-next;

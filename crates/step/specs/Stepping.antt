@@ -61,19 +61,25 @@ abbrev pub verdictBy : Setup → List ℕ → List ℕ → List ℕ → ℕ → 
 verdictBy s terminals upper lower d state u l c b =
     verdictOf (ltb d (roomIn c)) (member state terminals && doneBy s upper lower (passedOf u l)) (length b) (writtenOf s (passedOf u l))
 
--- a push is made where it is not refused
-abbrev pub passesBy : Verdict → Bool
-passesBy (Turned cause) = false
-passesBy Enters = true
-passesBy (Accepts n) = true
+-- a push is refused
+abbrev pub refusesBy : Verdict → Bool
+refusesBy (Turned cause) = true
+refusesBy Enters = false
+refusesBy (Accepts n) = false
 
--- and found where it accepts
+-- a push makes an accepting path
 abbrev pub findsBy : Verdict → Bool
 findsBy (Turned cause) = false
 findsBy Enters = false
 findsBy (Accepts n) = true
 
--- the cells after it: a refusal leaves them as they were
+-- the cells with its arc counted; "every lent buffer holds what it held before the refused step"
+abbrev pub countedCells : Verdict → List ℕ → ℕ → List ℕ
+countedCells (Turned cause) c d = c
+countedCells Enters c d = triedBelow c d
+countedCells (Accepts n) c d = triedBelow c d
+
+-- the cells after it
 abbrev pub pushedCells : Verdict → List ℕ → ℕ → ℕ → F.Frame Passed → List ℕ
 pushedCells (Turned cause) c d k f = c
 pushedCells Enters c d k f = enteredAt c d k f
@@ -88,6 +94,7 @@ pushedOutput (Accepts n) s arcs e k b = lettersBy s arcs e k ++ drop (length (le
 -- what a push of frame number k may rely on where it finds room, and where its path accepts
 pub record Pushable (s : Setup) (first terminals arcs upper lower : List ℕ) (d k state u l : ℕ) (c b : List ℕ) : Type 0 where
   pub reads-some : (s .up || s .low) ≡ true
+  pub on-stack : d ≤ framesIn c
   pub places : d < roomIn c → k < framesIn c
   pub indexes : d < roomIn c → state < length first
   pub counts : (j : ℕ) → d ≡ suc j → lookAt c j .next ≤ 1024

@@ -10,7 +10,7 @@ use table::StateCause;
 ghost use mathlib.Core.Path.{_≡_};
 ghost use mathlib.Core.Bool.{true, _&&_, _||_};
 ghost use mathlib.Core.List.{[]};
-ghost use Prim.Native.Nat.{ℕ, suc, _<_, _≤_, min};
+ghost use Prim.Native.Nat.{ℕ, suc, _<_, _≤_};
 ghost use lib.Dec.{ltb};
 ghost use lib.ListN.{length, getD};
 ghost use Rattle.machine.specs.Step.{move, step};
@@ -21,7 +21,7 @@ ghost use Rattle.machine.specs.Place.{Good};
 ghost use Rattle.frames.specs.Sides.{passedOf, doneBy, writtenOf};
 ghost use Rattle.frames.specs.Frames.{frameBy};
 ghost use Rattle.step.specs.Setting.{machineBy, held, Ready, Top};
-ghost use Rattle.step.specs.Stepping.{moveAs, verdictOf, triedBelow, verdictBy, passesBy, findsBy, Pushable, pushedCells, pushedOutput, runBy, TurnIs};
+ghost use Rattle.step.specs.Stepping.{moveAs, verdictOf, verdictBy, refusesBy, findsBy, Pushable, countedCells, pushedCells, pushedOutput, runBy, TurnIs};
 
 // What a step is to do: a frame dropped, an arc tried that does not fit, or a frame pushed, with the run's numbers after it.
 pub enum Move {
@@ -156,14 +156,14 @@ fn judge(
     Verdict::Accepts(length)
 }
 
-// Whether a push that met this is made.
-fn passes(met: Verdict) -> bool
-    ensures { λ r. ⌜ r ≡ passesBy met ⌝ }
+// Whether a push that met this is refused.
+fn refuses(met: Verdict) -> bool
+    ensures { λ r. ⌜ r ≡ refusesBy met ⌝ }
 {
     match met {
-        Verdict::Turned(_) => false,
-        Verdict::Enters => true,
-        Verdict::Accepts(_) => true,
+        Verdict::Turned(_) => true,
+        Verdict::Enters => false,
+        Verdict::Accepts(_) => false,
     }
 }
 
@@ -178,12 +178,15 @@ fn finds(met: Verdict) -> bool
     }
 }
 
-// The arc that leads to a push, counted as tried in the frame that it leaves. At depth 0 there is none.
-fn count_arc(depth: u32, stack: &mut [u32])
+// The arc that leads to a push, counted as tried in the frame that it leaves, unless the push is refused. At depth 0 there is none.
+fn count_arc(met: Verdict, depth: u32, stack: &mut [u32])
     requires { ⌜ depth ≤ framesIn (now stack) ⌝ }
     requires { ⌜ ((d : ℕ) → depth ≡ suc d → lookAt (now stack) d .next ≤ 1024) ⌝ }
-    ensures { λ _. ⌜ now (stack .exit) ≡ triedBelow (now (stack .entry)) depth ⌝ }
+    ensures { λ _. ⌜ now (stack .exit) ≡ countedCells met (now (stack .entry)) depth ⌝ }
 {
+    if refuses(met) {
+        return;
+    }
     if depth != 0 {
         cells::count_tried(stack, depth as usize - 1);
     }
@@ -239,8 +242,8 @@ fn push(
         low,
         space,
     );
-    if passes(met) {
-        count_arc(depth, stack);
+    count_arc(met, depth, stack);
+    if !refuses(met) {
         enter(first, top, state, up, low, stack);
     }
     if finds(met) {

@@ -3,9 +3,10 @@ use mathlib.Core.Path.{_≡_, refl, sym, _∙_}
 use mathlib.Core.Logic.{⊎-elim}
 use lib.ListN.{getD, length}
 use denote.Ref.{now}
+use borrow.Author.Tests.{not-true, not-false}
 use Rattle.frames.specs.Frames.{frameBy}
 use Rattle.step.specs.Stepping.{pushedCells}
-use Rattle.step.proofs.Pushes.{count-ready, enter-ready, made-cells, kept-cells, cells-length, write-ready, found, not-found}
+use Rattle.step.proofs.Pushes.{enter-ready, made-cells, kept-cells, cells-length, write-ready, found, not-found}
 use Rattle.step.proofs.push.Statement.{statement}
 use Rattle.step.proofs.push.Tie as tie
 use Rattle.step.proofs.push.Reads as reads
@@ -16,55 +17,59 @@ use Rattle.step.proofs.count_arc.Reads as count-arc-reads
 use Rattle.step.proofs.enter.Reads as enter-reads
 use Rattle.step.proofs.finds.Reads as finds-reads
 use Rattle.step.proofs.judge.Reads as judge-reads
-use Rattle.step.proofs.passes.Reads as passes-reads
+use Rattle.step.proofs.refuses.Reads as refuses-reads
 
 -- the cells where the ways meet
-joined : (c : tie.Joined1) → c .if1 .stack ≡ pushedCells (c .before .before .judge .result) (now (c .before .before .before .before .before .before .before .before .before .before .before .args .stack)) (c .before .before .before .before .before .before .before .before .before .before .before .args .depth) (c .before .before .before .before .before .before .before .before .before .before .before .args .top) (frameBy (c .before .before .before .before .before .before .before .before .before .before .before .args .state) (getD (now (c .before .before .before .before .before .before .before .before .before .before .before .args .first)) (c .before .before .before .before .before .before .before .before .before .before .before .args .state) 0) (c .before .before .before .before .before .before .before .before .before .before .before .args .up) (c .before .before .before .before .before .before .before .before .before .before .before .args .low))
-joined c = let a = c .before .before .before .before .before .before .before .before .before .before .before .args in ⊎-elim (λ w. made-cells (a .setup) (now (a .first)) (now (a .terminals)) (now (a .arcs)) (now (a .upper)) (now (a .lower)) (a .depth) (a .top) (a .state) (a .up) (a .low) (now (a .stack)) (now (a .output)) (c .before .before .before .before .before .before .before .before .before .before .before .pre) (c .before .before .judge .result) _ _ (sym (c .before .passes .ensures) ∙ w .0 .taken) (w .2 .ensures) (w .9 ∙ w .6 .ensures)) (λ w. kept-cells (a .setup) (now (a .first)) (now (a .terminals)) (now (a .arcs)) (now (a .upper)) (now (a .lower)) (a .depth) (a .top) (a .state) (a .up) (a .low) (now (a .stack)) (now (a .output)) (c .before .before .before .before .before .before .before .before .before .before .before .pre) (c .before .before .judge .result) _ (sym (c .before .passes .ensures) ∙ w .0 .left) (w .1)) (c .if1 .came)
+joined : (c : tie.Joined1) → c .if1 .stack ≡ pushedCells (c .before .before .before .before .before .before .judge .result) (now (c .before .before .before .before .before .before .before .before .before .before .before .before .before .before .before .args .stack)) (c .before .before .before .before .before .before .before .before .before .before .before .before .before .before .before .args .depth) (c .before .before .before .before .before .before .before .before .before .before .before .before .before .before .before .args .top) (frameBy (c .before .before .before .before .before .before .before .before .before .before .before .before .before .before .before .args .state) (getD (now (c .before .before .before .before .before .before .before .before .before .before .before .before .before .before .before .args .first)) (c .before .before .before .before .before .before .before .before .before .before .before .before .before .before .before .args .state) 0) (c .before .before .before .before .before .before .before .before .before .before .before .before .before .before .before .args .up) (c .before .before .before .before .before .before .before .before .before .before .before .before .before .before .before .args .low))
+joined c =
+    let a = c .before .before .before .before .before .before .before .before .before .before .before .before .before .before .before .args in
+    ⊎-elim (λ w. made-cells (a .setup) (now (a .first)) (now (a .terminals)) (now (a .arcs)) (now (a .upper)) (now (a .lower)) (a .depth) (a .top) (a .state) (a .up) (a .low) (now (a .stack)) (now (a .output)) (c .before .before .before .before .before .before .before .before .before .before .before .before .before .before .before .pre) (c .before .before .before .before .before .before .judge .result) _ _ (sym (c .before .refuses .ensures) ∙ not-true _ (w .0 .taken)) (c .before .before .before .before .count-arc .ensures) (w .5 ∙ w .2 .ensures))
+    (λ w. kept-cells (a .setup) (now (a .first)) (now (a .terminals)) (now (a .arcs)) (now (a .upper)) (now (a .lower)) (a .depth) (a .top) (a .state) (a .up) (a .low) (now (a .stack)) (now (a .output)) (c .before .before .before .before .before .before .before .before .before .before .before .before .before .before .before .pre) (c .before .before .before .before .before .before .judge .result) _ (sym (c .before .refuses .ensures) ∙ not-false _ (w .0 .left)) (w .1 ∙ c .before .before .before .before .count-arc .ensures))
+    (c .if1 .came)
 
 judge-requires : tie.Need-judge-requires
 judge-requires c κs = c .before .before .before .before .before .before .before .before .pre .reads-some
 
-passes-requires : tie.Need-passes-requires
-passes-requires c κs = search needs
-
 count-arc-requires : tie.Need-count-arc-requires
-count-arc-requires c κs = let a = c .before .before .before .before .before .before .before .before .before .before .before .before .args in count-ready (a .setup) (now (a .first)) (now (a .terminals)) (now (a .arcs)) (now (a .upper)) (now (a .lower)) (a .depth) (a .top) (a .state) (a .up) (a .low) (now (a .stack)) (now (a .output)) (c .before .before .before .before .before .before .before .before .before .before .before .before .pre) (c .before .before .before .judge .result) (c .before .before .before .judge .ensures) (sym (c .before .before .passes .ensures) ∙ c .before .if1 .taken)
+count-arc-requires c κs = (c .before .before .before .before .before .before .before .before .before .before .pre .on-stack, c .before .before .before .before .before .before .before .before .before .before .pre .counts)
+
+refuses-requires : tie.Need-refuses-requires
+refuses-requires c κs = search needs
 
 enter-requires : tie.Need-enter-requires
-enter-requires c κs = let a = c .before .before .before .before .before .before .before .before .before .before .before .before .before .before .before .before .args in enter-ready (a .setup) (now (a .first)) (now (a .terminals)) (now (a .arcs)) (now (a .upper)) (now (a .lower)) (a .depth) (a .top) (a .state) (a .up) (a .low) (now (a .stack)) (now (a .output)) (c .before .before .before .before .before .before .before .before .before .before .before .before .before .before .before .before .pre) (c .before .before .before .before .before .before .before .judge .result) (c .before .before .before .before .before .before .before .judge .ensures) (sym (c .before .before .before .before .before .before .passes .ensures) ∙ c .before .before .before .before .before .if1 .taken) _ (c .before .before .before .count-arc .ensures)
+enter-requires c κs = let a = c .before .before .before .before .before .before .before .before .before .before .before .before .before .before .before .before .args in enter-ready (a .setup) (now (a .first)) (now (a .terminals)) (now (a .arcs)) (now (a .upper)) (now (a .lower)) (a .depth) (a .top) (a .state) (a .up) (a .low) (now (a .stack)) (now (a .output)) (c .before .before .before .before .before .before .before .before .before .before .before .before .before .before .before .before .pre) (c .before .before .before .before .before .before .before .judge .result) _ (c .before .before .before .before .before .before .before .judge .ensures) (sym (c .before .before .refuses .ensures) ∙ not-true _ (c .before .if1 .taken)) (c .before .before .before .before .before .count-arc .ensures)
 
 finds-requires : tie.Need-finds-requires
 finds-requires c κs = search needs
 
 written-requires : tie.Need-written-requires
-written-requires c κs = c .before .before .before .before .before .before .before .before .before .before .before .before .before .pre .reads-some
+written-requires c κs = c .before .before .before .before .before .before .before .before .before .before .before .before .before .before .before .before .before .pre .reads-some
 
 write-requires : tie.Need-write-requires
-write-requires c κs = let a = c .before .before .before .before .before .before .before .before .before .before .before .before .before .before .before .before .args in write-ready (a .setup) (now (a .first)) (now (a .terminals)) (now (a .arcs)) (now (a .upper)) (now (a .lower)) (a .depth) (a .top) (a .state) (a .up) (a .low) (now (a .stack)) (now (a .output)) (c .before .before .before .before .before .before .before .before .before .before .before .before .before .before .before .before .pre) (c .before .before .before .before .before .before .before .judge .result) _ _ (c .before .before .before .before .before .before .before .judge .ensures) (sym (c .before .before .before .before .finds .ensures) ∙ c .before .before .before .if2 .taken) (joined (c .before .before .before .before .before)) (c .before .before .written .ensures)
+write-requires c κs = let a = c .before .before .before .before .before .before .before .before .before .before .before .before .before .before .before .before .before .before .before .before .args in write-ready (a .setup) (now (a .first)) (now (a .terminals)) (now (a .arcs)) (now (a .upper)) (now (a .lower)) (a .depth) (a .top) (a .state) (a .up) (a .low) (now (a .stack)) (now (a .output)) (c .before .before .before .before .before .before .before .before .before .before .before .before .before .before .before .before .before .before .before .before .pre) (c .before .before .before .before .before .before .before .before .before .before .before .judge .result) _ _ (c .before .before .before .before .before .before .before .before .before .before .before .judge .ensures) (sym (c .before .before .before .before .finds .ensures) ∙ c .before .before .before .if2 .taken) (joined (c .before .before .before .before .before)) (c .before .before .written .ensures)
 
 same-length : tie.Need-same-length
-same-length c = let a = c .before .before .before .before .before .before .before .before .before .before .before .before .before .before .before .before .before .before .before .args in cells-length (a .setup) (now (a .first)) (now (a .terminals)) (now (a .arcs)) (now (a .upper)) (now (a .lower)) (a .depth) (a .top) (a .state) (a .up) (a .low) (now (a .stack)) (now (a .output)) (c .before .before .before .before .before .before .before .before .before .before .before .before .before .before .before .before .before .before .before .pre) (c .before .before .before .before .before .before .before .before .before .before .judge .result) _ (joined (c .before .before .before .before .before .before .before .before))
+same-length c = let a = c .before .before .before .before .before .before .before .before .before .before .before .before .before .before .before .before .before .before .before .before .before .before .before .args in cells-length (a .setup) (now (a .first)) (now (a .terminals)) (now (a .arcs)) (now (a .upper)) (now (a .lower)) (a .depth) (a .top) (a .state) (a .up) (a .low) (now (a .stack)) (now (a .output)) (c .before .before .before .before .before .before .before .before .before .before .before .before .before .before .before .before .before .before .before .before .before .before .before .pre) (c .before .before .before .before .before .before .before .before .before .before .before .before .before .before .judge .result) _ (joined (c .before .before .before .before .before .before .before .before))
 
 same-length-2 : tie.Need-same-length-2
 same-length-2 c = search needs
 
 returns : tie.Need-returns
-returns c = let a = c .before .before .before .before .before .before .before .before .before .before .before .before .before .before .before .before .before .before .before .args in found (a .setup) (now (a .first)) (now (a .terminals)) (now (a .arcs)) (now (a .upper)) (now (a .lower)) (a .depth) (a .top) (a .state) (a .up) (a .low) (now (a .stack)) (now (a .output)) (c .before .before .before .before .before .before .before .before .before .before .before .before .before .before .before .before .before .before .before .pre) (c .before .before .before .before .before .before .before .before .before .before .judge .result) _ _ (c .before .before .before .before .before .before .before .before .before .before .judge .ensures) (sym (c .before .before .before .before .before .before .before .finds .ensures) ∙ c .before .before .before .before .before .before .if2 .taken) (joined (c .before .before .before .before .before .before .before .before)) (c .before .before .write .ensures)
+returns c = let a = c .before .before .before .before .before .before .before .before .before .before .before .before .before .before .before .before .before .before .before .before .before .before .before .args in found (a .setup) (now (a .first)) (now (a .terminals)) (now (a .arcs)) (now (a .upper)) (now (a .lower)) (a .depth) (a .top) (a .state) (a .up) (a .low) (now (a .stack)) (now (a .output)) (c .before .before .before .before .before .before .before .before .before .before .before .before .before .before .before .before .before .before .before .before .before .before .before .pre) (c .before .before .before .before .before .before .before .before .before .before .before .before .before .before .judge .result) _ _ (c .before .before .before .before .before .before .before .before .before .before .before .before .before .before .judge .ensures) (sym (c .before .before .before .before .before .before .before .finds .ensures) ∙ c .before .before .before .before .before .before .if2 .taken) (joined (c .before .before .before .before .before .before .before .before)) (c .before .before .write .ensures)
 
 same-length-3 : tie.Need-same-length-3
-same-length-3 c = let a = c .before .before .before .before .before .before .before .before .before .before .before .before .before .args in cells-length (a .setup) (now (a .first)) (now (a .terminals)) (now (a .arcs)) (now (a .upper)) (now (a .lower)) (a .depth) (a .top) (a .state) (a .up) (a .low) (now (a .stack)) (now (a .output)) (c .before .before .before .before .before .before .before .before .before .before .before .before .before .pre) (c .before .before .before .before .judge .result) _ (joined (c .before .before))
+same-length-3 c = let a = c .before .before .before .before .before .before .before .before .before .before .before .before .before .before .before .before .before .args in cells-length (a .setup) (now (a .first)) (now (a .terminals)) (now (a .arcs)) (now (a .upper)) (now (a .lower)) (a .depth) (a .top) (a .state) (a .up) (a .low) (now (a .stack)) (now (a .output)) (c .before .before .before .before .before .before .before .before .before .before .before .before .before .before .before .before .before .pre) (c .before .before .before .before .before .before .before .before .judge .result) _ (joined (c .before .before))
 
 returns-2 : tie.Need-returns-2
-returns-2 c = let a = c .before .before .before .before .before .before .before .before .before .before .before .before .before .args in not-found (a .setup) (now (a .first)) (now (a .terminals)) (now (a .arcs)) (now (a .upper)) (now (a .lower)) (a .depth) (a .top) (a .state) (a .up) (a .low) (now (a .stack)) (now (a .output)) (c .before .before .before .before .before .before .before .before .before .before .before .before .before .pre) (c .before .before .before .before .judge .result) _ _ (c .before .before .before .before .judge .ensures) (sym (c .before .finds .ensures) ∙ c .if2 .left) (joined (c .before .before)) refl
+returns-2 c = let a = c .before .before .before .before .before .before .before .before .before .before .before .before .before .before .before .before .before .args in not-found (a .setup) (now (a .first)) (now (a .terminals)) (now (a .arcs)) (now (a .upper)) (now (a .lower)) (a .depth) (a .top) (a .state) (a .up) (a .low) (now (a .stack)) (now (a .output)) (c .before .before .before .before .before .before .before .before .before .before .before .before .before .before .before .before .before .pre) (c .before .before .before .before .before .before .before .before .judge .result) _ _ (c .before .before .before .before .before .before .before .before .judge .ensures) (sym (c .before .finds .ensures) ∙ c .if2 .left) (joined (c .before .before)) refl
 
 pub push-spec : {M : Type 1} → statement M
 push-spec =
     tie.close
     (tie.spec
     judge-requires
-    passes-requires
     count-arc-requires
+    refuses-requires
     enter-requires
     finds-requires
     written-requires
