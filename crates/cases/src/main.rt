@@ -5,37 +5,27 @@ mod searches;
 mod show;
 mod tables;
 
-ghost use Prim.Native.Nat.{_<_};
-ghost use lib.ListN.{length};
-
 // What a case does by its sign, with its line and the numbers of it, on the cells of the table.
 fn act(sign: u8, line: &[u8], list: &[u32], cells: &mut [u16]) {
     match sign {
         b'<' => tables::read(line, list, cells),
         b'>' => tables::load(list, cells),
         b'"' => tables::again(list, cells),
-        b'=' => tables::tell(list, cells),
+        b'=' => show::cells(cells, 0, script::amount(list, 0, cells.len())),
         b'@' => tables::index(list, cells),
         _ => searches::query(sign, list, cells),
     }
 }
 
-// The case of a line: its sign, its name up to the colon, and its numbers.
-fn case(line: &[u8], colon: usize, cells: &mut [u16])
-    requires { ⌜ colon < length (now line) ⌝ }
-{
-    let mut list = [script::NONE; 4700];
-    script::numbers(&line[colon..], &mut list);
-    act(line[0], line, &list, cells);
-}
-
-// A line without a colon is no case.
+// The case of a line: its sign, its name up to the colon, and its numbers. A line without a colon is no case.
 fn perform(line: &[u8], cells: &mut [u16]) {
     let colon = script::find(line, 0, b':');
     if colon < line.len() {
         show::say(&line[1..colon + 1]);
-        case(line, colon, cells);
-        show::end();
+        let mut list = [script::NONE; 4700];
+        script::numbers(&line[colon..], &mut list);
+        act(line[0], line, &list, cells);
+        show::say(b"\n");
     }
 }
 

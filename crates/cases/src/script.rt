@@ -66,10 +66,6 @@ pub fn plus(a: u32, b: u32) -> u32 {
     if a <= NONE - b { a + b } else { NONE }
 }
 
-fn minus(a: u32, b: u32) -> u32 {
-    if b <= a { a - b } else { 0 }
-}
-
 // A value with one digit more, and the largest number where that is too large.
 fn grown(value: u32, c: u8) -> u32 {
     if value < 429496729 {
@@ -91,7 +87,7 @@ fn goes_on(c: u8) -> bool {
 fn valued(value: u32, turn: u32, c: u8) -> u32 {
     match c {
         b'+' => plus(value, turn),
-        b'-' => minus(value, turn),
+        b'-' => if turn <= value { value - turn } else { 0 },
         b'0'..=b'9' => grown(value, c),
         _ => 0,
     }
@@ -109,26 +105,21 @@ fn grouped(start: usize, turns: u32, turn: u32) -> Scan {
     }
 }
 
-// The end of a group: back to its beginning, or on.
-fn closed(s: Scan) -> Scan {
-    let turn = plus(s.turn, 1);
-    if turn < s.turns {
-        grouped(s.start, s.turns, turn)
-    } else {
-        grouped(skip(s.at, 1), 0, 0)
-    }
-}
-
-// A sign passed.
+// A sign passed. The end of a group goes back to its beginning, or on.
 fn step(s: Scan, c: u8) -> Scan {
+    let next = skip(s.at, 1);
     if c == b')' {
-        return closed(s);
+        let turn = plus(s.turn, 1);
+        if turn < s.turns {
+            return grouped(s.start, s.turns, turn);
+        }
+        return grouped(next, 0, 0);
     }
     if c == b'(' {
-        return grouped(skip(s.at, 1), s.value, 0);
+        return grouped(next, s.value, 0);
     }
     Scan {
-        at: skip(s.at, 1),
+        at: next,
         value: valued(s.value, s.turn, c),
         open: goes_on(c),
         start: s.start,

@@ -12,13 +12,6 @@ ghost use Prim.Native.Nat.{_≤_};
 // What an output is filled with: no letter is this.
 const LETTER_MARK: u8 = 255;
 
-// What a call is allowed and lent.
-struct Ask {
-    allowance: u32,
-    frames: u32,
-    letters: u32,
-}
-
 // Where calls left a run, and their steps in all.
 struct Tally {
     run: Run,
@@ -63,7 +56,8 @@ fn word(list: &[u32], at: usize, letters: &mut [u8]) -> usize
 
 // An answer, with the output as the call left it.
 fn tell(sign: u8, answer: Answer, output: &[u8]) {
-    show::answer(answer, steps_of(answer), output, sign == b'~');
+    show::answer(answer, output, sign == b'~');
+    show::number(b" after ", steps_of(answer) as u64);
     show::touched(tables::is_marked(output, written(answer), LETTER_MARK));
     if sign != b'!' {
         show::say(b",");
@@ -87,18 +81,20 @@ fn lent(
     called
 }
 
-// The same with what is asked: so many frames of the stack, and an output of so many letters.
+// The same with an allowance, so many frames of the stack and an output of so many letters, which are in the list from a place on.
 fn turn(
     sign: u8,
-    ask: Ask,
+    list: &[u32],
+    at: usize,
     table: &[u16],
     upper: &[u8],
     lower: &[u8],
     run: Run,
     stack: &mut [u32],
 ) -> Called {
-    let frames = script::least(ask.frames, stack.len() / 4);
-    let room = script::least(ask.letters, 100);
+    let allowance = script::at(list, at);
+    let frames = script::amount(list, script::skip(at, 1), stack.len() / 4);
+    let room = script::amount(list, script::skip(at, 2), 100);
     let mut output = [LETTER_MARK; 100];
     lent(
         sign,
@@ -107,29 +103,12 @@ fn turn(
         lower,
         run,
         &mut stack[0..4 * frames],
-        ask.allowance,
+        allowance,
         &mut output[0..room],
     )
 }
 
-fn asked(list: &[u32], at: usize) -> Ask {
-    Ask {
-        allowance: script::at(list, at),
-        frames: script::at(list, script::skip(at, 1)),
-        letters: script::at(list, script::skip(at, 2)),
-    }
-}
-
-fn added(steps: u32, answer: Answer) -> u32 {
-    script::plus(steps, steps_of(answer))
-}
-
-// How many calls a case may make.
-fn most(sign: u8) -> u32 {
-    if sign == b'!' { 1 } else { 100 }
-}
-
-// Calls one after the other, each with its allowance, frames and letters in the list.
+// Calls one after the other, as long as the list has frames for one.
 fn calls(
     sign: u8,
     list: &[u32],
@@ -143,30 +122,19 @@ fn calls(
     let mut run = first;
     let mut steps: u32 = 0;
     let mut k = from;
-    let mut left = most(sign);
+    let mut left: u32 = if sign == b'!' { 1 } else { 100 };
     while left > 0 {
-        let ask = asked(list, k);
-        if ask.frames == script::NONE {
+        if script::at(list, script::skip(k, 1)) == script::NONE {
             break;
         }
-        let called = turn(sign, ask, table, upper, lower, run, stack);
+        let called = turn(sign, list, k, table, upper, lower, run, stack);
         run = called.run;
         let answer = called.answer;
-        steps = added(steps, answer);
+        steps = script::plus(steps, steps_of(answer));
         k = script::skip(k, 3);
         left -= 1;
     }
     Tally { run, steps }
-}
-
-fn is_same(a: Run, b: Run) -> bool {
-    if a.task != b.task {
-        return false;
-    }
-    if a.started != b.started {
-        return false;
-    }
-    a.depth == b.depth
 }
 
 // Fills a stack with the numbers of a list from a place on.
@@ -196,42 +164,27 @@ fn is_filled(stack: &[u32], list: &[u32], from: usize) -> bool {
 
 // Whether a call left the run and the stack as they were.
 fn is_kept(first: Run, last: Run, stack: &[u32], list: &[u32], from: usize) -> bool {
-    if is_same(first, last) {
-        return is_filled(stack, list, from);
+    if first.task != last.task {
+        return false;
     }
-    false
-}
-
-fn show_steps(steps: u32) {
-    show::number(b" ", steps as u64);
-    show::say(b" steps");
+    if first.started != last.started {
+        return false;
+    }
+    if first.depth != last.depth {
+        return false;
+    }
+    is_filled(stack, list, from)
 }
 
 // The end of a case: its steps in all; of one call that made no step, whether it kept what it was lent.
 fn finish(sign: u8, list: &[u32], from: usize, first: Run, last: Tally, stack: &[u32]) {
     if sign != b'!' {
-        show_steps(last.steps);
+        show::number(b" ", last.steps as u64);
+        show::say(b" steps");
     } else if last.steps == 0 {
         let run = last.run;
         show::touched(is_kept(first, run, stack, list, from));
     }
-}
-
-// The calls of a case on a stack.
-fn on_stack(
-    sign: u8,
-    list: &[u32],
-    rest: usize,
-    table: &[u16],
-    upper: &[u8],
-    lower: &[u8],
-    first: Run,
-    stack: &mut [u32],
-) {
-    let from = script::skip(rest, 5);
-    fill(stack, list, from);
-    let last = calls(sign, list, rest, table, upper, lower, first, stack);
-    finish(sign, list, from, first, last, stack);
 }
 
 // The run of a case: what the start left, or with `!` what the list has.
@@ -255,23 +208,26 @@ fn search(sign: u8, list: &[u32], rest: usize, table: &[u16], upper: &[u8], lowe
     }
     let run = started.run;
     let first = begun(sign, list, rest, run);
+    let from = script::skip(rest, 5);
     let mut stack = [script::NONE; 132100];
-    on_stack(sign, list, rest, table, upper, lower, first, &mut stack);
-}
-
-// The lower word of a query, after the upper.
-fn below(sign: u8, list: &[u32], at: usize, table: &[u16], upper: &[u8])
-    requires { ⌜ at ≤ 100 ⌝ }
-{
-    let mut letters = [0u8; 80];
-    let count = word(list, at, &mut letters);
-    search(sign, list, at + 1 + count, table, upper, &letters[0..count]);
+    fill(&mut stack, list, from);
+    let last = calls(sign, list, rest, table, upper, lower, first, &mut stack);
+    finish(sign, list, from, first, last, &stack);
 }
 
 // CELLS TASK, UPPER, LOWER: the query of a case, on so many cells of the table.
 pub fn query(sign: u8, list: &[u32], cells: &[u16]) {
     let size = script::amount(list, 0, cells.len());
-    let mut letters = [0u8; 80];
-    let count = word(list, 2, &mut letters);
-    below(sign, list, 3 + count, &cells[0..size], &letters[0..count]);
+    let mut upper = [0u8; 80];
+    let up = word(list, 2, &mut upper);
+    let mut lower = [0u8; 80];
+    let low = word(list, 3 + up, &mut lower);
+    search(
+        sign,
+        list,
+        4 + up + low,
+        &cells[0..size],
+        &upper[0..up],
+        &lower[0..low],
+    );
 }

@@ -1,15 +1,10 @@
 // What a line of the output is made of. What follows the name begins with a blank or a comma.
 use machine::Answer;
-use machine::Run;
 use machine::StartAnswer;
 use machine::Started;
 
 pub fn say(text: &[u8]) {
     io::write_all(1, text);
-}
-
-pub fn end() {
-    say(b"\n");
 }
 
 pub fn number(before: &[u8], n: u64) {
@@ -58,15 +53,11 @@ pub fn written(answer: table::Answer, unit: &[u8]) {
     }
 }
 
-// The sign of a letter, with a for 1 and a plus after z.
-fn sign(x: u8) -> u8 {
-    if x <= 26 { 96 + x } else { b'+' }
-}
-
-// A letter as its sign, or as two digits after a blank.
+// A letter as its sign, with a for 1 and a plus after z, or as two digits after a blank.
 fn letter(x: u8, plain: bool) {
     if plain {
-        say(&[sign(x)]);
+        let sign = if x <= 26 { 96 + x } else { b'+' };
+        say(&[sign]);
     } else {
         let digits = hex::encode(x);
         say(&[b' ', digits.high, digits.low]);
@@ -87,41 +78,19 @@ fn letters(list: &[u8], count: u32, plain: bool) {
     }
 }
 
-fn found(output: &[u8], length: u32, plain: bool) {
-    if plain {
-        say(b" Found ");
-    } else {
-        say(b" Found");
-    }
-    letters(output, length, plain);
-}
-
 // What a call answered, with the output as it left it.
-fn kind(answer: Answer, output: &[u8], plain: bool) {
+pub fn answer(answer: Answer, output: &[u8], plain: bool) {
     match answer {
-        Answer::Found { steps: _, length } => found(output, length, plain),
+        Answer::Found { steps: _, length } => {
+            say(b" Found");
+            if plain {
+                say(b" ");
+            }
+            letters(output, length, plain);
+        }
         Answer::Paused { steps: _ } => say(b" Paused"),
         Answer::Ended { steps: _ } => say(b" Ended"),
         Answer::Refused { steps: _, refusal } => refused(refusal),
-    }
-}
-
-// The same with its steps.
-pub fn answer(answer: Answer, steps: u32, output: &[u8], plain: bool) {
-    kind(answer, output, plain);
-    number(b" after ", steps as u64);
-}
-
-fn run(run: Run) {
-    number(b" ready, run ", run.task as u64);
-    blank(run.started as u64);
-    blank(run.depth as u64);
-}
-
-fn cycle(states: &[u16], length: u32) {
-    if length > 0 {
-        say(b", cycle");
-        cells(states, 0, length as usize);
     }
 }
 
@@ -130,13 +99,18 @@ pub fn started(started: Started) {
     let answer = started.answer;
     match answer {
         StartAnswer::Ready => {
-            let first = started.run;
-            run(first);
+            let run = started.run;
+            number(b" ready, run ", run.task as u64);
+            blank(run.started as u64);
+            blank(run.depth as u64);
         }
         StartAnswer::Refused(refusal) => {
             refused(refusal);
-            let states = started.cycle;
-            cycle(&states, started.length);
+            if started.length > 0 {
+                say(b", cycle");
+                let states = started.cycle;
+                cells(&states, 0, started.length as usize);
+            }
         }
     }
 }

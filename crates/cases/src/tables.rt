@@ -57,48 +57,30 @@ pub fn is_marked(text: &[u8], from: usize, mark: u8) -> bool {
     true
 }
 
-// Whether the first bytes of a list are another list.
-fn begins(text: &[u8], count: usize, other: &[u8]) -> bool {
-    if count <= text.len() {
-        return check::same(&text[0..count], other);
-    }
-    false
-}
-
 // Whether a loaded table's text is this one.
 fn has_text(cells: &[u16], text: &[u8]) -> bool {
     let mut again = [BYTE_MARK; 19000];
     let answer = writer::write(cells, &mut again);
-    begins(&again, done(answer), text)
-}
-
-fn show_same(same: bool) {
-    if same {
-        show::say(b", same text");
-    } else {
-        show::say(b", other text");
-    }
-}
-
-// What reading a text answered, with the cells as it left them.
-fn show_read(answer: Answer, text: &[u8], cells: &[u16]) {
-    show::written(answer, b" cells");
     let count = done(answer);
-    if count > 0 {
-        show_same(has_text(cells, text));
+    if count <= 19000 {
+        return check::same(&again[0..count], text);
     }
-    show::touched(cells_marked(cells, count));
+    false
 }
 
 // A text, read into cells that are filled with the mark.
 fn read_into(text: &[u8], cells: &mut [u16]) {
     let answer = reader::read(text, cells);
-    show_read(answer, text, cells);
-}
-
-fn read_text(text: &[u8], list: &[u32], cells: &mut [u16]) {
-    let size = script::amount(list, 0, cells.len());
-    read_into(text, &mut cells[0..size]);
+    show::written(answer, b" cells");
+    let count = done(answer);
+    if count > 0 {
+        if has_text(cells, text) {
+            show::say(b", same text");
+        } else {
+            show::say(b", other text");
+        }
+    }
+    show::touched(cells_marked(cells, count));
 }
 
 // `<` CELLS | TEXT: reads the text into so many cells.
@@ -106,73 +88,53 @@ pub fn read(line: &[u8], list: &[u32], cells: &mut [u16]) {
     fill(cells, list, 1);
     let bar = script::find(line, 0, b'|');
     if bar < line.len() {
-        read_text(&line[bar + 1..], list, cells);
+        let size = script::amount(list, 0, cells.len());
+        read_into(&line[bar + 1..], &mut cells[0..size]);
     }
 }
 
-// A text of so many bytes is read, and its last line told.
-fn read_back(text: &[u8], size: usize, cells: &mut [u16]) {
+// `"`: the table's own text is read, and its last line told.
+pub fn again(list: &[u32], cells: &mut [u16]) {
+    let mut text = [BYTE_MARK; 19000];
+    let answer = writer::write(cells, &mut text);
+    fill(cells, list, 0);
+    let size = done(answer);
     if size < 7 {
         return;
     }
-    if size <= text.len() {
+    if size <= 19000 {
         read_into(&text[0..size], cells);
         show::say(b", ");
         show::say(&text[size - 7..size - 1]);
     }
 }
 
-// `"`: the table's own text is read.
-pub fn again(list: &[u32], cells: &mut [u16]) {
-    let mut text = [BYTE_MARK; 19000];
-    let answer = writer::write(cells, &mut text);
-    fill(cells, list, 0);
-    read_back(&text, done(answer), cells);
-}
-
-fn show_check(cells: &[u16]) {
+fn write_into(cells: &[u16], text: &mut [u8]) {
     let checked = checker::check(cells);
     if checked.ok {
         show::say(b" check passes, write");
     } else {
         show::say(b" check fails, write");
     }
-}
-
-fn write_into(cells: &[u16], text: &mut [u8]) {
-    show_check(cells);
     let answer = writer::write(cells, text);
     show::written(answer, b" bytes");
     show::touched(is_marked(text, done(answer), BYTE_MARK));
 }
 
-fn write(list: &[u32], cells: &[u16]) {
+// `>` CELLS BYTES, TABLE: checks the first cells of a table, and writes them into so many bytes.
+pub fn load(list: &[u32], cells: &mut [u16]) {
+    fill(cells, list, 2);
     let size = script::amount(list, 0, cells.len());
     let room = script::amount(list, 1, 19000);
     let mut text = [BYTE_MARK; 19000];
     write_into(&cells[0..size], &mut text[0..room]);
 }
 
-// `>` CELLS BYTES, TABLE: checks the first cells of a table, and writes them into so many bytes.
-pub fn load(list: &[u32], cells: &mut [u16]) {
-    fill(cells, list, 2);
-    write(list, cells);
-}
-
-// `=` COUNT: the first cells.
-pub fn tell(list: &[u32], cells: &[u16]) {
-    show::cells(cells, 0, script::amount(list, 0, cells.len()));
-}
-
-fn first_arcs(cells: &[u16]) -> [u16; 257] {
-    let checked = checker::check(cells);
-    checked.first
-}
-
 // `@` CELLS FROM TO: the index of first arcs that the check of so many cells tells, from one state to another.
 pub fn index(list: &[u32], cells: &[u16]) {
     let size = script::amount(list, 0, cells.len());
-    let first = first_arcs(&cells[0..size]);
+    let checked = checker::check(&cells[0..size]);
+    let first = checked.first;
     let from = script::amount(list, 1, 257);
     show::cells(&first, from, script::amount(list, 2, 257));
 }

@@ -29,15 +29,15 @@ use Rattle.machine.specs.declared.Started.{Started}
 use Rattle.machine.specs.Asked.{Asked, turned, runs, asked}
 use Rattle.machine.specs.Idle.{hasIdleCycle}
 use Rattle.machine.specs.Start.{firstRun, startedWith, startedAs, started, StartIs}
+use Rattle.query.specs.Parts.{tableText, queryText, tableSize}
+use Rattle.query.specs.Query.{taskIn, upperLength, lowerLength, upperIn, lowerIn, isQuery, queryOf}
+use Rattle.query.proofs.Parts.{size-inside}
+use Rattle.query.proofs.Query.{IsQuery, query-facts}
 use Rattle.session.specs.declared.Talk.{Talk}
 use Rattle.session.specs.declared.Opening.{Opening}
 use Rattle.session.specs.declared.Opening.the-variants.{Ready, Refused}
-use Rattle.session.specs.Parts.{tableText, queryText, tableSize}
-use Rattle.session.specs.Query.{taskIn, upperLength, lowerLength, upperIn, lowerIn, isQuery, queryOf}
 use Rattle.session.specs.Opened.{Opened, refused, ready, openedAs, startedOn, openedQuery, openedTable, opened}
 use Rattle.session.specs.Begun.{Begun, firstTalk, begunNot, begun, BegunIs}
-use Rattle.session.proofs.Parts.{size-inside}
-use Rattle.session.proofs.Query.{IsQuery, query-facts}
 
 -- What is answered and left, by what an input gives.
 

@@ -1,6 +1,6 @@
 -- Document 01's example, by computing: "For K and `100202010200` it prints" three lines.
 use mathlib.Core.Path.{_≡_, refl}
-use mathlib.Core.List.{List, [], _∷_, _++_}
+use mathlib.Core.List.{[], _∷_, _++_}
 use Rattle.hex.specs.Hex.{valueOf, joined, decoded, digitOf, encoded}
 use Rattle.table.specs.Rules.{each, countsHold, headerFaults, initialFaults, terminalFaults, arcFaults, keepsRules}
 use Rattle.table.specs.Loaded.{arcsCells, cellsOf, arcsIn, tableIn, loaded}
@@ -15,8 +15,8 @@ use Rattle.machine.specs.Asked.{asked}
 use Rattle.machine.specs.Start.{started}
 use Rattle.machine.specs.Reading.{outcome}
 use Rattle.machine.specs.Cases.{tableK}
-use Rattle.session.specs.Parts.{sizeThrough}
-use Rattle.session.specs.Query.{isQuery, queryOf}
+use Rattle.query.specs.Parts.{sizeThrough}
+use Rattle.query.specs.Query.{isQuery, queryOf}
 use Rattle.session.specs.Opened.{startedOn, opened}
 use Rattle.session.specs.Session.{linesLeft, sessionLines}
 

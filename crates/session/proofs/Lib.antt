@@ -1,9 +1,5 @@
 -- Laws of a session, for its proofs and those of the program.
-pub mod Parts
-pub mod Query
 pub mod Copying
-pub mod Lines
-pub mod Gathering
 pub mod Turns
 pub mod Begun
 pub mod Next

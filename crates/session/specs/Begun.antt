@@ -10,10 +10,10 @@ use Rattle.table.specs.declared.Refusal.{Refusal}
 use Rattle.table.specs.declared.Refusal.the-variants.{State}
 use Rattle.table.specs.declared.StateCause.the-variants.{DestinationShort}
 use Rattle.machine.specs.declared.Run.{Run}
+use Rattle.query.specs.Query.{upperLength, lowerLength}
 use Rattle.session.specs.declared.Talk.{Talk}
 use Rattle.session.specs.declared.Opening.{Opening}
 use Rattle.session.specs.declared.Opening.the-variants.{Ready, Refused}
-use Rattle.session.specs.Query.{upperLength, lowerLength}
 use Rattle.session.specs.Opened.{Opened, refused, ready}
 
 pub record Begun : Type 0 where

@@ -14,12 +14,12 @@ use Rattle.machine.specs.declared.Run.{Run}
 use Rattle.machine.specs.declared.Answer.{Answer}
 use Rattle.machine.specs.declared.Answer.the-variants.{Found, Paused, Ended, Refused}
 use Rattle.machine.specs.Reading.{Outcome, outcome}
+use Rattle.replies.specs.Lines.{readingLine, endLine, limitLine, refusalLine, storedLine}
 use Rattle.session.specs.declared.Talk.{Talk}
 use Rattle.session.specs.declared.Said.{Said}
 use Rattle.session.specs.declared.Said.the-variants as S
 use Rattle.session.specs.declared.Lined.{Lined}
 use Rattle.session.specs.declared.Lined.the-variants as L
-use Rattle.session.specs.Lines.{readingLine, endLine, limitLine, refusalLine, storedLine}
 
 -- Calls until one is not Paused or none is left.
 

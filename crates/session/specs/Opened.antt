@@ -15,8 +15,8 @@ use Rattle.machine.specs.declared.Run.{Run}
 use Rattle.machine.specs.declared.StartAnswer.{StartAnswer}
 use Rattle.machine.specs.declared.StartAnswer.the-variants.{Ready, Refused}
 use Rattle.machine.specs.Start.{started}
-use Rattle.session.specs.Parts.{tableText, queryText}
-use Rattle.session.specs.Query.{Asked, fault, says, taskIn, upperIn, lowerIn, queryOf}
+use Rattle.query.specs.Parts.{tableText, queryText}
+use Rattle.query.specs.Query.{Asked, fault, says, taskIn, upperIn, lowerIn, queryOf}
 
 -- a refusal; or the table's cells, the query's bytes and the run that the start leaves
 pub data Opened : Type 0 where

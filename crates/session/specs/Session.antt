@@ -9,9 +9,9 @@ use Rattle.machine.specs.declared.Run.{Run}
 use Rattle.machine.specs.declared.Answer.{Answer}
 use Rattle.machine.specs.declared.Answer.the-variants.{Found, Paused, Ended, Refused}
 use Rattle.machine.specs.Reading.{Outcome, outcome}
-use Rattle.session.specs.Query.{upperIn, lowerIn}
+use Rattle.query.specs.Query.{upperIn, lowerIn}
+use Rattle.replies.specs.Lines.{readingLine, endLine, limitLine, refusalLine}
 use Rattle.session.specs.Opened.{Opened, refused, ready, opened}
-use Rattle.session.specs.Lines.{readingLine, endLine, limitLine, refusalLine}
 
 -- what a call's answer adds after count readings; k says how the session goes on
 abbrev pub told : Answer → Outcome → ℕ → (Run → List ℕ → List ℕ → ℕ → List (List ℕ)) → List (List ℕ)

@@ -1,26 +1,10 @@
 // A session: a table and one query in, readings out, one line at a time. Nothing here reads or writes but what it is lent.
-mod asker;
 mod caller;
 pub mod opener;
-mod printer;
 pub mod speaker;
-mod splitter;
 
 use machine::Run;
-use table::InputCause;
 use table::Refusal;
-
-// What the first line of a text says: that it is malformed, or how many bytes, and whether no other line follows.
-pub enum FirstLine {
-    Bad,
-    Says { count: usize, alone: bool },
-}
-
-// What a text asks: nothing, for a cause, or a query with so many upper and lower letters.
-pub enum Asking {
-    Fault(InputCause),
-    Words { upper: usize, lower: usize },
-}
 
 // What an opening answers: the lengths of the query's words and the talk to begin with, or a refusal.
 pub enum Opening {

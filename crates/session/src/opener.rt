@@ -1,12 +1,12 @@
 // The opening of a session: the input's length, the table, the query, the start; then 24.
-use crate::Asking;
 use crate::Opening;
 use crate::Talk;
-use crate::asker;
-use crate::splitter;
 use engine::starter;
 use machine::Run;
 use machine::StartAnswer;
+use query::Asking;
+use query::asker;
+use query::splitter;
 use table::Answer;
 use table::InputCause;
 use table::Refusal;
@@ -18,7 +18,7 @@ ghost use mathlib.Core.List.{_++_};
 ghost use Prim.Native.Nat.{_≤_};
 ghost use lib.ListN.{length, drop};
 ghost use Rattle.table.specs.Line.{linesOf};
-ghost use Rattle.session.specs.Query.{isQuery, upperLength, lowerLength, queryOf};
+ghost use Rattle.query.specs.Query.{isQuery, upperLength, lowerLength, queryOf};
 ghost use Rattle.session.specs.Opened.{startedOn, openedQuery, opened};
 ghost use Rattle.session.specs.Begun.{firstTalk, begun, BegunIs};
 

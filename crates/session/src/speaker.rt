@@ -3,14 +3,13 @@ use crate::Lined;
 use crate::Said;
 use crate::Talk;
 use crate::caller;
-use crate::printer;
 use table::Refusal;
 use table::StateCause;
 ghost use mathlib.Core.Path.{_≡_};
 ghost use Prim.Native.Nat.{_≤_, _<_};
 ghost use lib.ListN.{length};
 ghost use Rattle.table.specs.Line.{lineText};
-ghost use Rattle.session.specs.Lines.{storedLine};
+ghost use Rattle.replies.specs.Lines.{storedLine};
 ghost use Rattle.session.specs.Next.{Fits, bytesSaid, talkAfter, linedAs, lining, LiningIs, refusalLined, refusalLeft};
 
 // What is told where the calls have come to something.
@@ -23,7 +22,7 @@ fn tell(said: Said, count: u16, output: &[u8], line: &mut [u8]) -> Lined
         Said::Reading { length, run, calls } => {
             let n = length as usize;
             let ordinal = count + 1;
-            let size = printer::reading_line(line, ordinal, &output[..n]);
+            let size = replies::reading_line(line, ordinal, &output[..n]);
             Lined::More {
                 length: size,
                 talk: Talk {
@@ -34,13 +33,13 @@ fn tell(said: Said, count: u16, output: &[u8], line: &mut [u8]) -> Lined
             }
         }
         Said::Ended => Lined::Last {
-            length: printer::count_line(line, 47, count),
+            length: replies::count_line(line, 47, count),
         },
         Said::Refused(refusal) => Lined::Last {
-            length: printer::refusal_line(line, table::number(refusal)),
+            length: replies::refusal_line(line, table::number(refusal)),
         },
         Said::Spent => Lined::Last {
-            length: printer::count_line(line, 45, count),
+            length: replies::count_line(line, 45, count),
         },
     }
 }
@@ -66,7 +65,7 @@ pub fn next_line(
     let count = talk.count;
     if 1000 <= count {
         return Lined::Last {
-            length: printer::count_line(line, 45, count),
+            length: replies::count_line(line, 45, count),
         };
     }
     let said = caller::ask(table, upper, lower, talk.run, talk.calls, stack, output);
@@ -81,6 +80,6 @@ pub fn refused_line(refusal: Refusal, line: &mut [u8]) -> Lined
         return Lined::Refused(Refusal::State(StateCause::DestinationShort));
     }
     Lined::Last {
-        length: printer::refusal_line(line, table::number(refusal)),
+        length: replies::refusal_line(line, table::number(refusal)),
     }
 }

@@ -104,6 +104,11 @@ unfolding charsOf
 length-chars [] = refl
 length-chars (x ∷ b) = let e : length (charsOf b) ≡ 2 * length b = length-chars b in omega arith
 
+pub chars-append : (x y : List ℕ) → charsOf (x ++ y) ≡ charsOf x ++ charsOf y
+unfolding charsOf
+chars-append [] y = refl
+chars-append (b ∷ x) y = ap (λ (l : List ℕ). encoded b .high ∷ encoded b .low ∷ l) (chars-append x y)
+
 pub chars-small : (b : List ℕ) → All IsByte (charsOf b)
 unfolding charsOf encoded
 chars-small [] = tt

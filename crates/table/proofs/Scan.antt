@@ -20,7 +20,7 @@ use Rattle.table.proofs.Tests.{or-right}
 use Rattle.table.proofs.All.{All, all-append}
 use Rattle.table.proofs.Each.{any-append}
 use Rattle.table.proofs.Arcs.{at-equal}
-use Rattle.table.proofs.Line.{IsByte, lineWith, noValue, digit-no-feed, lines-char, lines-line, length-chars, bytes-chars, line-well}
+use Rattle.table.proofs.Line.{IsByte, lineWith, noValue, digit-no-feed, lines-char, lines-line, length-chars, chars-append, bytes-chars, line-well}
 
 -- The lines of a text that begins with digits.
 
@@ -149,10 +149,6 @@ module _ (text : List ℕ) (start : ℕ) (bytes : List ℕ) (count at : ℕ) (S 
 
       two : here ∷ next ∷ drop (at + 2) text ≡ charsOf (v ∷ []) ++ drop (at + 2) text
       two = λ i. sym (w .1) i .high ∷ sym (w .1) i .low ∷ drop (at + 2) text
-
-      chars-append : (x y : List ℕ) → charsOf (x ++ y) ≡ charsOf x ++ charsOf y
-      chars-append [] y = refl
-      chars-append (b ∷ x) y = ap (λ (l : List ℕ). encoded b .high ∷ encoded b .low ∷ l) (chars-append x y)
 
   -- The ways out.
 

@@ -11,23 +11,26 @@ Inv-loop sign list from table upper lower stack₀ run₀ steps₀ k₀ left₀ 
 abbrev μ-loop : tie.MeasureT-loop
 μ-loop sign list from table upper lower stack₀ run₀ steps₀ k₀ left₀ stack run steps k left = left
 
-most-requires : tie.Need-most-requires Inv-loop μ-loop
-most-requires c κs = search needs
-
 loop-holds : tie.Need-loop-holds Inv-loop μ-loop
 loop-holds c = search needs
 
-asked-requires : tie.Need-asked-requires Inv-loop μ-loop
-asked-requires c κs = search needs
+skip-requires : tie.Need-skip-requires Inv-loop μ-loop
+skip-requires c κs = search needs
+
+at-requires : tie.Need-at-requires Inv-loop μ-loop
+at-requires c κs = search needs
 
 turn-requires : tie.Need-turn-requires Inv-loop μ-loop
 turn-requires c κs = search needs
 
-added-requires : tie.Need-added-requires Inv-loop μ-loop
-added-requires c κs = search needs
+steps-of-requires : tie.Need-steps-of-requires Inv-loop μ-loop
+steps-of-requires c κs = search needs
 
-skip-requires : tie.Need-skip-requires Inv-loop μ-loop
-skip-requires c κs = search needs
+plus-requires : tie.Need-plus-requires Inv-loop μ-loop
+plus-requires c κs = search needs
+
+skip-requires-2 : tie.Need-skip-requires-2 Inv-loop μ-loop
+skip-requires-2 c κs = search needs
 
 sub-left : tie.Need-sub-left Inv-loop μ-loop
 sub-left c = search needs
@@ -56,12 +59,13 @@ calls-spec =
     (tie.spec
     Inv-loop
     μ-loop
-    most-requires
     loop-holds
-    asked-requires
-    turn-requires
-    added-requires
     skip-requires
+    at-requires
+    turn-requires
+    steps-of-requires
+    plus-requires
+    skip-requires-2
     sub-left
     loop-less
     loop-again

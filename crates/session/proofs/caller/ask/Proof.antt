@@ -6,9 +6,6 @@ use Rattle.session.specs.Next.{heard}
 use Rattle.session.proofs.Turns.{Asking, asking-first, spent, asking-found, asking-ended, asking-refused, asking-paused}
 use Rattle.session.proofs.caller.ask.Statement.{statement}
 use Rattle.session.proofs.caller.ask.Tie as tie
-use Rattle.session.proofs.caller.ask.Reads as reads
-use Rattle.session.proofs.caller.ask.Lts as lts
-use Rattle.engine.proofs.advance.advance.Reads as advance-reads
 
 abbrev Inv-loop : tie.InvT-loop
 Inv-loop table upper lower calls stack₀ output₀ left₀ at₀ stack output left at = Asking table upper lower (heard table upper lower calls at₀ stack₀ output₀) stack₀ output₀ left at stack output

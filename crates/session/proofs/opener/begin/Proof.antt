@@ -11,11 +11,6 @@ use Rattle.session.specs.Begun.{begun, BegunIs}
 use Rattle.session.proofs.Begun.{begun-refused, opened-long, end-inside, table-refused, count-inside, table-read}
 use Rattle.session.proofs.opener.begin.Statement.{statement}
 use Rattle.session.proofs.opener.begin.Tie as tie
-use Rattle.session.proofs.opener.begin.Reads as reads
-use Rattle.session.proofs.opener.begin.Lts as lts
-use Rattle.session.proofs.opener.begin_query.Reads as begin-query-reads
-use Rattle.session.proofs.splitter.table_end.Reads as table-end-reads
-use Rattle.table.proofs.reader.read.Reads as read-reads
 
 returns : tie.Need-returns
 returns c = begun-refused (opened (now (c .before .before .before .before .args .input))) (now (c .before .before .before .before .args .table)) (now (c .before .before .before .before .args .query)) _ (opened-long (now (c .before .before .before .before .args .input)) (c .if1 .taken))

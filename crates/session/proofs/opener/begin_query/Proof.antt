@@ -8,17 +8,13 @@ use borrow.Author.Needs.{needs}
 use native.Mathlib.Omega.{arith}
 use denote.Ref.{now}
 use Rattle.table.specs.Line.{linesOf}
-use Rattle.session.specs.Query.{isQuery, upperLength, lowerLength, queryOf}
+use Rattle.query.specs.Query.{isQuery, upperLength, lowerLength, queryOf}
 use Rattle.session.specs.Opened.{Opened, startedOn, openedQuery}
 use Rattle.session.specs.Begun.{begun, BegunIs}
-use Rattle.session.proofs.Query.{fault-is, asks-is}
+use Rattle.query.proofs.Query.{fault-is, asks-is}
 use Rattle.session.proofs.Begun.{begun-refused}
 use Rattle.session.proofs.opener.begin_query.Statement.{statement}
 use Rattle.session.proofs.opener.begin_query.Tie as tie
-use Rattle.session.proofs.opener.begin_query.Reads as reads
-use Rattle.session.proofs.opener.begin_query.Lts as lts
-use Rattle.session.proofs.asker.query.Reads as query-reads
-use Rattle.session.proofs.opener.begin_search.Reads as begin-search-reads
 
 slice-aggregate-query : tie.Need-slice-aggregate-query
 slice-aggregate-query c = search needs

@@ -6,13 +6,6 @@ use Rattle.session.specs.Opened.{startedOn}
 use Rattle.session.proofs.Begun.{begun-refused, begun-short-table, begun-short-query, begun-ready, parted, start-ready, start-refused}
 use Rattle.session.proofs.opener.begin_search.Statement.{statement}
 use Rattle.session.proofs.opener.begin_search.Tie as tie
-use Rattle.session.proofs.opener.begin_search.Reads as reads
-use Rattle.session.proofs.opener.begin_search.Lts as lts
-use Rattle.engine.proofs.starter.start.Reads as start-reads
-use Rattle.session.proofs.opener.copy_bytes.Reads as copy-bytes-reads
-use Rattle.session.proofs.opener.copy_cells.Reads as copy-cells-reads
-use Rattle.session.proofs.opener.first_talk.Reads as first-talk-reads
-use Rattle.session.proofs.opener.longer.Reads as longer-reads
 
 add-upper-end : tie.Need-add-upper-end
 add-upper-end c = omega (arith, (parted (now (c .before .before .before .before .args .bytes)) (c .before .before .before .before .args .upper) (c .before .before .before .before .args .lower) (c .before .before .before .before .pre)) .size)

@@ -7,8 +7,6 @@ use borrow.Author.Needs.{needs}
 use Rattle.session.proofs.Copying.{Copying, copy-none, copy-more, copy-done}
 use Rattle.session.proofs.opener.copy_cells.Statement.{statement}
 use Rattle.session.proofs.opener.copy_cells.Tie as tie
-use Rattle.session.proofs.opener.copy_cells.Reads as reads
-use Rattle.session.proofs.opener.copy_cells.Lts as lts
 
 abbrev Inv-loop : tie.InvT-loop
 Inv-loop from to₀ k₀ to k = Copying to₀ from to k

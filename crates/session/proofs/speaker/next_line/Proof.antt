@@ -5,11 +5,6 @@ use denote.Ref.{now}
 use Rattle.session.proofs.Next.{said-fits, lining-short, lining-long, lining-limit, lining-told}
 use Rattle.session.proofs.speaker.next_line.Statement.{statement}
 use Rattle.session.proofs.speaker.next_line.Tie as tie
-use Rattle.session.proofs.speaker.next_line.Reads as reads
-use Rattle.session.proofs.speaker.next_line.Lts as lts
-use Rattle.session.proofs.caller.ask.Reads as ask-reads
-use Rattle.session.proofs.printer.count_line.Reads as count-line-reads
-use Rattle.session.proofs.speaker.tell.Reads as tell-reads
 
 returns : tie.Need-returns
 returns c = lining-short (now (c .before .before .before .before .before .before .before .args .table)) (now (c .before .before .before .before .before .before .before .args .upper)) (now (c .before .before .before .before .before .before .before .args .lower)) (c .before .before .before .before .before .before .before .args .talk) (now (c .before .before .before .before .before .before .before .args .stack)) (now (c .before .before .before .before .before .before .before .args .output)) (now (c .before .before .before .before .before .before .before .args .line)) (c .if1 .taken)

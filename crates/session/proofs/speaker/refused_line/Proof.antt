@@ -4,10 +4,6 @@ use denote.Ref.{now}
 use Rattle.session.proofs.Next.{refusal-short, refusal-fits}
 use Rattle.session.proofs.speaker.refused_line.Statement.{statement}
 use Rattle.session.proofs.speaker.refused_line.Tie as tie
-use Rattle.session.proofs.speaker.refused_line.Reads as reads
-use Rattle.session.proofs.speaker.refused_line.Lts as lts
-use Rattle.session.proofs.printer.refusal_line.Reads as refusal-line-reads
-use Rattle.table.proofs.number.Reads as number-reads
 
 returns : tie.Need-returns
 returns c = refusal-short (c .before .before .args .refusal) (now (c .before .before .args .line)) (c .if1 .taken)

@@ -7,12 +7,6 @@ use denote.Ref.{now}
 use Rattle.session.proofs.Next.{fits-reading, tell-reading, tell-ended, tell-refused, tell-spent}
 use Rattle.session.proofs.speaker.tell.Statement.{statement}
 use Rattle.session.proofs.speaker.tell.Tie as tie
-use Rattle.session.proofs.speaker.tell.Reads as reads
-use Rattle.session.proofs.speaker.tell.Lts as lts
-use Rattle.session.proofs.printer.count_line.Reads as count-line-reads
-use Rattle.session.proofs.printer.reading_line.Reads as reading-line-reads
-use Rattle.session.proofs.printer.refusal_line.Reads as refusal-line-reads
-use Rattle.table.proofs.number.Reads as number-reads
 
 enum-known-said : tie.Need-enum-known-said
 enum-known-said c = search needs

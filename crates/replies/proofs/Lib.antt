@@ -1,0 +1,2 @@
+-- Laws of a line stored in a buffer.
+pub mod Lines

@@ -1,0 +1,2 @@
+-- The lines that a session prints.
+pub mod Lines
