@@ -59,7 +59,7 @@ module _ (cells upper lower first : List ℕ) (run : Run) (P : Passed cells (run
   setup = record { states = l .states; up = u; low = v }
 
   abbrev initials : List ℕ
-  initials = take (l .terminals - 4) (drop 4 cells)
+  initials = take (l .terminals - l .initials) (drop (l .initials) cells)
 
   abbrev terminals : List ℕ
   terminals = take (l .arcs - l .terminals) (drop (l .terminals) cells)
@@ -72,17 +72,17 @@ module _ (cells upper lower first : List ℕ) (run : Run) (P : Passed cells (run
 
   -- where the parts are
   pub record Within : Type 0 where
-    pub counts-first : 4 ≤ l .terminals
+    pub initials-first : l .initials ≤ l .terminals
     pub terminals-first : l .terminals ≤ l .arcs
     pub arcs-first : l .arcs ≤ l .end
     pub whole : l .end ≤ length cells
 
   pub within : Within
-  within = record { counts-first = omega (arith, L .terminals-is); terminals-first = omega (arith, L .terminals-is, L .arcs-is); arcs-first = omega (arith, L .arcs-is, L .end-is); whole = omega (arith, L .end-is, L .whole) }
+  within = record { initials-first = omega (arith, L .initials-is, L .terminals-is); terminals-first = omega (arith, L .terminals-is, L .arcs-is); arcs-first = omega (arith, L .arcs-is, L .end-is); whole = omega (arith, L .end-is, L .whole) }
 
   table-is : tableBy setup initials terminals arcs ≡ tableIn cells
   unfolding tableIn
-  table-is = λ i. record { states = L .states-is i; initials = initials-part cells l L i; terminals = terminals-part cells l L i; arcs = arcs-part cells l L i }
+  table-is = λ i. record { states = L .states-is i; initials = (ap (λ (k : ℕ). take (l .terminals - k) (drop k cells)) (L .initials-is) ∙ initials-part cells l L) i; terminals = terminals-part cells l L i; arcs = arcs-part cells l L i }
 
   query-is : queryBy setup upper lower ≡ query
   query-is =
@@ -114,4 +114,4 @@ module _ (cells upper lower first : List ℕ) (run : Run) (P : Passed cells (run
 pub passed-by : (cells : List ℕ) (task : ℕ) (upper lower first : List ℕ) → Asks cells task upper lower → first ≡ checked cells .first → Passed cells task upper lower first
 unfolding checked
 passed-by cells task upper lower first Q e =
-    record { asks = Q .asks; task-is = Q .task-is; loads = Q .loads; runs-is = Q .runs-is; index = e ∙ ap (λ (o : Option Table). checkedAs o .first) (Q .loads) }
+    record { asks = Q .asks; task-is = Q .task-is; loads = Q .loads; runs-is = Q .runs-is; index = e ∙ ap (λ (o : Option Table). checkedAs (layoutOf (countsIn cells)) o .first) (Q .loads) }

@@ -15,6 +15,7 @@ use Rattle.table.specs.Loaded.{countsIn, tableIn}
 use Rattle.table.specs.Calls.{layoutOf, LaidOut, checked}
 use Rattle.table.proofs.Parts.{arcsPart, arcs-part}
 use Rattle.table.proofs.Ruled.{Ruled, ruled}
+use Rattle.machine.specs.declared.Run.{Run}
 use Rattle.machine.specs.declared.Started.{Started}
 use Rattle.machine.specs.declared.StartAnswer.the-variants.{Ready, Refused}
 use Rattle.machine.specs.Query.{Task, taskOf, upperSide, lowerSide, reads, Query}
@@ -87,13 +88,15 @@ module _ (cells : List ℕ) (task : ℕ) (upper lower : List ℕ) where
             go (x ∷ xs) m C = absurd (omega arith)
 
         -- the answer with the cells of a cycle
-        abbrev told : Cycle → Started
-        told x = record { answer = Refused (Input IdleCycle); run = firstRun 0; cycle = x .states; length = x .length }
+        abbrev told : Run → Cycle → Started
+        told r x = record { answer = Refused (Input IdleCycle); run = r; cycle = x .states; length = x .length }
 
-        pub start-cycle : (c .length ≡ 0 → ⊥) → StartIs cells task upper lower (told c)
-        start-cycle n = subst (λ (x : Cycle). StartIs cells task upper lower (told x)) (sym (F .cells)) (go (F .cycle) (ap (λ (x : Cycle). x .length) (F .cells)) found)
+        pub start-cycle : (r : Run) → r ≡ firstRun 0 → (c .length ≡ 0 → ⊥) → StartIs cells task upper lower (told r c)
+        start-cycle r z n =
+            subst (λ (y : Run). StartIs cells task upper lower (told y c)) (sym z)
+            (subst (λ (x : Cycle). StartIs cells task upper lower (told (firstRun 0) x)) (sym (F .cells)) (go (F .cycle) (ap (λ (x : Cycle). x .length) (F .cells)) found))
           where
-            go : (states : List ℕ) → c .length ≡ length states → CycleOrNone (arcsPart cells l start-laid) (reads (A .asks) upperSide) (reads (A .asks) lowerSide) states → StartIs cells task upper lower (told (cycleCells states))
+            go : (states : List ℕ) → c .length ≡ length states → CycleOrNone (arcsPart cells l start-laid) (reads (A .asks) upperSide) (reads (A .asks) lowerSide) states → StartIs cells task upper lower (told (firstRun 0) (cycleCells states))
             go [] m C = absurd (n m)
             go (x ∷ xs) m C =
                 start-by true (found-some (tableIn cells) rules (arcsPart cells l start-laid) (arcs-part cells l start-laid) (A .asks) x xs C) (x ∷ xs)

@@ -4,14 +4,18 @@ use crate::query;
 use frames::Setup;
 use machine::Called;
 use machine::Run;
+use table::Layout;
 use table::checker;
 ghost use mathlib.Core.Path.{_≡_};
+ghost use Rattle.table.specs.Loaded.{countsIn};
+ghost use Rattle.table.specs.Calls.{layoutOf};
 ghost use Rattle.machine.specs.Reading.{outcome};
 ghost use Rattle.engine.specs.Advancing.{OutcomeIs, Passed};
 
 // 21, then the steps, where 20, 11 and 10 are not given.
 fn resume(
     table: &[u16],
+    at: Layout,
     first: &[u16],
     upper: &[u8],
     lower: &[u8],
@@ -21,9 +25,10 @@ fn resume(
     output: &mut [u8],
 ) -> Called
     requires { ⌜ Passed (now table) (run .task) (now upper) (now lower) (now first) ⌝ }
+    requires { ⌜ at ≡ layoutOf (countsIn (now table)) ⌝ }
     ensures { λ r. ⌜ OutcomeIs (outcome (now (table .entry)) (now (upper .entry)) (now (lower .entry)) run (now (stack .entry)) allowance (now (output .entry))) r (now (stack .exit)) (now (output .exit)) ⌝ }
 {
-    let at = checker::layout(table);
+    let initials = at.initials;
     let terminals = at.terminals;
     let arcs = at.arcs;
     let end = at.end;
@@ -36,7 +41,7 @@ fn resume(
     search::call(
         setup,
         first,
-        &table[4..terminals],
+        &table[initials..terminals],
         &table[terminals..arcs],
         &table[arcs..end],
         upper,
@@ -64,12 +69,23 @@ pub fn advance(
 {
     let checked = checker::check(table);
     let task = run.task;
-    let found = query::asked(checked.ok, task, upper, lower);
-    match found {
+    let asking = query::asked(checked.ok, task, upper, lower);
+    match asking {
         Asking::Refused(refusal) => search::refused(0, refusal, run),
         Asking::Passes => {
+            let at = checked.layout;
             let first = checked.first;
-            resume(table, &first, upper, lower, run, stack, allowance, output)
+            resume(
+                table,
+                at,
+                &first,
+                upper,
+                lower,
+                run,
+                stack,
+                allowance,
+                output,
+            )
         }
     }
 }

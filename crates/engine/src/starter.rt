@@ -11,17 +11,24 @@ ghost use mathlib.Core.List.{[]};
 ghost use Rattle.machine.specs.declared.StartAnswer.the-variants.{Ready, Refused};
 ghost use Rattle.machine.specs.Start.{firstRun, startedWith, StartIs};
 
+// A run of a task with nothing started; of no task, 0, where a start is refused.
+fn first_run(task: u32) -> Run
+    ensures { λ r. ⌜ r ≡ firstRun task ⌝ }
+{
+    Run {
+        task,
+        started: 0,
+        depth: 0,
+    }
+}
+
 // A start that is turned down by 20, 11 or 10.
 fn refused(refusal: Refusal) -> Started
     ensures { λ r. ⌜ r ≡ startedWith (Refused refusal) (firstRun 0) [] ⌝ }
 {
     Started {
         answer: StartAnswer::Refused(refusal),
-        run: Run {
-            task: 0,
-            started: 0,
-            depth: 0,
-        },
+        run: first_run(0),
         cycle: [0u16; 256],
         length: 0,
     }
@@ -33,11 +40,7 @@ fn ready(task: u32) -> Started
 {
     Started {
         answer: StartAnswer::Ready,
-        run: Run {
-            task,
-            started: 0,
-            depth: 0,
-        },
+        run: first_run(task),
         cycle: [0u16; 256],
         length: 0,
     }
@@ -53,7 +56,7 @@ pub fn start(table: &[u16], task: u32, upper: &[u8], lower: &[u8]) -> Started
         return refused(refusal);
     }
     let first = checked.first;
-    let at = table::checker::layout(table);
+    let at = checked.layout;
     let states = at.states as usize;
     let arcs = at.arcs;
     let end = at.end;
@@ -70,11 +73,7 @@ pub fn start(table: &[u16], task: u32, upper: &[u8], lower: &[u8]) -> Started
     let cycle = found.states;
     Started {
         answer: StartAnswer::Refused(Refusal::Input(InputCause::IdleCycle)),
-        run: Run {
-            task: 0,
-            started: 0,
-            depth: 0,
-        },
+        run: first_run(0),
         cycle,
         length: found.length,
     }

@@ -34,7 +34,8 @@ fn side_of(setup: Setup) -> usize
     if setup.up { 2 } else { 1 }
 }
 
-// The output of a path, of that many letters, from the frames below its last one. Recognition writes none, so that nothing is gathered.
+// The output of a path, of that many letters, from the frames below its last one. Where it has none, as always in recognition, no frame
+// is looked at.
 pub fn write(setup: Setup, arcs: &[u16], stack: &[u32], depth: usize, count: u32, output: &mut [u8])
     requires { ⌜ Tried (now arcs) (sideBy setup) (now stack) depth ⌝ }
     requires { ⌜ count ≡ length (lettersBy setup (now arcs) (now stack) depth) ⌝ }

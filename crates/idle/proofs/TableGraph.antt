@@ -44,7 +44,7 @@ loaded-laid cells t l e i = laid-out cells l i (let w = loaded-whole cells t e i
 
 pub loaded-index : (cells : List ℕ) (t : Table) → loaded cells ≡ some t → checked cells .first ≡ firstIndex (t .states) (t .arcs)
 unfolding checked
-loaded-index cells t e = ap (λ (o : Option Table). checkedAs o .first) e
+loaded-index cells t e = ap (λ (o : Option Table). checkedAs (layoutOf (countsIn cells)) o .first) e
 
 module _ (t : Table) (U : Ruled t) (cells : List ℕ) (e : arcsAs cells ≡ t .arcs) where
   size : length cells / 4 ≡ length (t .arcs)

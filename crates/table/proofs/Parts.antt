@@ -76,6 +76,7 @@ pub laid-out : (cells : List ℕ) (l : Layout) → l ≡ layoutOf (countsIn cell
 laid-out cells l e h =
     record {
       states-is = ap (λ (x : Layout). x .states) e;
+      initials-is = ap (λ (x : Layout). x .initials) e;
       terminals-is = ap (λ (x : Layout). x .terminals) e;
       arcs-is = ap (λ (x : Layout). x .arcs) e;
       end-is = ap (λ (x : Layout). x .end) e;

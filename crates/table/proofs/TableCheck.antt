@@ -10,9 +10,17 @@ use Rattle.table.specs.declared.Checked.{Checked}
 use Rattle.table.specs.Table.{Table}
 use Rattle.table.specs.Rules.{keepsRules}
 use Rattle.table.specs.Loaded.{countsIn, extent, tableIn, loaded}
-use Rattle.table.specs.Calls.{checkedAs, checked}
+use Rattle.table.specs.Calls.{layoutOf, checkedAs, checked}
 
 module _ (cells : List ℕ) (r : Checked) (is : r ≡ checked cells) where
+  pub laid : r .layout ≡ layoutOf (countsIn cells)
+  unfolding checked
+  laid = ap (λ (x : Checked). x .layout) is ∙ go (loaded cells)
+    where
+      go : (o : Option Table) → checkedAs (layoutOf (countsIn cells)) o .layout ≡ layoutOf (countsIn cells)
+      go none = refl
+      go (some t) = refl
+
   -- the table or none, by the outcome
   abbrev decided : Bool → Option Table
   decided b = cond b (some (tableIn cells)) none
@@ -21,7 +29,7 @@ module _ (cells : List ℕ) (r : Checked) (is : r ≡ checked cells) where
   unfolding checked loaded
   passed e = go (leb (extent (countsIn cells)) (length cells) && keepsRules (tableIn cells)) (sym (ap (λ (x : Checked). x .ok) is) ∙ e)
     where
-      go : (b : Bool) → checkedAs (decided b) .ok ≡ true → decided b ≡ some (tableIn cells)
+      go : (b : Bool) → checkedAs (layoutOf (countsIn cells)) (decided b) .ok ≡ true → decided b ≡ some (tableIn cells)
       go true k = refl
       go false k = absurd (true≢false (sym k))
 
@@ -29,6 +37,6 @@ module _ (cells : List ℕ) (r : Checked) (is : r ≡ checked cells) where
   unfolding checked loaded
   failed e = go (leb (extent (countsIn cells)) (length cells) && keepsRules (tableIn cells)) (sym (ap (λ (x : Checked). x .ok) is) ∙ e)
     where
-      go : (b : Bool) → checkedAs (decided b) .ok ≡ false → decided b ≡ none
+      go : (b : Bool) → checkedAs (layoutOf (countsIn cells)) (decided b) .ok ≡ false → decided b ≡ none
       go true k = absurd (true≢false k)
       go false k = refl

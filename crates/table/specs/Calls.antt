@@ -18,25 +18,26 @@ use Rattle.table.specs.Index.{firstArcs}
 use Rattle.table.specs.Text.{textOf}
 use Rattle.table.specs.Parse.{Parsed, accepted, turnedDown, parsed}
 
--- where the parts of a loaded table begin
+-- where the parts of a loaded table begin, by its counts
 abbrev pub layoutOf : Counts → Layout
-layoutOf c = record { states = c .states; terminals = terminalsAt c; arcs = arcsAt c; end = extent c }
+layoutOf c = record { states = c .states; initials = 4; terminals = terminalsAt c; arcs = arcsAt c; end = extent c }
 
 -- the layout of a table that the cells hold whole
 pub record LaidOut (cells : List ℕ) (l : Layout) : Type 0 where
   pub states-is : l .states ≡ countsIn cells .states
+  pub initials-is : l .initials ≡ 4
   pub terminals-is : l .terminals ≡ terminalsAt (countsIn cells)
   pub arcs-is : l .arcs ≡ arcsAt (countsIn cells)
   pub end-is : l .end ≡ extent (countsIn cells)
   pub whole : extent (countsIn cells) ≤ length cells
 
--- the table check
-abbrev pub checkedAs : Option Table → Checked
-checkedAs none = record { ok = false; first = replicate 257 0 }
-checkedAs (some t) = record { ok = true; first = firstArcs t }
+-- the table check, where l is the layout by the counts
+abbrev pub checkedAs : Layout → Option Table → Checked
+checkedAs l none = record { ok = false; layout = l; first = replicate 257 0 }
+checkedAs l (some t) = record { ok = true; layout = l; first = firstArcs t }
 
 unfoldable pub checked : List ℕ → Checked
-checked cells = checkedAs (loaded cells)
+checked cells = checkedAs (layoutOf (countsIn cells)) (loaded cells)
 
 -- 24: a destination takes what is to be written, or is too short for it; a longer one is untouched beyond that
 abbrev pub storedAnswer : List ℕ → List ℕ → Answer

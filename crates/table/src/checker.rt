@@ -138,10 +138,12 @@ fn cell(cells: &[u16], at: usize) -> u16
 pub fn layout(cells: &[u16]) -> Layout
     ensures { λ r. ⌜ r ≡ layoutOf (countsIn (now (cells .entry))) ⌝ }
 {
-    let terminals = 4 + cell(cells, 1) as usize;
+    let initials: usize = 4;
+    let terminals = initials + cell(cells, 1) as usize;
     let arcs = terminals + cell(cells, 2) as usize;
     Layout {
         states: cell(cells, 0),
+        initials,
         terminals,
         arcs,
         end: arcs + 4 * cell(cells, 3) as usize,
@@ -178,12 +180,14 @@ pub fn check(cells: &[u16]) -> Checked
         if keeps_rules(cells, at) {
             return Checked {
                 ok: true,
+                layout: at,
                 first: first_arcs(&cells[arcs..end], at.states),
             };
         }
     }
     Checked {
         ok: false,
+        layout: at,
         first: [0u16; 257],
     }
 }

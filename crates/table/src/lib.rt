@@ -50,9 +50,10 @@ pub enum Answer {
     Refused(Refusal),
 }
 
-// Where the terminal states and the arcs of a loaded table begin, and where it ends.
+// A loaded table's count of states, where its initial states, its terminal states and its arcs begin, and where it ends.
 pub struct Layout {
     pub states: u16,
+    pub initials: usize,
     pub terminals: usize,
     pub arcs: usize,
     pub end: usize,
@@ -72,9 +73,10 @@ pub enum Read {
     Fault(InputCause),
 }
 
-// What the table check tells: whether the table keeps the rules, and where each state's arcs begin.
+// What the table check tells: whether the table keeps the rules, where its parts stand, and where each state's arcs begin.
 pub struct Checked {
     pub ok: bool,
+    pub layout: Layout,
     pub first: [u16; 257],
 }
 

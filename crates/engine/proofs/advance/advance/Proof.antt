@@ -2,6 +2,7 @@ use borrow.Author.Needs.{needs}
 use mathlib.Core.Path.{sym, ap, _∙_}
 use denote.Ref.{now}
 use Rattle.table.specs.declared.Checked.{Checked}
+use Rattle.table.proofs.TableCheck.{laid}
 use Rattle.engine.proofs.Words.{asking-turned, asking-passes}
 use Rattle.engine.proofs.Resuming.{turned-outcome, passed-by}
 use Rattle.engine.proofs.advance.advance.Statement.{statement}
@@ -13,8 +14,8 @@ check-requires c κs = search needs
 asked-requires : tie.Need-asked-requires
 asked-requires c κs = search needs
 
-enum-known-found : tie.Need-enum-known-found
-enum-known-found c = search needs
+enum-known-asking : tie.Need-enum-known-asking
+enum-known-asking c = search needs
 
 refused-requires : tie.Need-refused-requires
 refused-requires c κs = search needs
@@ -26,10 +27,10 @@ slice-aggregate-resume : tie.Need-slice-aggregate-resume
 slice-aggregate-resume c = search needs
 
 resume-requires : tie.Need-resume-requires
-resume-requires c κs = passed-by _ _ _ _ _ (asking-passes (c .before .before .before .before .before .before .before .before .before .before .before .before .before .args .run .task) (now (c .before .before .before .before .before .before .before .before .before .before .before .before .before .args .upper)) (now (c .before .before .before .before .before .before .before .before .before .before .before .before .before .args .lower)) (now (c .before .before .before .before .before .before .before .before .before .before .before .before .before .args .table)) (c .before .before .before .before .before .before .before .check .result .ok) (ap (λ (x : Checked). x .ok) (c .before .before .before .before .before .before .before .check .ensures)) (sym (c .before .before .before .before .enum-told .given .1) ∙ c .before .before .before .before .before .before .asked .ensures (now (c .before .before .before .before .before .before .before .before .before .before .before .before .before .args .table)) (ap (λ (x : Checked). x .ok) (c .before .before .before .before .before .before .before .check .ensures)))) (ap (λ (x : Checked). x .first) (c .before .before .before .before .before .before .before .check .ensures))
+resume-requires c κs = (passed-by _ _ _ _ _ (asking-passes (c .before .before .before .before .before .before .before .before .before .before .before .before .before .before .args .run .task) (now (c .before .before .before .before .before .before .before .before .before .before .before .before .before .before .args .upper)) (now (c .before .before .before .before .before .before .before .before .before .before .before .before .before .before .args .lower)) (now (c .before .before .before .before .before .before .before .before .before .before .before .before .before .before .args .table)) (c .before .before .before .before .before .before .before .before .check .result .ok) (ap (λ (x : Checked). x .ok) (c .before .before .before .before .before .before .before .before .check .ensures)) (sym (c .before .before .before .before .before .enum-told .given .1) ∙ c .before .before .before .before .before .before .before .asked .ensures (now (c .before .before .before .before .before .before .before .before .before .before .before .before .before .before .args .table)) (ap (λ (x : Checked). x .ok) (c .before .before .before .before .before .before .before .before .check .ensures)))) (ap (λ (x : Checked). x .first) (c .before .before .before .before .before .before .before .before .check .ensures)), laid _ (c .before .before .before .before .before .before .before .before .check .result) (c .before .before .before .before .before .before .before .before .check .ensures))
 
 returns : tie.Need-returns
-returns c = let a = c .before .before .before .before .before .before .before .before .before .before .before .args in turned-outcome (now (a .table)) (now (a .upper)) (now (a .lower)) (a .run) (now (a .stack)) (a .allowance) (now (a .output)) _ (asking-turned _ _ (sym (c .before .before .found .given .1) ∙ c .before .before .before .before .asked .ensures (now (a .table)) (ap (λ (x : Checked). x .ok) (c .before .before .before .before .before .check .ensures)))) _ (c .refused .ensures)
+returns c = let a = c .before .before .before .before .before .before .before .before .before .before .before .args in turned-outcome (now (a .table)) (now (a .upper)) (now (a .lower)) (a .run) (now (a .stack)) (a .allowance) (now (a .output)) _ (asking-turned _ _ (sym (c .before .before .asking .given .1) ∙ c .before .before .before .before .asked .ensures (now (a .table)) (ap (λ (x : Checked). x .ok) (c .before .before .before .before .before .check .ensures)))) _ (c .refused .ensures)
 
 same-length : tie.Need-same-length
 same-length c = search needs
@@ -46,7 +47,7 @@ advance-spec =
     (tie.spec
     check-requires
     asked-requires
-    enum-known-found
+    enum-known-asking
     refused-requires
     enum-told
     slice-aggregate-resume

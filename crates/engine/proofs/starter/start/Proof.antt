@@ -4,6 +4,7 @@ use mathlib.Core.Path.{sym, ap, subst, _∙_}
 use denote.Ref.{now}
 use borrow.Author.Needs.{needs}
 use Rattle.table.specs.declared.Checked.{Checked}
+use Rattle.table.proofs.TableCheck.{laid}
 use Rattle.machine.specs.Start.{StartIs}
 use Rattle.machine.specs.declared.Started.{Started}
 use Rattle.engine.proofs.Words.{asking-turned, asking-passes}
@@ -29,23 +30,20 @@ returns c = subst (λ (x : Started). StartIs (now (c .before .before .before .be
 enum-told : tie.Need-enum-told
 enum-told c = search needs
 
-layout-requires : tie.Need-layout-requires
-layout-requires c κs = search needs
-
 cast-states : tie.Need-cast-states
 cast-states c = search needs
 
 mul-find : tie.Need-mul-find
-mul-find c = let l = start-laid (now (c .before .before .before .before .before .before .before .before .before .before .args .table)) (c .before .before .before .before .before .before .before .before .before .before .args .task) (now (c .before .before .before .before .before .before .before .before .before .before .args .upper)) (now (c .before .before .before .before .before .before .before .before .before .before .args .lower)) (asking-passes (c .before .before .before .before .before .before .before .before .before .before .args .task) (now (c .before .before .before .before .before .before .before .before .before .before .args .upper)) (now (c .before .before .before .before .before .before .before .before .before .before .args .lower)) (now (c .before .before .before .before .before .before .before .before .before .before .args .table)) (c .before .before .before .before .before .before .check .result .ok) (ap (λ (x : Checked). x .ok) (c .before .before .before .before .before .before .check .ensures)) (sym (c .before .before .before .enum-told .given .1) ∙ c .before .before .before .before .before .asked .ensures (now (c .before .before .before .before .before .before .before .before .before .before .args .table)) (ap (λ (x : Checked). x .ok) (c .before .before .before .before .before .before .check .ensures)))) (c .before .layout .result) (c .before .layout .ensures) in omega (arith, l .arcs-is, l .end-is, l .whole)
+mul-find c = let l = start-laid (now (c .before .before .before .before .before .before .before .before .before .before .args .table)) (c .before .before .before .before .before .before .before .before .before .before .args .task) (now (c .before .before .before .before .before .before .before .before .before .before .args .upper)) (now (c .before .before .before .before .before .before .before .before .before .before .args .lower)) (asking-passes (c .before .before .before .before .before .before .before .before .before .before .args .task) (now (c .before .before .before .before .before .before .before .before .before .before .args .upper)) (now (c .before .before .before .before .before .before .before .before .before .before .args .lower)) (now (c .before .before .before .before .before .before .before .before .before .before .args .table)) (c .before .before .before .before .before .before .check .result .ok) (ap (λ (x : Checked). x .ok) (c .before .before .before .before .before .before .check .ensures)) (sym (c .before .before .before .enum-told .given .1) ∙ c .before .before .before .before .before .asked .ensures (now (c .before .before .before .before .before .before .before .before .before .before .args .table)) (ap (λ (x : Checked). x .ok) (c .before .before .before .before .before .before .check .ensures)))) (c .before .before .before .before .before .before .check .result .layout) (laid (now (c .before .before .before .before .before .before .before .before .before .before .args .table)) (c .before .before .before .before .before .before .check .result) (c .before .before .before .before .before .before .check .ensures)) in omega (arith, l .arcs-is, l .end-is, l .whole)
 
 sub-find : tie.Need-sub-find
-sub-find c = let l = start-laid (now (c .before .before .before .before .before .before .before .before .before .before .args .table)) (c .before .before .before .before .before .before .before .before .before .before .args .task) (now (c .before .before .before .before .before .before .before .before .before .before .args .upper)) (now (c .before .before .before .before .before .before .before .before .before .before .args .lower)) (asking-passes (c .before .before .before .before .before .before .before .before .before .before .args .task) (now (c .before .before .before .before .before .before .before .before .before .before .args .upper)) (now (c .before .before .before .before .before .before .before .before .before .before .args .lower)) (now (c .before .before .before .before .before .before .before .before .before .before .args .table)) (c .before .before .before .before .before .before .check .result .ok) (ap (λ (x : Checked). x .ok) (c .before .before .before .before .before .before .check .ensures)) (sym (c .before .before .before .enum-told .given .1) ∙ c .before .before .before .before .before .asked .ensures (now (c .before .before .before .before .before .before .before .before .before .before .args .table)) (ap (λ (x : Checked). x .ok) (c .before .before .before .before .before .before .check .ensures)))) (c .before .layout .result) (c .before .layout .ensures) in omega (arith, l .arcs-is, l .end-is, l .whole)
+sub-find c = let l = start-laid (now (c .before .before .before .before .before .before .before .before .before .before .args .table)) (c .before .before .before .before .before .before .before .before .before .before .args .task) (now (c .before .before .before .before .before .before .before .before .before .before .args .upper)) (now (c .before .before .before .before .before .before .before .before .before .before .args .lower)) (asking-passes (c .before .before .before .before .before .before .before .before .before .before .args .task) (now (c .before .before .before .before .before .before .before .before .before .before .args .upper)) (now (c .before .before .before .before .before .before .before .before .before .before .args .lower)) (now (c .before .before .before .before .before .before .before .before .before .before .args .table)) (c .before .before .before .before .before .before .check .result .ok) (ap (λ (x : Checked). x .ok) (c .before .before .before .before .before .before .check .ensures)) (sym (c .before .before .before .enum-told .given .1) ∙ c .before .before .before .before .before .asked .ensures (now (c .before .before .before .before .before .before .before .before .before .before .args .table)) (ap (λ (x : Checked). x .ok) (c .before .before .before .before .before .before .check .ensures)))) (c .before .before .before .before .before .before .check .result .layout) (laid (now (c .before .before .before .before .before .before .before .before .before .before .args .table)) (c .before .before .before .before .before .before .check .result) (c .before .before .before .before .before .before .check .ensures)) in omega (arith, l .arcs-is, l .end-is, l .whole)
 
 part-find-start : tie.Need-part-find-start
-part-find-start c = let l = start-laid (now (c .before .before .before .before .before .before .before .before .before .before .args .table)) (c .before .before .before .before .before .before .before .before .before .before .args .task) (now (c .before .before .before .before .before .before .before .before .before .before .args .upper)) (now (c .before .before .before .before .before .before .before .before .before .before .args .lower)) (asking-passes (c .before .before .before .before .before .before .before .before .before .before .args .task) (now (c .before .before .before .before .before .before .before .before .before .before .args .upper)) (now (c .before .before .before .before .before .before .before .before .before .before .args .lower)) (now (c .before .before .before .before .before .before .before .before .before .before .args .table)) (c .before .before .before .before .before .before .check .result .ok) (ap (λ (x : Checked). x .ok) (c .before .before .before .before .before .before .check .ensures)) (sym (c .before .before .before .enum-told .given .1) ∙ c .before .before .before .before .before .asked .ensures (now (c .before .before .before .before .before .before .before .before .before .before .args .table)) (ap (λ (x : Checked). x .ok) (c .before .before .before .before .before .before .check .ensures)))) (c .before .layout .result) (c .before .layout .ensures) in omega (arith, l .arcs-is, l .end-is, l .whole)
+part-find-start c = let l = start-laid (now (c .before .before .before .before .before .before .before .before .before .before .args .table)) (c .before .before .before .before .before .before .before .before .before .before .args .task) (now (c .before .before .before .before .before .before .before .before .before .before .args .upper)) (now (c .before .before .before .before .before .before .before .before .before .before .args .lower)) (asking-passes (c .before .before .before .before .before .before .before .before .before .before .args .task) (now (c .before .before .before .before .before .before .before .before .before .before .args .upper)) (now (c .before .before .before .before .before .before .before .before .before .before .args .lower)) (now (c .before .before .before .before .before .before .before .before .before .before .args .table)) (c .before .before .before .before .before .before .check .result .ok) (ap (λ (x : Checked). x .ok) (c .before .before .before .before .before .before .check .ensures)) (sym (c .before .before .before .enum-told .given .1) ∙ c .before .before .before .before .before .asked .ensures (now (c .before .before .before .before .before .before .before .before .before .before .args .table)) (ap (λ (x : Checked). x .ok) (c .before .before .before .before .before .before .check .ensures)))) (c .before .before .before .before .before .before .check .result .layout) (laid (now (c .before .before .before .before .before .before .before .before .before .before .args .table)) (c .before .before .before .before .before .before .check .result) (c .before .before .before .before .before .before .check .ensures)) in omega (arith, l .arcs-is, l .end-is, l .whole)
 
 part-find-end : tie.Need-part-find-end
-part-find-end c = let l = start-laid (now (c .before .before .before .before .before .before .before .before .before .before .args .table)) (c .before .before .before .before .before .before .before .before .before .before .args .task) (now (c .before .before .before .before .before .before .before .before .before .before .args .upper)) (now (c .before .before .before .before .before .before .before .before .before .before .args .lower)) (asking-passes (c .before .before .before .before .before .before .before .before .before .before .args .task) (now (c .before .before .before .before .before .before .before .before .before .before .args .upper)) (now (c .before .before .before .before .before .before .before .before .before .before .args .lower)) (now (c .before .before .before .before .before .before .before .before .before .before .args .table)) (c .before .before .before .before .before .before .check .result .ok) (ap (λ (x : Checked). x .ok) (c .before .before .before .before .before .before .check .ensures)) (sym (c .before .before .before .enum-told .given .1) ∙ c .before .before .before .before .before .asked .ensures (now (c .before .before .before .before .before .before .before .before .before .before .args .table)) (ap (λ (x : Checked). x .ok) (c .before .before .before .before .before .before .check .ensures)))) (c .before .layout .result) (c .before .layout .ensures) in omega (arith, l .arcs-is, l .end-is, l .whole)
+part-find-end c = let l = start-laid (now (c .before .before .before .before .before .before .before .before .before .before .args .table)) (c .before .before .before .before .before .before .before .before .before .before .args .task) (now (c .before .before .before .before .before .before .before .before .before .before .args .upper)) (now (c .before .before .before .before .before .before .before .before .before .before .args .lower)) (asking-passes (c .before .before .before .before .before .before .before .before .before .before .args .task) (now (c .before .before .before .before .before .before .before .before .before .before .args .upper)) (now (c .before .before .before .before .before .before .before .before .before .before .args .lower)) (now (c .before .before .before .before .before .before .before .before .before .before .args .table)) (c .before .before .before .before .before .before .check .result .ok) (ap (λ (x : Checked). x .ok) (c .before .before .before .before .before .before .check .ensures)) (sym (c .before .before .before .enum-told .given .1) ∙ c .before .before .before .before .before .asked .ensures (now (c .before .before .before .before .before .before .before .before .before .before .args .table)) (ap (λ (x : Checked). x .ok) (c .before .before .before .before .before .before .check .ensures)))) (c .before .before .before .before .before .before .check .result .layout) (laid (now (c .before .before .before .before .before .before .before .before .before .before .args .table)) (c .before .before .before .before .before .before .check .result) (c .before .before .before .before .before .before .check .ensures)) in omega (arith, l .arcs-is, l .end-is, l .whole)
 
 slice-aggregate-find : tie.Need-slice-aggregate-find
 slice-aggregate-find c = search needs
@@ -57,16 +55,19 @@ reads-lower-requires : tie.Need-reads-lower-requires
 reads-lower-requires c κs = search needs
 
 find-requires : tie.Need-find-requires
-find-requires c κs = start-graph (now (c .before .before .before .before .before .before .before .before .before .before .before .before .before .before .args .table)) (c .before .before .before .before .before .before .before .before .before .before .before .before .before .before .args .task) (now (c .before .before .before .before .before .before .before .before .before .before .before .before .before .before .args .upper)) (now (c .before .before .before .before .before .before .before .before .before .before .before .before .before .before .args .lower)) (asking-passes (c .before .before .before .before .before .before .before .before .before .before .before .before .before .before .args .task) (now (c .before .before .before .before .before .before .before .before .before .before .before .before .before .before .args .upper)) (now (c .before .before .before .before .before .before .before .before .before .before .before .before .before .before .args .lower)) (now (c .before .before .before .before .before .before .before .before .before .before .before .before .before .before .args .table)) (c .before .before .before .before .before .before .before .before .before .before .check .result .ok) (ap (λ (x : Checked). x .ok) (c .before .before .before .before .before .before .before .before .before .before .check .ensures)) (sym (c .before .before .before .before .before .before .before .enum-told .given .1) ∙ c .before .before .before .before .before .before .before .before .before .asked .ensures (now (c .before .before .before .before .before .before .before .before .before .before .before .before .before .before .args .table)) (ap (λ (x : Checked). x .ok) (c .before .before .before .before .before .before .before .before .before .before .check .ensures)))) (c .before .before .before .before .before .layout .result) (c .before .before .before .before .before .layout .ensures) (c .before .before .before .before .before .before .before .before .before .before .check .result) (c .before .before .before .before .before .before .before .before .before .before .check .ensures)
+find-requires c κs = start-graph (now (c .before .before .before .before .before .before .before .before .before .before .before .before .before .before .args .table)) (c .before .before .before .before .before .before .before .before .before .before .before .before .before .before .args .task) (now (c .before .before .before .before .before .before .before .before .before .before .before .before .before .before .args .upper)) (now (c .before .before .before .before .before .before .before .before .before .before .before .before .before .before .args .lower)) (asking-passes (c .before .before .before .before .before .before .before .before .before .before .before .before .before .before .args .task) (now (c .before .before .before .before .before .before .before .before .before .before .before .before .before .before .args .upper)) (now (c .before .before .before .before .before .before .before .before .before .before .before .before .before .before .args .lower)) (now (c .before .before .before .before .before .before .before .before .before .before .before .before .before .before .args .table)) (c .before .before .before .before .before .before .before .before .before .before .check .result .ok) (ap (λ (x : Checked). x .ok) (c .before .before .before .before .before .before .before .before .before .before .check .ensures)) (sym (c .before .before .before .before .before .before .before .enum-told .given .1) ∙ c .before .before .before .before .before .before .before .before .before .asked .ensures (now (c .before .before .before .before .before .before .before .before .before .before .before .before .before .before .args .table)) (ap (λ (x : Checked). x .ok) (c .before .before .before .before .before .before .before .before .before .before .check .ensures)))) (c .before .before .before .before .before .before .before .before .before .before .check .result .layout) (laid (now (c .before .before .before .before .before .before .before .before .before .before .before .before .before .before .args .table)) (c .before .before .before .before .before .before .before .before .before .before .check .result) (c .before .before .before .before .before .before .before .before .before .before .check .ensures)) (c .before .before .before .before .before .before .before .before .before .before .check .result) (c .before .before .before .before .before .before .before .before .before .before .check .ensures)
 
 ready-requires : tie.Need-ready-requires
 ready-requires c κs = search needs
 
 returns-2 : tie.Need-returns-2
-returns-2 c = subst (λ (x : Started). StartIs (now (c .before .before .before .before .before .before .before .before .before .before .before .before .before .before .before .before .before .before .args .table)) (c .before .before .before .before .before .before .before .before .before .before .before .before .before .before .before .before .before .before .args .task) (now (c .before .before .before .before .before .before .before .before .before .before .before .before .before .before .before .before .before .before .args .upper)) (now (c .before .before .before .before .before .before .before .before .before .before .before .before .before .before .before .before .before .before .args .lower)) x) (sym (c .ready .ensures)) (start-ready (now (c .before .before .before .before .before .before .before .before .before .before .before .before .before .before .before .before .before .before .args .table)) (c .before .before .before .before .before .before .before .before .before .before .before .before .before .before .before .before .before .before .args .task) (now (c .before .before .before .before .before .before .before .before .before .before .before .before .before .before .before .before .before .before .args .upper)) (now (c .before .before .before .before .before .before .before .before .before .before .before .before .before .before .before .before .before .before .args .lower)) (asking-passes (c .before .before .before .before .before .before .before .before .before .before .before .before .before .before .before .before .before .before .args .task) (now (c .before .before .before .before .before .before .before .before .before .before .before .before .before .before .before .before .before .before .args .upper)) (now (c .before .before .before .before .before .before .before .before .before .before .before .before .before .before .before .before .before .before .args .lower)) (now (c .before .before .before .before .before .before .before .before .before .before .before .before .before .before .before .before .before .before .args .table)) (c .before .before .before .before .before .before .before .before .before .before .before .before .before .before .check .result .ok) (ap (λ (x : Checked). x .ok) (c .before .before .before .before .before .before .before .before .before .before .before .before .before .before .check .ensures)) (sym (c .before .before .before .before .before .before .before .before .before .before .before .enum-told .given .1) ∙ c .before .before .before .before .before .before .before .before .before .before .before .before .before .asked .ensures (now (c .before .before .before .before .before .before .before .before .before .before .before .before .before .before .before .before .before .before .args .table)) (ap (λ (x : Checked). x .ok) (c .before .before .before .before .before .before .before .before .before .before .before .before .before .before .check .ensures)))) (c .before .before .before .before .before .before .before .before .before .layout .result) (c .before .before .before .before .before .before .before .before .before .layout .ensures) (c .before .before .before .before .before .reads-upper .result) (c .before .before .before .before .reads-lower .result) (c .before .before .before .before .before .reads-upper .ensures) (c .before .before .before .before .reads-lower .ensures) (c .before .before .before .find .result) (c .before .before .before .find .ensures) (c .before .if1 .taken))
+returns-2 c = subst (λ (x : Started). StartIs (now (c .before .before .before .before .before .before .before .before .before .before .before .before .before .before .before .before .before .before .args .table)) (c .before .before .before .before .before .before .before .before .before .before .before .before .before .before .before .before .before .before .args .task) (now (c .before .before .before .before .before .before .before .before .before .before .before .before .before .before .before .before .before .before .args .upper)) (now (c .before .before .before .before .before .before .before .before .before .before .before .before .before .before .before .before .before .before .args .lower)) x) (sym (c .ready .ensures)) (start-ready (now (c .before .before .before .before .before .before .before .before .before .before .before .before .before .before .before .before .before .before .args .table)) (c .before .before .before .before .before .before .before .before .before .before .before .before .before .before .before .before .before .before .args .task) (now (c .before .before .before .before .before .before .before .before .before .before .before .before .before .before .before .before .before .before .args .upper)) (now (c .before .before .before .before .before .before .before .before .before .before .before .before .before .before .before .before .before .before .args .lower)) (asking-passes (c .before .before .before .before .before .before .before .before .before .before .before .before .before .before .before .before .before .before .args .task) (now (c .before .before .before .before .before .before .before .before .before .before .before .before .before .before .before .before .before .before .args .upper)) (now (c .before .before .before .before .before .before .before .before .before .before .before .before .before .before .before .before .before .before .args .lower)) (now (c .before .before .before .before .before .before .before .before .before .before .before .before .before .before .before .before .before .before .args .table)) (c .before .before .before .before .before .before .before .before .before .before .before .before .before .before .check .result .ok) (ap (λ (x : Checked). x .ok) (c .before .before .before .before .before .before .before .before .before .before .before .before .before .before .check .ensures)) (sym (c .before .before .before .before .before .before .before .before .before .before .before .enum-told .given .1) ∙ c .before .before .before .before .before .before .before .before .before .before .before .before .before .asked .ensures (now (c .before .before .before .before .before .before .before .before .before .before .before .before .before .before .before .before .before .before .args .table)) (ap (λ (x : Checked). x .ok) (c .before .before .before .before .before .before .before .before .before .before .before .before .before .before .check .ensures)))) (c .before .before .before .before .before .before .before .before .before .before .before .before .before .before .check .result .layout) (laid (now (c .before .before .before .before .before .before .before .before .before .before .before .before .before .before .before .before .before .before .args .table)) (c .before .before .before .before .before .before .before .before .before .before .before .before .before .before .check .result) (c .before .before .before .before .before .before .before .before .before .before .before .before .before .before .check .ensures)) (c .before .before .before .before .before .reads-upper .result) (c .before .before .before .before .reads-lower .result) (c .before .before .before .before .before .reads-upper .ensures) (c .before .before .before .before .reads-lower .ensures) (c .before .before .before .find .result) (c .before .before .before .find .ensures) (c .before .if1 .taken))
+
+first-run-requires : tie.Need-first-run-requires
+first-run-requires c κs = search needs
 
 returns-3 : tie.Need-returns-3
-returns-3 c = start-cycle (now (c .before .before .before .before .before .before .before .before .before .before .before .before .before .before .before .before .before .before .args .table)) (c .before .before .before .before .before .before .before .before .before .before .before .before .before .before .before .before .before .before .args .task) (now (c .before .before .before .before .before .before .before .before .before .before .before .before .before .before .before .before .before .before .args .upper)) (now (c .before .before .before .before .before .before .before .before .before .before .before .before .before .before .before .before .before .before .args .lower)) (asking-passes (c .before .before .before .before .before .before .before .before .before .before .before .before .before .before .before .before .before .before .args .task) (now (c .before .before .before .before .before .before .before .before .before .before .before .before .before .before .before .before .before .before .args .upper)) (now (c .before .before .before .before .before .before .before .before .before .before .before .before .before .before .before .before .before .before .args .lower)) (now (c .before .before .before .before .before .before .before .before .before .before .before .before .before .before .before .before .before .before .args .table)) (c .before .before .before .before .before .before .before .before .before .before .before .before .before .before .check .result .ok) (ap (λ (x : Checked). x .ok) (c .before .before .before .before .before .before .before .before .before .before .before .before .before .before .check .ensures)) (sym (c .before .before .before .before .before .before .before .before .before .before .before .enum-told .given .1) ∙ c .before .before .before .before .before .before .before .before .before .before .before .before .before .asked .ensures (now (c .before .before .before .before .before .before .before .before .before .before .before .before .before .before .before .before .before .before .args .table)) (ap (λ (x : Checked). x .ok) (c .before .before .before .before .before .before .before .before .before .before .before .before .before .before .check .ensures)))) (c .before .before .before .before .before .before .before .before .before .layout .result) (c .before .before .before .before .before .before .before .before .before .layout .ensures) (c .before .before .before .before .before .reads-upper .result) (c .before .before .before .before .reads-lower .result) (c .before .before .before .before .before .reads-upper .ensures) (c .before .before .before .before .reads-lower .ensures) (c .before .before .before .find .result) (c .before .before .before .find .ensures) (c .before .if1 .left)
+returns-3 c = start-cycle (now (c .before .before .before .before .before .before .before .before .before .before .before .before .before .before .before .before .before .before .before .args .table)) (c .before .before .before .before .before .before .before .before .before .before .before .before .before .before .before .before .before .before .before .args .task) (now (c .before .before .before .before .before .before .before .before .before .before .before .before .before .before .before .before .before .before .before .args .upper)) (now (c .before .before .before .before .before .before .before .before .before .before .before .before .before .before .before .before .before .before .before .args .lower)) (asking-passes (c .before .before .before .before .before .before .before .before .before .before .before .before .before .before .before .before .before .before .before .args .task) (now (c .before .before .before .before .before .before .before .before .before .before .before .before .before .before .before .before .before .before .before .args .upper)) (now (c .before .before .before .before .before .before .before .before .before .before .before .before .before .before .before .before .before .before .before .args .lower)) (now (c .before .before .before .before .before .before .before .before .before .before .before .before .before .before .before .before .before .before .before .args .table)) (c .before .before .before .before .before .before .before .before .before .before .before .before .before .before .before .check .result .ok) (ap (λ (x : Checked). x .ok) (c .before .before .before .before .before .before .before .before .before .before .before .before .before .before .before .check .ensures)) (sym (c .before .before .before .before .before .before .before .before .before .before .before .before .enum-told .given .1) ∙ c .before .before .before .before .before .before .before .before .before .before .before .before .before .before .asked .ensures (now (c .before .before .before .before .before .before .before .before .before .before .before .before .before .before .before .before .before .before .before .args .table)) (ap (λ (x : Checked). x .ok) (c .before .before .before .before .before .before .before .before .before .before .before .before .before .before .before .check .ensures)))) (c .before .before .before .before .before .before .before .before .before .before .before .before .before .before .before .check .result .layout) (laid (now (c .before .before .before .before .before .before .before .before .before .before .before .before .before .before .before .before .before .before .before .args .table)) (c .before .before .before .before .before .before .before .before .before .before .before .before .before .before .before .check .result) (c .before .before .before .before .before .before .before .before .before .before .before .before .before .before .before .check .ensures)) (c .before .before .before .before .before .before .reads-upper .result) (c .before .before .before .before .before .reads-lower .result) (c .before .before .before .before .before .before .reads-upper .ensures) (c .before .before .before .before .before .reads-lower .ensures) (c .before .before .before .before .find .result) (c .before .before .before .before .find .ensures) (c .first-run .result) (c .first-run .ensures) (c .before .before .if1 .left)
 
 pub start-spec : {M : Type 1} → statement M
 start-spec =
@@ -78,7 +79,6 @@ start-spec =
     refused-requires
     returns
     enum-told
-    layout-requires
     cast-states
     mul-find
     sub-find
@@ -90,4 +90,5 @@ start-spec =
     find-requires
     ready-requires
     returns-2
+    first-run-requires
     returns-3)

@@ -1,12 +1,14 @@
 use native.Mathlib.Omega.{arith}
-use mathlib.Core.Path.{sym, ap, _∙_}
+use mathlib.Core.Path.{sym, ap, ap₂, _∙_}
 use Prim.Native.Nat.{ℕ}
 use mathlib.Core.Bool.{true}
 use mathlib.Core.List.{List}
 use denote.Ref.{now}
 use Rattle.table.specs.declared.Checked.{Checked}
+use Rattle.table.specs.declared.Layout.{Layout}
+use Rattle.table.specs.Loaded.{countsIn}
 use borrow.Author.Needs.{needs}
-use Rattle.table.specs.Calls.{checkedAs, checked}
+use Rattle.table.specs.Calls.{layoutOf, checkedAs, checked}
 use Rattle.table.proofs.Parts.{laid-out, index-ready, index-part, loaded-kept, loaded-broken, loaded-short}
 use Rattle.table.proofs.checker.check.Statement.{statement}
 use Rattle.table.proofs.checker.check.Tie as tie
@@ -16,8 +18,8 @@ use Rattle.table.proofs.checker.first_arcs.Reads as first-arcs-reads
 use Rattle.table.proofs.checker.keeps_rules.Reads as keeps-rules-reads
 use Rattle.table.proofs.checker.layout.Reads as layout-reads
 
-abbrev indexed : List ℕ → Checked
-indexed f = record { ok = true; first = f }
+abbrev indexed : Layout → List ℕ → Checked
+indexed l f = record { ok = true; layout = l; first = f }
 
 layout-requires : tie.Need-layout-requires
 layout-requires c κs = search needs
@@ -52,16 +54,16 @@ returns : tie.Need-returns
 unfolding checked
 returns c =
     let l = (laid-out (now (c .before .before .before .before .before .before .before .args .cells)) (c .before .before .before .before .before .layout .result) (c .before .before .before .before .before .layout .ensures) (c .before .before .before .before .if1 .taken)) in
-    ap (λ (f : List ℕ). indexed f) (c .first-arcs .ensures ∙ index-part (now (c .before .before .before .before .before .before .before .args .cells)) (c .before .before .before .before .before .layout .result) l)
-    ∙ ap checkedAs (sym (loaded-kept (now (c .before .before .before .before .before .before .before .args .cells)) (l .whole) (sym (c .before .before .before .keeps-rules .ensures) ∙ c .before .before .if2 .taken)))
+    ap₂ indexed (c .before .before .before .before .before .layout .ensures) (c .first-arcs .ensures ∙ index-part (now (c .before .before .before .before .before .before .before .args .cells)) (c .before .before .before .before .before .layout .result) l)
+    ∙ ap (checkedAs (layoutOf (countsIn (now (c .before .before .before .before .before .before .before .args .cells))))) (sym (loaded-kept (now (c .before .before .before .before .before .before .before .args .cells)) (l .whole) (sym (c .before .before .before .keeps-rules .ensures) ∙ c .before .before .if2 .taken)))
 
 returns-2 : tie.Need-returns-2
 unfolding checked
-returns-2 c = ap checkedAs (sym (loaded-broken (now (c .before .before .before .before .before .args .cells)) (sym (c .before .keeps-rules .ensures) ∙ c .if2 .left)))
+returns-2 c = ap₂ checkedAs (c .before .before .before .layout .ensures) (sym (loaded-broken (now (c .before .before .before .before .before .args .cells)) (sym (c .before .keeps-rules .ensures) ∙ c .if2 .left)))
 
 returns-3 : tie.Need-returns-3
 unfolding checked
-returns-3 c = ap checkedAs (sym (loaded-short (now (c .before .before .before .args .cells)) (omega (arith, ap (λ x. x .end) (c .before .layout .ensures)))))
+returns-3 c = ap₂ checkedAs (c .before .layout .ensures) (sym (loaded-short (now (c .before .before .before .args .cells)) (omega (arith, ap (λ x. x .end) (c .before .layout .ensures)))))
 
 pub check-spec : {M : Type 1} → statement M
 check-spec =

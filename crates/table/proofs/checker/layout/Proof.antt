@@ -31,19 +31,20 @@ cell-requires-3 c κs = search needs
 cell-requires-4 : tie.Need-cell-requires-4
 cell-requires-4 c κs = search needs
 
-cast-t5 : tie.Need-cast-t5
-cast-t5 c = search needs
+cast-t6 : tie.Need-cast-t6
+cast-t6 c = search needs
 
-mul-t7 : tie.Need-mul-t7
-mul-t7 c = search needs
+mul-t8 : tie.Need-mul-t8
+mul-t8 c = search needs
 
-add-t8 : tie.Need-add-t8
-add-t8 c = search needs
+add-t9 : tie.Need-add-t9
+add-t9 c = search needs
 
 returns : tie.Need-returns
 returns c =
     λ i. record {
       states = c .before .cell3 .ensures i;
+      initials = 4;
       terminals = 4 + c .before .before .before .cell .ensures i;
       arcs = 4 + c .before .before .before .cell .ensures i + c .before .before .cell2 .ensures i;
       end = 4 + c .before .before .before .cell .ensures i + c .before .before .cell2 .ensures i + 4 * c .cell4 .ensures i;
@@ -61,7 +62,7 @@ layout-spec =
     add-arcs
     cell-requires-3
     cell-requires-4
-    cast-t5
-    mul-t7
-    add-t8
+    cast-t6
+    mul-t8
+    add-t9
     returns)
