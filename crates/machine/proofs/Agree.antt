@@ -14,13 +14,20 @@ use Rattle.table.proofs.Tests.{and-left, and-right, and-both}
 use Rattle.table.proofs.Ruled.{Ruled}
 use Rattle.machine.specs.Query.{Task, recognition, synthesis, analysis, Side, upperSide, lowerSide, reads, Query}
 use Rattle.machine.specs.Transducer.{arcAt, member, sideWrites, sideDone, sideToRead, Passed, followArc, doneOn, machine}
-use Rattle.machine.specs.Machine.{Path, start, more, final, datum, listed, tested, output, Allowed}
+use Rattle.machine.specs.Machine.{Path, start, more, final, datum, listed, tested, accepts, output, Allowed}
 use Rattle.machine.specs.Report.{Kernel, Cell, Trace, null, thence, Walk, stay, along, label, arcsOf, Word, kernel, Output, bothEmpty, φ₋, φ₊, Solves}
-use Rattle.machine.specs.Agree.{place, inputOf, outputOf, AcceptingPath, TraceFor, Same}
+use Rattle.machine.specs.Agree.{place, inputOf, outputOf, TraceFor, Same}
 use Rattle.machine.proofs.Transducer.{at-mem, mem-at, onward-parts}
 use Rattle.machine.proofs.Bound.{countIf, within, has-datum}
 use Rattle.machine.proofs.Idle.{member-mem, mem-member}
 use Rattle.machine.proofs.Traces.{sideData, trace-end, letters, dataOf, beginAt, TraceOf, PathOf, path-trace, trace-path, path-unique}
+
+-- a path that accepts with the reading x
+pub record AcceptingPath (t : Table) (q : Query) (x : Output (q .task)) : Type 0 where
+  pub path : Path
+  pub allowed : Allowed (machine t q) path
+  pub accepted : accepts (machine t q) path ≡ true
+  pub told : outputOf (q .task) (output (machine t q) path) ≡ x
 
 -- Walks with their labels are traces.
 

@@ -3,6 +3,7 @@ use Prim.Native.Nat.{ℕ, _+_, _*_, _≤_}
 use native.Mathlib.Omega.{arith}
 use native.Mathlib.Nat.{mul-le-mul-right}
 use mathlib.Core.Path.{_≡_, refl, ap, subst, _∙_}
+use mathlib.Core.Logic.{_⊎_, inl, inr}
 use mathlib.Core.Bool.{Bool, true, false, cond, _&&_}
 use mathlib.Core.Option.{Option, none, some}
 use mathlib.Core.List.{List}
@@ -13,13 +14,14 @@ use Rattle.table.specs.declared.Refusal.{Refusal}
 use Rattle.table.specs.declared.Refusal.the-variants.{Input}
 use Rattle.table.specs.declared.InputCause.the-variants.{WordFault, TaskFault}
 use Rattle.table.specs.Table.{Table}
+use Rattle.table.specs.Refusal.{numberOf}
 use Rattle.table.specs.Rules.{keepsRules}
 use Rattle.table.specs.Loaded.{countsIn, extent, tableIn, loaded}
 use Rattle.table.proofs.Tests.{and-left, and-right}
 use Rattle.table.proofs.Ruled.{Ruled}
 use Rattle.machine.specs.Query.{Task, Side, upperSide, lowerSide, reads, taskOf, Query, word, wordHolds, wordsHold, sidesHold}
 use Rattle.machine.specs.Transducer.{sideToRead, toReadOn, lettersToRead}
-use Rattle.machine.specs.Asked.{turned, runs, askedWords, askedTask, askedTable, asked}
+use Rattle.machine.specs.Asked.{Asked, turned, runs, askedWords, askedTask, askedTable, asked}
 
 pub record AskedFacts (t : Table) (q : Query) (task : ℕ) (upper lower : List ℕ) : Type 0 where
   pub keeps-rules : keepsRules t ≡ true
@@ -72,6 +74,33 @@ asked-facts cells task upper lower t q e = by-table (loaded cells) refl e
     by-table : (o : Option Table) → loaded cells ≡ o → askedTable o task upper lower ≡ runs t q → AskedFacts t q task upper lower
     by-table none w x = absurd (turned-runs _ t q x)
     by-table (some s) w x = by-task s (loaded-rules cells s w) (taskOf task) refl x
+
+-- what is turned down before anything runs has the numbers 20, 11 and 10
+abbrev pub TurnedBy : Asked → Type 0
+TurnedBy (turned r) = (numberOf r ≡ 20) ⊎ ((numberOf r ≡ 11) ⊎ (numberOf r ≡ 10))
+TurnedBy (runs t q) = Unit {0}
+
+-- of the cells, the loaded table alone counts
+pub same-asked : (c d : List ℕ) → loaded c ≡ loaded d → (task : ℕ) (upper lower : List ℕ) → asked c task upper lower ≡ asked d task upper lower
+unfolding asked
+same-asked c d e task upper lower = ap (λ (o : Option Table). askedTable o task upper lower) e
+
+pub turned-by : (cells : List ℕ) (task : ℕ) (upper lower : List ℕ) → TurnedBy (asked cells task upper lower)
+unfolding asked
+turned-by cells task upper lower = by-table (loaded cells)
+  where
+    by-tests : (t : Table) (q : Query) (a b : Bool) → TurnedBy (cond a (cond b (runs t q) (turned (Input WordFault))) (turned (Input TaskFault)))
+    by-tests t q true true = tt
+    by-tests t q true false = inr (inr refl)
+    by-tests t q false b = inr (inl refl)
+
+    by-task : (t : Table) (o : Option Task) → TurnedBy (askedTask t o upper lower)
+    by-task t none = inr (inl refl)
+    by-task t (some k) = let q : Query = record { task = k; upperWord = upper; lowerWord = lower } in by-tests t q (sidesHold q) (wordsHold q)
+
+    by-table : (o : Option Table) → TurnedBy (askedTable o task upper lower)
+    by-table none = inl refl
+    by-table (some t) = by-task t (taskOf task)
 
 -- "129 × 256": a stack of 33,024 frames holds every search that starts
 module _ (t : Table) (q : Query) (U : Ruled t) (W : wordsHold q ≡ true) where

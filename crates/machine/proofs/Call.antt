@@ -12,12 +12,12 @@ use borrow.Author.Tests.{ltb-true, ltb-false, leb-true, leb-false}
 use Rattle.table.specs.declared.Refusal.{Refusal}
 use Rattle.table.specs.declared.Refusal.the-variants.{State}
 use Rattle.table.specs.declared.StateCause.the-variants.{Place, StackFull, OutputFull}
-use Rattle.machine.specs.Machine.{Machine, Path, accepts, output, Bounded, SameIs}
+use Rattle.machine.specs.Machine.{Machine, Path, accepts, output, Bounded}
 use Rattle.machine.specs.Frames.{Frame, Store, framesOf, Held, viewOf, pathOf, walkOf, walkTo, untried, placeHolds}
 use Rattle.machine.specs.Step.{Move, over, drops, begins, skips, pushes, Stepped, ends, moves, finds, refuses, move, effect, offered, arrived, pushed, made, step}
 use Rattle.machine.specs.Call.{Reply, found, paused, ended, refused, Told, still, tell, spent, advance, entered, call, Steps, here, moved, finding}
 use Rattle.machine.specs.Tour.{Entry, reading, readings, readingIf}
-use Rattle.machine.proofs.Frames.{StoreLaws, frames-length, depth-law, placed-place, short-place}
+use Rattle.machine.proofs.Frames.{SameIs, StoreLaws, frames-length, depth-law, placed-place, short-place}
 use Rattle.machine.specs.Place.{Placed, Good}
 use Rattle.machine.proofs.Tour.{Unrolls}
 use Rattle.machine.proofs.Step.{startedBy, framesBy, restBy, StepLaw, Open, move-placed, step-law, trail-open}
@@ -138,10 +138,49 @@ module _ (M : Machine) (S : Store (Frame (M .D))) where
       go false = still-counted l n h (refused (State Place)) (λ z. cc)
       go true = advance-counted l n h
 
+  -- 21 where there is no place in a search
+  pub no-place-call : (n l : ℕ) (h : Held (S .Cells)) → placeHolds M S h ≡ false → call M S n l h ≡ still (refused (State Place)) h
+  unfolding call
+  no-place-call n l h e = ap (λ (v : Bool). entered M S v n l h) e
+
   -- "A shorter stack gives 21 whatever it holds."
   pub short-call : SameIs M → (n l : ℕ) (h : Held (S .Cells)) → S .room (h .cells) < h .depth → call M S n l h ≡ still (refused (State Place)) h
+  short-call I n l h k = no-place-call n l h (short-place M I S h k)
+
+  -- a step gives 22 and 23 alone
+  module _ (c : Refusal) where
+    abbrev FullOnly : Stepped (S .Cells) → Type 0
+    FullOnly s = s ≡ refuses c → (c ≡ State StackFull) ⊎ (c ≡ State OutputFull)
+
+    offered-full : (b : Bool) (o : List ℕ) (d : Held (S .Cells)) → FullOnly (offered M S b o d)
+    offered-full true o d z = inr cc
+    offered-full false o d z = absurd (let y : _≡_ {A = ℕ} 0 1 = cc in omega arith)
+
+    arrived-full : (b : Bool) (l : ℕ) (d : Held (S .Cells)) → FullOnly (arrived M S b l d)
+    arrived-full true l d z = offered-full (ltb l (length (output M (pathOf M S d)))) (output M (pathOf M S d)) d z
+    arrived-full false l d z = absurd (let y : _≡_ {A = ℕ} 0 1 = cc in omega arith)
+
+    pushed-full : (b : Bool) (l : ℕ) (d : Held (S .Cells)) → FullOnly (pushed M S b l d)
+    pushed-full true l d z = arrived-full (accepts M (pathOf M S d)) l d z
+    pushed-full false l d z = inl cc
+
+    made-full : (l : ℕ) (h : Held (S .Cells)) (m : Move (Frame (M .D))) → FullOnly (made M S l h m)
+    made-full l h over z = absurd (let y : _≡_ {A = ℕ} 0 1 = cc in omega arith)
+    made-full l h drops z = absurd (let y : _≡_ {A = ℕ} 0 1 = cc in omega arith)
+    made-full l h (begins g) z = pushed-full (ltb (h .depth) (S .room (h .cells))) l (effect M S (begins g) h) z
+    made-full l h (skips f) z = absurd (let y : _≡_ {A = ℕ} 0 1 = cc in omega arith)
+    made-full l h (pushes f g) z = pushed-full (ltb (h .depth) (S .room (h .cells))) l (effect M S (pushes f g) h) z
+
+    step-full : (l : ℕ) (h : Held (S .Cells)) → FullOnly (step M S l h)
+    unfolding step
+    step-full l h z = made-full l h (move M S h) z
+
+  -- from a place in a search a call gives 22 and 23 alone
+  pub place-call : (n l : ℕ) (h : Held (S .Cells)) → placeHolds M S h ≡ true → (c : Refusal) → call M S n l h .reply ≡ refused c → (c ≡ State StackFull) ⊎ (c ≡ State OutputFull)
   unfolding call
-  short-call I n l h k = ap (λ (v : Bool). entered M S v n l h) (short-place M I S h k)
+  place-call n l h e c z =
+      let r : advance M S l n h .reply ≡ refused c = ap (λ (v : Bool). entered M S v n l h .reply) (sym e) ∙ z in
+      step-full c l (advance M S l n h .after) (advance-refused l n h c r .0)
 
   abbrev pub rest : (Path → List Entry) → Held (S .Cells) → List Entry
   rest g h = restBy M g (h .started) (viewOf M S h)

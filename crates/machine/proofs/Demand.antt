@@ -12,6 +12,7 @@ use lib.Dec.{leb}
 use borrow.Author.Tests.{leb-true, leb-false, le-leb, lt-leb}
 use Rattle.table.specs.declared.Refusal.{Refusal}
 use Rattle.table.specs.Table.{Table}
+use Rattle.table.specs.Loaded.{loaded}
 use Rattle.table.specs.Refusal.{numberOf}
 use Rattle.machine.specs.declared.Run.{Run}
 use Rattle.machine.specs.Query.{Query}
@@ -32,6 +33,7 @@ use Rattle.machine.proofs.Tour.{unrolls, tree-law}
 use Rattle.machine.proofs.Step.{restBy}
 use Rattle.machine.proofs.Call.{EndLaw, stack-full, output-full, CallRefusal, too-short, in-step, RefusedBy, readings-append, short-call, call-counted, call-refused, Counted, OneLaw, one-law}
 use Rattle.machine.proofs.Reading.{steps-is, told-is, end-is, paused-to, refused-as}
+use Rattle.machine.proofs.Asked.{same-asked}
 use Rattle.machine.proofs.Stack.{store-laws, same-is, frames-take}
 
 -- the refusals of a call by their numbers
@@ -188,22 +190,24 @@ module _ (t : Table) (q : Query) (B : Bounded (machine t q)) (F : (lettersToRead
             }
 
   module _ (cells upper lower : List ℕ) where
-    -- a call on a run of the task that is asked
-    on-call : (es : List Entry) (r : Run) (used : List ℕ) (x : Lent) → asked cells (r .task) upper lower ≡ runs t q → At r used es
-        → (r .depth ≤ framesIn (x .stack) → usedOf (r .depth) (x .stack) ≡ used) → OneCall es r used x (callOn cells upper lower r x)
+    -- a call on a run of the task that is asked, with the table that cells hold
+    on-call : (es : List Entry) (r : Run) (used : List ℕ) (x : Lent) → asked cells (r .task) upper lower ≡ runs t q → loaded (x .table) ≡ loaded cells → At r used es
+        → (r .depth ≤ framesIn (x .stack) → usedOf (r .depth) (x .stack) ≡ used) → OneCall es r used x (callOn upper lower r x)
     unfolding outcome
-    on-call es r used x a A J = subst (λ (w : Asked). OneCall es r used x (outcomeOf w r (x .stack) (x .allowance) (x .buffer))) (sym a) (one es r used x A J)
+    on-call es r used x a h A J =
+        subst (λ (w : Asked). OneCall es r used x (outcomeOf w r (x .stack) (x .allowance) (x .buffer))) (sym (same-asked (x .table) cells h (r .task) upper lower ∙ a))
+        (one es r used x A J)
 
     pub record SessionLaw (es : List Entry) (n : ℕ) (r : Run) (xs : List Lent) : Type 0 where
       pub taken : List Entry
       pub left : List Entry
       pub splits : es ≡ taken ++ left
-      pub counted : length taken ≡ stepsTold cells upper lower r xs
-      pub read : readings M taken ≡ received cells upper lower r xs
-      pub tells : Tells cells upper lower t q n r xs
+      pub counted : length taken ≡ stepsTold upper lower r xs
+      pub read : readings M taken ≡ received upper lower r xs
+      pub tells : Tells upper lower t q n r xs
 
-    joined : (x : Lent) (xs : List Lent) (es : List Entry) (r : Run) (used : List ℕ) (n : ℕ) → n + length es ≡ treeSize M → (O : OneCall es r used x (callOn cells upper lower r x))
-        → SessionLaw (O .left) (n + stepsOn cells upper lower r x) (runAfter cells upper lower r x) xs → SessionLaw es n r (x ∷ xs)
+    joined : (x : Lent) (xs : List Lent) (es : List Entry) (r : Run) (used : List ℕ) (n : ℕ) → n + length es ≡ treeSize M → (O : OneCall es r used x (callOn upper lower r x))
+        → SessionLaw (O .left) (n + stepsOn upper lower r x) (runAfter upper lower r x) xs → SessionLaw es n r (x ∷ xs)
     joined x xs es r used n e O S =
         record {
           taken = O .taken ++ S .taken;
@@ -214,17 +218,17 @@ module _ (t : Table) (q : Query) (B : Bounded (machine t q)) (F : (lettersToRead
           tells = (O .tells n e, S .tells);
         }
 
-    session : (xs : List Lent) (es : List Entry) (r : Run) (used : List ℕ) (n : ℕ) → asked cells (r .task) upper lower ≡ runs t q → At r used es → Handed cells upper lower r used xs
+    session : (xs : List Lent) (es : List Entry) (r : Run) (used : List ℕ) (n : ℕ) → asked cells (r .task) upper lower ≡ runs t q → At r used es → Handed upper lower cells r used xs
         → n + length es ≡ treeSize M → SessionLaw es n r xs
     unfolding readings
     session [] es r used n a A J e = record { taken = []; left = es; splits = refl; counted = refl; read = refl; tells = tt }
     session (x ∷ xs) es r used n a A J e =
-        let O : OneCall es r used x (callOn cells upper lower r x) = on-call es r used x a A (J .0) in
+        let O : OneCall es r used x (callOn upper lower r x) = on-call es r used x a (J .0) A (J .1) in
         joined x xs es r used n e O
-        (session xs (O .left) (runAfter cells upper lower r x) (usedAfter cells upper lower r used x) (n + stepsOn cells upper lower r x) (ap (λ (k : ℕ). asked cells k upper lower) (O .same-task) ∙ a) (O .at) (J .1)
+        (session xs (O .left) (runAfter upper lower r x) (usedAfter upper lower r used x) (n + stepsOn upper lower r x) (ap (λ (k : ℕ). asked cells k upper lower) (O .same-task) ∙ a) (O .at) (J .2)
         (omega (arith, ap length (O .splits) ∙ length-append (O .taken) (O .left), O .counted)))
 
-    pub demand-3 : (task : ℕ) → asked cells task upper lower ≡ runs t q → (xs : List Lent) → Handed cells upper lower (firstRun task) [] xs → Demand3 cells upper lower t q (firstRun task) xs
+    pub demand-3 : (task : ℕ) → asked cells task upper lower ≡ runs t q → (xs : List Lent) → Handed upper lower cells (firstRun task) [] xs → Demand3 upper lower t q (firstRun task) xs
     unfolding tour
     demand-3 task a xs J =
         record {
@@ -247,15 +251,15 @@ module _ (t : Table) (q : Query) (B : Bounded (machine t q)) (F : (lettersToRead
         S = session xs (tour M) (firstRun task) [] 0 a begin J (omega (arith, tree-law M))
 
 -- where the steps told are the tree's size, the readings received are all of them
-pub whole-list : (cells upper lower : List ℕ) (t : Table) (q : Query) (r : Run) (xs : List Lent) → Demand3 cells upper lower t q r xs
-    → stepsTold cells upper lower r xs ≡ treeSize (machine t q) → received cells upper lower r xs ≡ readings (machine t q) (tour (machine t q))
-whole-list cells upper lower t q r xs D e =
+pub whole-list : (upper lower : List ℕ) (t : Table) (q : Query) (r : Run) (xs : List Lent) → Demand3 upper lower t q r xs
+    → stepsTold upper lower r xs ≡ treeSize (machine t q) → received upper lower r xs ≡ readings (machine t q) (tour (machine t q))
+whole-list upper lower t q r xs D e =
     D .same-readings ∙ ap (readings (machine t q)) (ap (λ (n : ℕ). take n (tour (machine t q))) (e ∙ sym (tree-law (machine t q))) ∙ take-length (tour (machine t q)))
 
 -- where the last call answers Ended, the steps told are the tree's size
-pub ended-steps : (cells upper lower : List ℕ) (t : Table) (q : Query) (xs : List Lent) (n : ℕ) (r : Run) → Tells cells upper lower t q n r xs → LastEnds cells upper lower r xs
-    → n + stepsTold cells upper lower r xs ≡ treeSize (machine t q)
-ended-steps cells upper lower t q [] n r T e = absurd e
-ended-steps cells upper lower t q (x ∷ []) n r T e = let f = T .0 .ended-is .0 e in omega arith
-ended-steps cells upper lower t q (x ∷ y ∷ ys) n r T e =
-    let f = ended-steps cells upper lower t q (y ∷ ys) (n + stepsOn cells upper lower r x) (runAfter cells upper lower r x) (T .1) e in omega arith
+pub ended-steps : (upper lower : List ℕ) (t : Table) (q : Query) (xs : List Lent) (n : ℕ) (r : Run) → Tells upper lower t q n r xs → LastEnds upper lower r xs
+    → n + stepsTold upper lower r xs ≡ treeSize (machine t q)
+ended-steps upper lower t q [] n r T e = absurd e
+ended-steps upper lower t q (x ∷ []) n r T e = let f = T .0 .ended-is .0 e in omega arith
+ended-steps upper lower t q (x ∷ y ∷ ys) n r T e =
+    let f = ended-steps upper lower t q (y ∷ ys) (n + stepsOn upper lower r x) (runAfter upper lower r x) (T .1) e in omega arith

@@ -9,9 +9,14 @@ use lib.ListN.{length, getD}
 use lib.Dec.{eqb, ltb, leb}
 use borrow.Author.Tests.{eqb-true, ltb-true, leb-true, lt-ltb, le-leb, lt-leb, eq-eqb}
 use Rattle.table.proofs.Tests.{and-left, and-right, and-both}
-use Rattle.machine.specs.Machine.{Machine, more, size, datum, tested, accepts, output, Bounded, SameIs}
+use Rattle.machine.specs.Machine.{Machine, more, size, datum, tested, accepts, output, Bounded}
 use Rattle.machine.specs.Frames.{Frame, Store, Held, framesOf, walkTo, viewOf, bottomHolds, nextHolds, linkHolds, chainHolds, framesHold, placeHolds}
 use Rattle.machine.specs.Place.{Placed}
+
+-- the machine's test of two data decides their equality
+pub record SameIs (M : Machine) : Type 0 where
+  pub same-eq : (d e : M .D) → M .same d e ≡ true → d ≡ e
+  pub same-refl : (d : M .D) → M .same d d ≡ true
 
 -- what a store must do
 pub record StoreLaws {F : Type 0} (S : Store F) : Type 0 where

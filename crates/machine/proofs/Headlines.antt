@@ -10,19 +10,24 @@ use lib.ListN.{length, take, drop}
 use lib.Dec.{T}
 use Rattle.table.specs.Table.{Arc, Table}
 use Rattle.table.specs.Rules.{keepsRules}
+use Rattle.table.specs.Loaded.{loaded}
+use Rattle.table.specs.declared.Refusal.the-variants.{State}
+use Rattle.table.specs.declared.StateCause.the-variants.{Place}
 use Rattle.table.proofs.Ruled.{Ruled, ruled}
 use Rattle.machine.specs.declared.Run.{Run}
+use Rattle.machine.specs.declared.Answer.the-variants.{Refused}
 use Rattle.machine.specs.declared.StartAnswer.the-variants.{Ready}
 use Rattle.machine.specs.declared.Started.{Started}
 use Rattle.machine.specs.Query.{Task, Query}
 use Rattle.machine.specs.Machine.{Machine, Path, size, final, datum, output, ArcOf, Allowed, Bounded}
 use Rattle.machine.specs.Tour.{pathsIn, trail, after, tour, readings, allowedPaths, treeSize}
+use Rattle.machine.specs.Place.{InSearch}
 use Rattle.machine.specs.Order.{accepting, outputs, ListsAllowed, Lists}
 use Rattle.machine.specs.Transducer.{arcAt, Passed, lettersToRead, writtenBy, machine}
 use Rattle.machine.specs.Idle.{IdleWalk, NoIdleCycle, CycleStates, hasIdleCycle}
 use Rattle.machine.specs.Answer.{found, refused, startNumber}
 use Rattle.machine.specs.Asked.{runs, asked}
-use Rattle.machine.specs.Start.{firstRun, StartIs}
+use Rattle.machine.specs.Start.{firstRun, started, StartIs}
 use Rattle.machine.specs.Reading.{kindBy, outcome, RefusedLeaves}
 use Rattle.machine.specs.Demand.{Lent, Handed, received, stepsTold, LastEnds, Demand3}
 use Rattle.machine.specs.Report.{_∘_, Word, α, upperAlone, lowerAlone, Output, Cell, arcsOf, kernel, Noetherian, Solves}
@@ -42,8 +47,17 @@ use Rattle.machine.proofs.Agree as agree
 use Rattle.machine.proofs.Noether as noether
 use Rattle.machine.proofs.Cases as cases
 
--- THE TOUR, for any machine whose limit is above the arcs of its paths; nothing but this bound is used.
+-- THE TOUR of any machine.
 
+-- "The tour has as many entries as the search tree's size."
+pub tree : (M : Machine) → length (tour M) ≡ treeSize M
+tree = tours.tree-law
+
+-- "The readings of its accepting paths, in order": the outputs of the accepting paths that it holds.
+pub readings-are : (M : Machine) → readings M (tour M) ≡ outputs M (accepting M (pathsIn (tour M)))
+readings-are M = order.readings-outputs M (tour M)
+
+-- Where the limit is above the arcs of every path that the words allow; nothing but this bound is used.
 module _ (M : Machine) (B : Bounded M) where
   -- What follows a path is as document 01 says; the fuel of its definition plays no part.
   pub following-is : (p : Path) → Allowed M p → after M p ≡ trail M (after M) p (M .first (final M p)) (M .arity (final M p))
@@ -53,19 +67,13 @@ module _ (M : Machine) (B : Bounded M) where
   pub tree-paths : ListsAllowed M (allowedPaths M)
   tree-paths = order.paths-listed M B
 
-  -- "The tour has as many entries as the search tree's size."
-  pub tree : length (tour M) ≡ treeSize M
-  tree = tours.tree-law M
-
-  -- The accepting paths of the tour are all accepting paths, each once, in document 01's order; no other list is; its outputs are the readings.
+  -- The accepting paths of the tour are all accepting paths, each once, by place of the initial state, then arc number at the first
+  -- difference, a path before its continuations (`Rising`); no other list is.
   pub listed : Lists M (accepting M (pathsIn (tour M)))
   listed = order.tour-lists M B
 
   pub no-other : (ps : List Path) → Lists M ps → ps ≡ accepting M (pathsIn (tour M))
   no-other ps P = order.lists-same M ps (accepting M (pathsIn (tour M))) P listed
-
-  pub readings-are : readings M (tour M) ≡ outputs M (accepting M (pathsIn (tour M)))
-  readings-are = order.readings-outputs M (tour M)
 
 -- REPORT 6486: the relation of an arc with two letters is the composition of those of each letter, as for a morphism.
 
@@ -141,35 +149,33 @@ module _ (cells : List ℕ) (task : ℕ) (upper lower : List ℕ) where
   pub start-there : (s : Started) × StartIs cells task upper lower s
   start-there = starts.start-there cells task upper lower
 
-  module _ (t : Table) (q : Query) (a : asked cells task upper lower ≡ runs t q) (s : Started) (S : StartIs cells task upper lower s) where
-    table-ruled : Ruled t
-    table-ruled = ruled t (asks.asked-facts cells task upper lower t q a .keeps-rules)
+  module _ (s : Started) (S : StartIs cells task upper lower s) where
+    pub twelve : (startNumber (s .answer) ≡ some 12) ↔ ((t : Table) × (q : Query) × (asked cells task upper lower ≡ runs t q) × ((x : ℕ) × IdleWalk t (q .task) x x))
+    twelve = starts.twelve cells task upper lower s S
 
-    pub twelve : (startNumber (s .answer) ≡ some 12) ↔ ((x : ℕ) × IdleWalk t (q .task) x x)
-    twelve = starts.twelve cells task upper lower t q table-ruled a s S
-
-    pub twelve-tells : startNumber (s .answer) ≡ some 12 → CycleStates t (q .task) (take (s .length) (s .cycle))
-    twelve-tells = starts.twelve-tells cells task upper lower t q table-ruled a s S
+    pub twelve-tells : (t : Table) (q : Query) → asked cells task upper lower ≡ runs t q → startNumber (s .answer) ≡ some 12 → CycleStates t (q .task) (take (s .length) (s .cycle))
+    twelve-tells t q a = starts.twelve-tells cells task upper lower t q (ruled t (asks.asked-facts cells task upper lower t q a .keeps-rules)) a s S
 
     pub cycle-cells : length (s .cycle) ≡ 256
-    cycle-cells = starts.cycle-cells cells task upper lower t q table-ruled a s S
+    cycle-cells = starts.cycle-cells cells task upper lower s S
 
-  -- DEMAND 3: a start without a refusal, and any list of calls after it, each with any stack, allowance and buffer.
+  -- DEMAND 3: a start without a refusal, and any list of calls after it, each with any cells that hold the start's table, any stack, allowance and
+  -- buffer.
 
   -- from the bound alone
   pub demand-three-bounded : (t : Table) (q : Query) → Bounded (machine t q) → (lettersToRead q + 1) * t .states ≤ 33024 → asked cells task upper lower ≡ runs t q
-      → (xs : List Lent) → Handed cells upper lower (firstRun task) [] xs → Demand3 cells upper lower t q (firstRun task) xs
+      → (xs : List Lent) → Handed upper lower cells (firstRun task) [] xs → Demand3 upper lower t q (firstRun task) xs
   demand-three-bounded t q B F = demand.demand-3 t q B F cells upper lower task
 
   -- from what a start without a refusal ensures
   pub demand-three : (s : Started) → StartIs cells task upper lower s → s .answer ≡ Ready
       → (t : Table) × (q : Query) × (asked cells task upper lower ≡ runs t q)
-      × ((xs : List Lent) → Handed cells upper lower (s .run) [] xs → Demand3 cells upper lower t q (s .run) xs)
+      × ((xs : List Lent) → Handed upper lower cells (s .run) [] xs → Demand3 upper lower t q (s .run) xs)
   demand-three s S e = (
     t,
     q,
     R .is,
-    subst (λ (r : Run). (xs : List Lent) → Handed cells upper lower r [] xs → Demand3 cells upper lower t q r xs) (sym (R .run-is))
+    subst (λ (r : Run). (xs : List Lent) → Handed upper lower cells r [] xs → Demand3 upper lower t q r xs) (sym (R .run-is))
         (demand-three-bounded t q (bound t (F .keeps-rules) q (idles.none-found t (q .task) U (R .no-cycle))) (asks.enough-frames t q U (F .words-hold)) (R .is)),
   )
     where
@@ -189,23 +195,23 @@ module _ (cells : List ℕ) (task : ℕ) (upper lower : List ℕ) where
       U = ruled t (F .keeps-rules)
 
 -- Where the steps told add up to the tree's size, all readings were received.
-pub whole-list : (cells upper lower : List ℕ) (t : Table) (q : Query) (r : Run) (xs : List Lent) → Demand3 cells upper lower t q r xs
-    → stepsTold cells upper lower r xs ≡ treeSize (machine t q) → received cells upper lower r xs ≡ readings (machine t q) (tour (machine t q))
+pub whole-list : (upper lower : List ℕ) (t : Table) (q : Query) (r : Run) (xs : List Lent) → Demand3 upper lower t q r xs
+    → stepsTold upper lower r xs ≡ treeSize (machine t q) → received upper lower r xs ≡ readings (machine t q) (tour (machine t q))
 whole-list = demand.whole-list
 
 -- Where the last call answers Ended, all readings were received.
-pub ended-whole : (cells upper lower : List ℕ) (t : Table) (q : Query) (r : Run) (xs : List Lent) → Demand3 cells upper lower t q r xs → LastEnds cells upper lower r xs
-    → received cells upper lower r xs ≡ readings (machine t q) (tour (machine t q))
-ended-whole cells upper lower t q r xs D e =
-    whole-list cells upper lower t q r xs D (sym (zero-add (stepsTold cells upper lower r xs)) ∙ demand.ended-steps cells upper lower t q xs 0 r (D .tells) e)
+pub ended-whole : (upper lower : List ℕ) (t : Table) (q : Query) (r : Run) (xs : List Lent) → Demand3 upper lower t q r xs → LastEnds upper lower r xs
+    → received upper lower r xs ≡ readings (machine t q) (tour (machine t q))
+ended-whole upper lower t q r xs D e =
+    whole-list upper lower t q r xs D (sym (zero-add (stepsTold upper lower r xs)) ∙ demand.ended-steps upper lower t q xs 0 r (D .tells) e)
 
 -- FROM THE START TO THE END: what was received is the outputs of the accepting paths, which are report 6486's accepting traces (DEMAND 2), each
 -- once and in order.
 module _ (cells : List ℕ) (task : ℕ) (upper lower : List ℕ) (s : Started) (S : StartIs cells task upper lower s) where
   pub start-to-end : s .answer ≡ Ready
       → (t : Table) × (q : Query) × (asked cells task upper lower ≡ runs t q) × (keepsRules t ≡ true) × NoIdleCycle t (q .task)
-      × ((xs : List Lent) → Handed cells upper lower (s .run) [] xs → LastEnds cells upper lower (s .run) xs
-      → received cells upper lower (s .run) xs ≡ outputs (machine t q) (accepting (machine t q) (pathsIn (tour (machine t q)))))
+      × ((xs : List Lent) → Handed upper lower cells (s .run) [] xs → LastEnds upper lower (s .run) xs
+      → received upper lower (s .run) xs ≡ outputs (machine t q) (accepting (machine t q) (pathsIn (tour (machine t q)))))
   unfolding demand-three
   start-to-end e =
       let D = demand-three cells task upper lower s S e in
@@ -216,7 +222,7 @@ module _ (cells : List ℕ) (task : ℕ) (upper lower : List ℕ) (s : Started) 
         R .is,
         F .keeps-rules,
         idles.none-found (R .table) (R .query .task) (ruled (R .table) (F .keeps-rules)) (R .no-cycle),
-        λ xs H L. ended-whole cells upper lower (R .table) (R .query) (s .run) xs (D .3 xs H) L ∙ order.readings-outputs (machine (R .table) (R .query)) (tour (machine (R .table) (R .query))),
+        λ xs H L. ended-whole upper lower (R .table) (R .query) (s .run) xs (D .3 xs H) L ∙ order.readings-outputs (machine (R .table) (R .query)) (tour (machine (R .table) (R .query))),
       )
 
   -- a start is ready exactly where 20, 11 and 10 are not given and there is no idle cycle
@@ -225,6 +231,27 @@ module _ (cells : List ℕ) (task : ℕ) (upper lower : List ℕ) (s : Started) 
     λ e. let E = start-to-end e in (E .0, E .1, E .2, E .4),
     λ w. starts.ready-where cells task upper lower s S (w .0) (w .1) (w .2) (idles.none-there (w .0) (w .1 .task) (w .3)),
   )
+
+-- "EVERY CALL GETS THE START'S TABLE": of the cells, the loaded table alone counts; what stands behind it does not.
+
+module _ (c d : List ℕ) (e : loaded c ≡ loaded d) where
+  pub same-start : (task : ℕ) (upper lower cycle : List ℕ) → started c task upper lower cycle ≡ started d task upper lower cycle
+  same-start = starts.same-started c d e
+
+  pub same-call : (upper lower : List ℕ) (run : Run) (stack : List ℕ) (n : ℕ) (buffer : List ℕ) → outcome c upper lower run stack n buffer ≡ outcome d upper lower run stack n buffer
+  same-call = calls.same-outcome c d e
+
+-- 21, FOR ANY RUN, STACK, ALLOWANCE AND BUFFER: after 20, 11 and 10, exactly where "The run or its used frames are not a place in a search"; no
+-- step is made then, and all is as it was.
+
+module _ (cells upper lower : List ℕ) (run : Run) (stack : List ℕ) (n : ℕ) (buffer : List ℕ) where
+  pub twenty-one : (kindBy (outcome cells upper lower run stack n buffer) ≡ refused 21)
+      ↔ ((t : Table) × (q : Query) × (asked cells (run .task) upper lower ≡ runs t q) × (InSearch t q run stack → ⊥))
+  twenty-one = calls.twenty-one cells upper lower run stack n buffer
+
+  pub twenty-one-leaves : kindBy (outcome cells upper lower run stack n buffer) ≡ refused 21
+      → outcome cells upper lower run stack n buffer ≡ record { called = record { answer = Refused 0 (State Place); run = run }; stack = stack; output = buffer }
+  twenty-one-leaves = calls.twenty-one-leaves cells upper lower run stack n buffer
 
 -- THE BUFFER: only Found writes output, and it leaves what stands behind it.
 

@@ -1,4 +1,4 @@
--- The paths of the tour are exactly those that the words allow, each once, in document 01's order.
+-- The paths of the tour are exactly those that the words allow, each once, in the order of specs/Order.
 use Prim.Native.Nat.{ℕ, zero, suc, _+_, _≤_, _<_}
 use native.Mathlib.Omega.{arith}
 use mathlib.Core.Path.{_≡_, refl, sym, ap, ap₂, subst, subst₂, _∙_}

@@ -11,12 +11,11 @@ use borrow.Author.Tests.{eqb-true, eq-eqb}
 use Rattle.table.specs.Table.{Table}
 use Rattle.table.proofs.Tests.{and-left, and-right, and-both}
 use Rattle.machine.specs.Query.{Query}
-use Rattle.machine.specs.Machine.{SameIs}
 use Rattle.machine.specs.Frames.{Frame, framesOf}
 use Rattle.machine.specs.Step.{triedOf}
 use Rattle.machine.specs.Transducer.{Passed, machine}
 use Rattle.machine.specs.Stack.{roomIn, lookAt, putAt, store}
-use Rattle.machine.proofs.Frames.{StoreLaws}
+use Rattle.machine.proofs.Frames.{SameIs, StoreLaws}
 
 frame-ext : (f g : Frame Passed) → f .state ≡ g .state → f .next ≡ g .next → f .datum .up ≡ g .datum .up → f .datum .low ≡ g .datum .low → f ≡ g
 frame-ext f g a b c d = λ i. record { state = a i; next = b i; datum = record { up = c i; low = d i } }

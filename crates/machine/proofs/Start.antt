@@ -8,10 +8,13 @@ use mathlib.Core.Option.{some}
 use mathlib.Core.List.{List, [], _∷_, List·Memᴰ·cases-cons, List·Memᴰ·not-nil}
 use lib.ListN.{length, take, replicate, length-append, length-replicate}
 use lib.Seq.{take-append-seam}
+use Rattle.table.specs.declared.Refusal.{Refusal}
 use Rattle.table.specs.declared.Refusal.the-variants.{Input}
 use Rattle.table.specs.declared.InputCause.the-variants.{IdleCycle}
 use Rattle.table.specs.Table.{Table}
-use Rattle.table.proofs.Ruled.{Ruled}
+use Rattle.table.specs.Refusal.{numberOf}
+use Rattle.table.specs.Loaded.{loaded}
+use Rattle.table.proofs.Ruled.{Ruled, ruled}
 use Rattle.machine.specs.declared.StartAnswer.the-variants.{Ready, Refused}
 use Rattle.machine.specs.declared.Started.{Started}
 use Rattle.machine.specs.Query.{Task, Query}
@@ -21,6 +24,7 @@ use Rattle.machine.specs.Asked.{Asked, turned, runs, asked}
 use Rattle.machine.specs.Start.{firstRun, startedWith, startedAs, started, TellsCycle, StartIs}
 use Rattle.machine.proofs.Pigeon.{AllBelow, pigeon}
 use Rattle.machine.proofs.Idle.{cycle-there, cycle-walk, none-found}
+use Rattle.machine.proofs.Asked.{asked-facts, TurnedBy, turned-by, same-asked}
 
 ready-refused : (r : _) → Refused r ≡ Ready → ⊥
 ready-refused r e = let z : _≡_ {A = ℕ} 0 1 = cc in omega arith
@@ -102,8 +106,8 @@ module _ (cells : List ℕ) (task : ℕ) (upper lower : List ℕ) (t : Table) (q
       go false e = n e
 
   -- 12 exactly where there is an idle cycle
-  pub twelve : (startNumber (s .answer) ≡ some 12) ↔ ((x : ℕ) × IdleWalk t (q .task) x x)
-  twelve =
+  pub twelve-where : (startNumber (s .answer) ≡ some 12) ↔ ((x : ℕ) × IdleWalk t (q .task) x x)
+  twelve-where =
       by-test (λ z. (startNumber (z .answer) ≡ some 12) ↔ ((x : ℕ) × IdleWalk t (q .task) x x)) (λ h. (λ e. cycle-walk t (q .task) (S .cycle) (tells h), λ w. refl))
       (λ h. (λ e. absurd (let z : _≡_ {A = ℕ} 0 1 = cc in omega arith), λ w. absurd (none-found t (q .task) U h (w .0) (w .1))))
 
@@ -115,8 +119,43 @@ module _ (cells : List ℕ) (task : ℕ) (upper lower : List ℕ) (t : Table) (q
       (λ h e. absurd (let z : _≡_ {A = ℕ} 0 1 = cc in omega arith))
 
   -- the array has 256 cells
-  pub cycle-cells : length (s .cycle) ≡ 256
-  cycle-cells =
+  pub cells-where : length (s .cycle) ≡ 256
+  cells-where =
       by-test (λ z. length (z .cycle) ≡ 256)
       (λ h. length-append (S .cycle) (replicate (256 - length (S .cycle)) 0) ∙ omega (arith, length-replicate {A = ℕ} (256 - length (S .cycle)) 0, cycle-length t (q .task) U (S .cycle) (tells h), U .few-states))
       (λ h. length-replicate {A = ℕ} 256 0)
+
+-- any start
+module _ (cells : List ℕ) (task : ℕ) (upper lower : List ℕ) (s : Started) (S : StartIs cells task upper lower s) where
+  turned-as : (r : Refusal) → asked cells task upper lower ≡ turned r → s ≡ startedWith (Refused r) (firstRun 0) []
+  unfolding started
+  turned-as r a = S .is ∙ ap (λ (w : Asked). startedAs w task (S .cycle)) a
+
+  table-ruled : (t : Table) (q : Query) → asked cells task upper lower ≡ runs t q → Ruled t
+  table-ruled t q a = ruled t (asked-facts cells task upper lower t q a .keeps-rules)
+
+  pub twelve : (startNumber (s .answer) ≡ some 12) ↔ ((t : Table) × (q : Query) × (asked cells task upper lower ≡ runs t q) × ((x : ℕ) × IdleWalk t (q .task) x x))
+  twelve = (
+    to (asked cells task upper lower) refl (turned-by cells task upper lower),
+    λ w. twelve-where cells task upper lower (w .0) (w .1) (table-ruled (w .0) (w .1) (w .2)) (w .2) s S .1 (w .3),
+  )
+    where
+      to : (z : Asked) → asked cells task upper lower ≡ z → TurnedBy z → startNumber (s .answer) ≡ some 12
+          → (t : Table) × (q : Query) × (asked cells task upper lower ≡ runs t q) × ((x : ℕ) × IdleWalk t (q .task) x x)
+      to (turned r) a N e =
+          let y : some (numberOf r) ≡ some 12 = ap (λ (z : Started). startNumber (z .answer)) (sym (turned-as r a)) ∙ e in
+          let z : numberOf r ≡ 12 = cc in
+          absurd (⊎-elim (λ x. omega arith) (⊎-elim (λ x. omega arith) (λ x. omega arith)) N)
+      to (runs t q) a N e = (t, q, a, twelve-where cells task upper lower t q (table-ruled t q a) a s S .0 e)
+
+  pub cycle-cells : length (s .cycle) ≡ 256
+  cycle-cells = go (asked cells task upper lower) refl
+    where
+      go : (z : Asked) → asked cells task upper lower ≡ z → length (s .cycle) ≡ 256
+      go (turned r) a = ap (λ (z : Started). length (z .cycle)) (turned-as r a) ∙ length-replicate {A = ℕ} 256 0
+      go (runs t q) a = cells-where cells task upper lower t q (table-ruled t q a) a s S
+
+-- of the cells, the loaded table alone counts
+pub same-started : (c d : List ℕ) → loaded c ≡ loaded d → (task : ℕ) (upper lower cycle : List ℕ) → started c task upper lower cycle ≡ started d task upper lower cycle
+unfolding started
+same-started c d e task upper lower cycle = ap (λ (w : Asked). startedAs w task cycle) (same-asked c d e task upper lower)

@@ -6,11 +6,11 @@ use mathlib.Core.List.{List, [], _∷_, List·Memᴰ}
 use lib.ListN.{getD}
 use Rattle.table.specs.Table.{Arc, Table}
 use Rattle.machine.specs.Query.{Task, recognition, synthesis, analysis, Query}
-use Rattle.machine.specs.Machine.{Path, start, more, Allowed, accepts, output}
-use Rattle.machine.specs.Transducer.{arcAt, machine}
+use Rattle.machine.specs.Machine.{Path, start, more}
+use Rattle.machine.specs.Transducer.{arcAt}
 use Rattle.machine.specs.Report.{Word, Trace, arcsOf, kernel, Input, Output, φ₋, φ₊}
 
--- a path's place in the list of initial states, and its arcs, the last one first
+-- a path's place in the list of initial states
 abbrev pub place : Path → ℕ
 place (start i) = i
 place (more p n) = place p
@@ -20,7 +20,7 @@ abbrev pub arcsBack : Table → Path → List Arc
 arcsBack t (start i) = []
 arcsBack t (more p n) = arcAt t n ∷ arcsBack t p
 
--- a query's words and a reading, as the report has them
+-- a query's words, as the report has them
 abbrev pub inputOf : (k : Task) → Word → Word → Input k
 inputOf recognition u l = (u, l)
 inputOf synthesis u l = u
@@ -31,13 +31,6 @@ abbrev pub outputOf : (k : Task) → Word → Output k
 outputOf recognition o = true
 outputOf synthesis o = o
 outputOf analysis o = o
-
--- a path that accepts with the reading x
-pub record AcceptingPath (t : Table) (q : Query) (x : Output (q .task)) : Type 0 where
-  pub path : Path
-  pub allowed : Allowed (machine t q) path
-  pub accepted : accepts (machine t q) path ≡ true
-  pub told : outputOf (q .task) (output (machine t q) path) ≡ x
 
 -- a trace from an initial cell that φ₋ feeds with w to a terminal cell of which φ₊ tells x
 pub record AcceptingTrace (t : Table) (k : Task) (w : Input k) (x : Output k) : Type 0 where

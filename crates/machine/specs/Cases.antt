@@ -9,12 +9,13 @@ use lib.Dec.{eqb}
 use Rattle.table.specs.Table.{Arc, Table}
 use Rattle.table.specs.Loaded.{cellsOf}
 use Rattle.machine.specs.declared.Run.{Run}
+use Rattle.machine.specs.declared.Started.{Started}
 use Rattle.machine.specs.Query.{sameWord}
 use Rattle.machine.specs.Tour.{treeSize}
 use Rattle.machine.specs.Transducer.{machine}
 use Rattle.machine.specs.Answer.{Kind, found, paused, ended, refused, startNumber}
 use Rattle.machine.specs.Asked.{Asked, turned, runs, asked}
-use Rattle.machine.specs.Start.{firstRun, started}
+use Rattle.machine.specs.Start.{started}
 use Rattle.machine.specs.Reading.{Outcome, kindBy, stepsBy}
 use Rattle.machine.specs.Demand.{Lent, callOn, runAfter, usedAfter}
 
@@ -33,10 +34,12 @@ pub data Says : Type 0 where
   ends : ℕ → Says
   refuses : ℕ → ℕ → Says
 
--- a start that is refused with a number, or calls with what they tell, and the tree's size
+-- a start that is refused with a number; or one that is not, calls after it with what they tell, and the tree's size; or one call, with what it
+-- tells, on a run of any starts and depth
 pub data Course : Type 0 where
   refusedWith : ℕ → Course
   goes : List Ask → List Says → ℕ → Course
+  called : ℕ → ℕ → Ask → Says → Course
 
 -- a table, what is asked of it, and what is to be told
 pub record Row : Type 0 where
@@ -60,15 +63,15 @@ abbrev pub saidBy : Outcome → Says
 saidBy o = said (kindBy o) (stepsBy o) (o .output)
 
 -- a stack that holds the used frames, as far as they go in, and 7 in its other cells; a buffer of 9s
-abbrev pub lentFor : Ask → List ℕ → Lent
-lentFor a used = record { stack = take (a .frames * 4) (used ++ replicate (a .frames * 4) 7); allowance = a .allowance; buffer = replicate (a .letters) 9 }
+abbrev pub lentFor : List ℕ → Ask → List ℕ → Lent
+lentFor cells a used = record { table = cells; stack = take (a .frames * 4) (used ++ replicate (a .frames * 4) 7); allowance = a .allowance; buffer = replicate (a .letters) 9 }
 
 -- what calls tell, one after another, each with the run and the used frames as demand 3 hands them on
 abbrev pub callsGive : List ℕ → List ℕ → List ℕ → Run → List ℕ → List Ask → List Says
 callsGive cells upper lower r used [] = []
 callsGive cells upper lower r used (a ∷ asks) =
-    let x = lentFor a used in
-    saidBy (callOn cells upper lower r x) ∷ callsGive cells upper lower (runAfter cells upper lower r x) (usedAfter cells upper lower r used x) asks
+    let x = lentFor cells a used in
+    saidBy (callOn upper lower r x) ∷ callsGive cells upper lower (runAfter upper lower r x) (usedAfter upper lower r used x) asks
 
 -- the size of the search tree
 abbrev pub treeOf : Asked → ℕ
@@ -91,18 +94,37 @@ sameSays [] (y ∷ ys) = false
 sameSays (x ∷ xs) [] = false
 sameSays (x ∷ xs) (y ∷ ys) = sameWord (spelled x) (spelled y) && sameSays xs ys
 
--- whether a start, refused with a number or not, and the calls after it go as the row says
-abbrev pub courseHolds : Row → Option ℕ → Course → Bool
-courseHolds r none (refusedWith n) = false
-courseHolds r (some m) (refusedWith n) = eqb m n
-courseHolds r none (goes asks says tree) =
-    let cells = cellsOf (r .table) in
-    sameSays (callsGive cells (r .upper) (r .lower) (firstRun (r .task)) [] asks) says && eqb (treeOf (asked cells (r .task) (r .upper) (r .lower))) tree
-courseHolds r (some m) (goes asks says tree) = false
+-- whether the same is told of a start: no refusal, or its number
+abbrev pub sameStart : Option ℕ → Option ℕ → Bool
+sameStart none none = true
+sameStart none (some n) = false
+sameStart (some m) none = false
+sameStart (some m) (some n) = eqb m n
+
+module _ (r : Row) where
+  -- its table, loaded
+  abbrev pub cellsFor : List ℕ
+  cellsFor = cellsOf (r .table)
+
+  -- what a start gives; which cycle 12 tells is not looked at
+  abbrev pub startOf : Started
+  startOf = started cellsFor (r .task) (r .upper) (r .lower) []
+
+  -- what calls after it give
+  abbrev pub callsFrom : Run → List Ask → List Says
+  callsFrom run asks = callsGive cellsFor (r .upper) (r .lower) run [] asks
+
+  -- whether all goes as the row says
+  abbrev pub courseHolds : Course → Bool
+  courseHolds (refusedWith n) = sameStart (startNumber (startOf .answer)) (some n)
+  courseHolds (goes asks says tree) =
+      sameStart (startNumber (startOf .answer)) none
+      && (sameSays (callsFrom (startOf .run) asks) says && eqb (treeOf (asked cellsFor (r .task) (r .upper) (r .lower))) tree)
+  courseHolds (called starts depth ask says) = sameSays (callsFrom (record { task = r .task; started = starts; depth = depth }) (ask ∷ [])) (says ∷ [])
 
 -- a row is right
 abbrev pub rowHolds : Row → Bool
-rowHolds r = courseHolds r (startNumber (started (cellsOf (r .table)) (r .task) (r .upper) (r .lower) [] .answer)) (r .course)
+rowHolds r = courseHolds r (r .course)
 
 -- all rows are right
 abbrev pub rowsHold : List Row → Bool
@@ -128,6 +150,10 @@ tableK more =
 -- a row on table K
 abbrev row : ℕ → List ℕ → List ℕ → Course → Row
 row k u l c = record { table = tableK []; task = k; upper = u; lower = l; course = c }
+
+-- the same with an arc that stands there twice, so that the loaded table breaks a rule
+abbrev twice : ℕ → List ℕ → Course → Row
+twice k u c = record { table = tableK (arc 0 1 1 1 ∷ []); task = k; upper = u; lower = []; course = c }
 
 -- empty words, and state 0 with one arc more, to itself
 abbrev loop : ℕ → ℕ → ℕ → Course → Row
@@ -208,11 +234,26 @@ rows =
     ∷ bare (goes (ask 0 1 0 ∷ ask 1 0 0 ∷ ask 1 1 0 ∷ ask 9 1 0 ∷ ask 0 0 0 ∷ []) (pauses 0 ∷ refuses 0 22 ∷ finds 1 [] ∷ ends 1 ∷ ends 0 ∷ []) 2)
     -- "then in a step 22, 23"
     ∷ row 2 (1 ∷ 2 ∷ []) [] (goes (ask 1000 2 0 ∷ ask 1000 3 0 ∷ ask 1000 3 1 ∷ ask 1000 3 2 ∷ []) (refuses 2 22 ∷ refuses 0 23 ∷ refuses 0 23 ∷ finds 1 (1 ∷ 2 ∷ []) ∷ []) 20)
+    -- "Word of 64 starts, 65 gives 10."
+    ∷ row 2 (replicate 64 63) [] (goes (big ∷ []) (ends 4 ∷ []) 4)
+    ∷ row 2 (replicate 65 63) [] (refusedWith 10)
+    ∷ row 3 [] (replicate 64 63) (goes (big ∷ []) (ends 4 ∷ []) 4)
+    ∷ row 3 [] (replicate 65 63) (refusedWith 10)
     -- letter 63 is a letter, 64 is none
     ∷ row 2 (63 ∷ []) [] (goes (big ∷ []) (ends 4 ∷ []) 4)
     ∷ row 2 (64 ∷ []) [] (refusedWith 10)
-    -- 11 and 10, in this order
+    -- "Unknown task"
+    ∷ row 0 [] [] (refusedWith 11)
+    ∷ row 4 [] [] (refusedWith 11)
+    -- "Start: 20, 11, 10, 12."
+    ∷ twice 4 (0 ∷ []) (refusedWith 20)
+    ∷ twice 2 [] (refusedWith 20)
     ∷ row 4 (1 ∷ []) (0 ∷ []) (refusedWith 11)
     ∷ row 2 (0 ∷ []) (1 ∷ []) (refusedWith 11)
     ∷ row 2 (0 ∷ []) [] (refusedWith 10)
+    -- "Call: 20, 11, 10, 21": depth 1 with no start is no place in a search
+    ∷ twice 4 (0 ∷ []) (called 0 1 big (refuses 0 20))
+    ∷ row 4 (0 ∷ []) [] (called 0 1 big (refuses 0 11))
+    ∷ row 2 (0 ∷ []) [] (called 0 1 big (refuses 0 10))
+    ∷ row 2 (1 ∷ []) [] (called 0 1 big (refuses 0 21))
     ∷ []

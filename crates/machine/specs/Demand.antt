@@ -7,6 +7,7 @@ use mathlib.Core.List.{List, [], _∷_, _++_}
 use lib.ListN.{length, take}
 use lib.Dec.{leb}
 use Rattle.table.specs.Table.{Table}
+use Rattle.table.specs.Loaded.{loaded}
 use Rattle.machine.specs.declared.Run.{Run}
 use Rattle.machine.specs.Query.{Query}
 use Rattle.machine.specs.Tour.{tour, readings, treeSize}
@@ -16,8 +17,9 @@ use Rattle.machine.specs.Stack.{framesIn, store}
 use Rattle.machine.specs.Answer.{paused, ended, refused, outputTold}
 use Rattle.machine.specs.Reading.{Outcome, kindBy, stepsBy, heldOf, outcome}
 
--- what a caller lends to one call: any stack, any allowance and any output buffer
+-- what a caller lends to one call: the cells of the table, any stack, any allowance and any output buffer
 pub record Lent : Type 0 where
+  pub table : List ℕ
   pub stack : List ℕ
   pub allowance : ℕ
   pub buffer : List ℕ
@@ -43,11 +45,11 @@ module _ (t : Table) (q : Query) where
     -- "Never too short": (letters to read + 1) × states frames
     pub never-short : (lettersToRead q + 1) * t .states ≤ framesIn (x .stack) → (kindBy o ≡ refused 21 → ⊥) × (kindBy o ≡ refused 22 → ⊥)
 
--- "Every call gets the start's table and words."
-module _ (cells upper lower : List ℕ) where
+-- "Every call gets the start's .. words."
+module _ (upper lower : List ℕ) where
   -- one call
   abbrev pub callOn : Run → Lent → Outcome
-  callOn r x = outcome cells upper lower r (x .stack) (x .allowance) (x .buffer)
+  callOn r x = outcome (x .table) upper lower r (x .stack) (x .allowance) (x .buffer)
 
   -- the steps that it tells
   abbrev pub stepsOn : Run → Lent → ℕ
@@ -61,11 +63,15 @@ module _ (cells upper lower : List ℕ) where
   abbrev pub usedAfter : Run → List ℕ → Lent → List ℕ
   usedAfter r used x = cond (leb (r .depth) (framesIn (x .stack))) (usedOf (runAfter r x .depth) (callOn r x .stack)) used
 
-  -- "The first gets the run as the start left it, every other as the call before left it, refused or not"; "a call whose stack has that
-  -- many gets them as the last such call left them"
-  abbrev pub Handed : Run → List ℕ → List Lent → Type 0
-  Handed r used [] = Unit {0}
-  Handed r used (x ∷ xs) = (r .depth ≤ framesIn (x .stack) → usedOf (r .depth) (x .stack) ≡ used) × Handed (runAfter r x) (usedAfter r used x) xs
+  -- "Every call gets the start's table", here the one that cells hold; what stands behind it may be anything. "The first gets the run as the
+  -- start left it, every other as the call before left it, refused or not"; "a call whose stack has that many gets them as the last such call
+  -- left them".
+  abbrev pub Handed : List ℕ → Run → List ℕ → List Lent → Type 0
+  Handed cells r used [] = Unit {0}
+  Handed cells r used (x ∷ xs) =
+      (loaded (x .table) ≡ loaded cells)
+      × (r .depth ≤ framesIn (x .stack) → usedOf (r .depth) (x .stack) ≡ used)
+      × Handed cells (runAfter r x) (usedAfter r used x) xs
 
   -- "The readings received are the outputs of the calls that answered Found, each as its call left it, in the order of the calls."
   abbrev pub received : Run → List Lent → List (List ℕ)

@@ -2,7 +2,7 @@
 -- relations that are partial functions. Document 01's three tasks are one instance (Transducer).
 use Prim.Native.Nat.{ℕ, suc, _+_, _≤_, _<_}
 use mathlib.Core.Path.{_≡_}
-use mathlib.Core.Bool.{Bool, true, false, _&&_}
+use mathlib.Core.Bool.{Bool, false, _&&_}
 use mathlib.Core.Option.{Option, none, some}
 use mathlib.Core.List.{List, [], _∷_, _++_}
 use lib.ListN.{length, getD}
@@ -22,7 +22,7 @@ pub record Machine : Type 1 where
   pub follow : ℕ → D → Option D
   pub writes : ℕ → D → List ℕ
   pub done : D → Bool
-  -- the test of two data (see SameIs), and a number above any path's arcs (see Bounded)
+  -- whether two data are the same, and a number above any path's arcs (see Bounded)
   pub same : D → D → Bool
   pub limit : ℕ
 
@@ -88,8 +88,3 @@ module _ (M : Machine) where
   -- the limit is above the arcs of every path that the words allow
   abbrev pub Bounded : Type 0
   Bounded = (p : Path) → Allowed p → size p < M .limit
-
-  -- the test of two data decides their equality
-  pub record SameIs : Type 0 where
-    pub same-eq : (d e : M .D) → M .same d e ≡ true → d ≡ e
-    pub same-refl : (d : M .D) → M .same d d ≡ true

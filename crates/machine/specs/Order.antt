@@ -1,5 +1,6 @@
--- Document 01's order of paths: by place of the initial state, then arc number at the first difference, a path before its
--- continuations. It is the order of words over the numbers of a path.
+-- The order in which the tour holds paths, said without the tour: by place of the initial state, then arc number at the first difference, a
+-- path before its continuations. It is the order of words over the numbers of a path. Document 01 tells the tour; that its paths stand in
+-- this order is proved (`listed`).
 use Prim.Native.Nat.{ℕ, _<_}
 use mathlib.Core.Path.{_≡_}
 use mathlib.Core.Logic.{_⊎_, _↔_}

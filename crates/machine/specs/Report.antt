@@ -89,12 +89,12 @@ L⁻¹ σ v w = v ≡ σ ∷ w
 abbrev pub R : ℕ → Rel Word Word
 R γ v w = w ≡ v ++ (γ ∷ [])
 
--- a letter that is read, or written; 0 is the empty word ε
+-- a letter that is read; 0 is the empty word ε
 abbrev pub reading : ℕ → Rel Word Word
 reading zero = identity
 reading (suc σ) = L⁻¹ (suc σ)
 
--- a letter that is written
+-- a letter that is written, the same
 abbrev pub writing : ℕ → Rel Word Word
 writing zero = identity
 writing (suc γ) = R (suc γ)
@@ -107,11 +107,11 @@ abbrev pub α : Task → Arc → Rel (Word × Word) (Word × Word)
 α synthesis a = reading (a .upper) ⊗ writing (a .lower)
 α analysis a = writing (a .upper) ⊗ reading (a .lower)
 
--- the arc with its upper letter alone, (σ, ε), and with its lower letter alone, (ε, γ)
+-- the arc with its upper letter alone, (σ, ε)
 abbrev pub upperAlone : Arc → Arc
 upperAlone a = record { source = a .source; upper = a .upper; lower = 0; target = a .target }
 
--- (ε, γ)
+-- and with its lower letter alone, (ε, γ)
 abbrev pub lowerAlone : Arc → Arc
 lowerAlone a = record { source = a .source; upper = 0; lower = a .lower; target = a .target }
 
@@ -119,13 +119,13 @@ lowerAlone a = record { source = a .source; upper = 0; lower = a .lower; target 
 abbrev pub kernel : Table → Task → Kernel
 kernel t k = record { Data = Word × Word; table = t; relation = α k }
 
--- the input and the output set, D₋ and D₊
+-- D₋, the input set
 abbrev pub Input : Task → Type 0
 Input recognition = Word × Word
 Input synthesis = Word
 Input analysis = Word
 
--- D₊: the Boolean set for recognition, words for synthesis and analysis
+-- D₊, the output set: the Boolean set for recognition, words for synthesis and analysis
 abbrev pub Output : Task → Type 0
 Output recognition = Bool
 Output synthesis = Word

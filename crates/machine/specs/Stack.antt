@@ -6,7 +6,7 @@ use lib.ListN.{length, getD, set}
 use Rattle.machine.specs.Frames.{Frame, Store}
 use Rattle.machine.specs.Transducer.{Passed}
 
--- how many frames a stack has, and how many of them are used at most
+-- how many frames a stack has
 abbrev pub framesIn : List ℕ → ℕ
 framesIn c = length c / 4
 
