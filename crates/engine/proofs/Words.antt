@@ -3,11 +3,11 @@ use Prim.Native.Nat.{ℕ, zero, suc, _<_, _≤_}
 use native.Mathlib.Omega.{arith}
 use mathlib.Core.Path.{_≡_, refl, sym, ap, subst, _∙_}
 use mathlib.Core.Logic.{_⊎_, ⊎-elim}
-use mathlib.Core.Bool.{Bool, true, false, cond, not, _&&_, _||_, and-false}
+use mathlib.Core.Bool.{Bool, true, false, cond, not, _&&_, _||_, and-true, and-assoc}
 use mathlib.Core.Option.{Option, none, some}
 use mathlib.Core.List.{List, [], _∷_}
 use lib.Dec.{eqb, leb}
-use lib.ListN.{length, getD}
+use lib.ListN.{length, getD, take}
 use borrow.Author.Tests.{eqb-true, ne-eqb, le-leb, lt-leb}
 use Rattle.table.specs.declared.Refusal.{Refusal}
 use Rattle.table.specs.declared.Refusal.the-variants.{Input, State}
@@ -17,7 +17,6 @@ use Rattle.table.specs.Table.{Table}
 use Rattle.table.specs.Rules.{isEmpty}
 use Rattle.table.specs.Loaded.{tableIn, loaded}
 use Rattle.table.specs.Calls.{checked}
-use Rattle.table.proofs.Tests.{and-both}
 use Rattle.table.proofs.TableCheck.{passed, failed}
 use Rattle.machine.specs.Query.{Task, recognition, synthesis, analysis, upperSide, lowerSide, taskOf, reads, Query, lettersHold, wordHolds, sidesHold, wordsHold}
 use Rattle.machine.specs.Asked.{Asked, turned, runs, askedWords, askedTask, askedTable, asked}
@@ -27,42 +26,20 @@ use Rattle.engine.specs.Asking.{askingOf}
 
 -- Letters.
 
-letters-all : (w : List ℕ) → ((i : ℕ) → i < length w → (leb 1 (getD w i 0) && leb (getD w i 0) 63) ≡ true) → lettersHold w ≡ true
-letters-all [] f = refl
-letters-all (x ∷ xs) f = and-both (f 0 (omega arith)) (letters-all xs (λ i h. f (suc i) (omega arith)))
+-- one letter more
+pub letters-more : (w : List ℕ) (k : ℕ) → k < length w → lettersHold (take (suc k) w) ≡ (lettersHold (take k w) && (leb 1 (getD w k 0) && leb (getD w k 0) 63))
+letters-more [] k h = absurd (omega arith)
+letters-more (x ∷ xs) zero h = and-true (leb 1 x && leb x 63)
+letters-more (x ∷ xs) (suc k) h =
+    ap (λ (b : Bool). (leb 1 x && leb x 63) && b) (letters-more xs k (omega arith))
+    ∙ sym (and-assoc (leb 1 x && leb x 63) (lettersHold (take k xs)) (leb 1 (getD xs k 0) && leb (getD xs k 0) 63))
 
-letters-not : (w : List ℕ) (k : ℕ) → k < length w → (leb 1 (getD w k 0) && leb (getD w k 0) 63) ≡ false → lettersHold w ≡ false
-letters-not [] k h e = absurd (omega arith)
-letters-not (x ∷ xs) zero h e = ap (λ (b : Bool). b && lettersHold xs) e
-letters-not (x ∷ xs) (suc k) h e = go (leb 1 x && leb x 63) (letters-not xs k (omega arith) e)
-  where
-    go : (b : Bool) → lettersHold xs ≡ false → (b && lettersHold xs) ≡ false
-    go true f = f
-    go false f = refl
-
--- a letter that fails, and letters that all hold
 module _ (w : List ℕ) where
-  word-not : (k : ℕ) → k < length w → (leb 1 (getD w k 0) && leb (getD w k 0) 63) ≡ false → wordHolds w ≡ false
-  word-not k h e = go (leb (length w) 64)
-    where
-      go : (b : Bool) → (b && lettersHold w) ≡ false
-      go true = letters-not w k h e
-      go false = refl
-
-  pub word-low : (k : ℕ) → k < length w → getD w k 0 < 1 → wordHolds w ≡ false
-  word-low k h l = word-not k h (ap (λ (b : Bool). b && leb (getD w k 0) 63) (lt-leb 1 (getD w k 0) l))
-
-  pub word-high : (k : ℕ) → k < length w → 63 < getD w k 0 → wordHolds w ≡ false
-  word-high k h l = word-not k h (ap (λ (b : Bool). leb 1 (getD w k 0) && b) (lt-leb (getD w k 0) 63 l) ∙ and-false (leb 1 (getD w k 0)))
-
-  pub word-all : length w ≤ 64 → ((i : ℕ) → i < length w → (leb 1 (getD w i 0) && leb (getD w i 0) 63) ≡ true) → wordHolds w ≡ true
-  word-all h f = and-both (le-leb (length w) 64 h) (letters-all w f)
-
   pub word-long : 64 < length w → wordHolds w ≡ false
   word-long h = ap (λ (b : Bool). b && lettersHold w) (lt-leb (length w) 64 h)
 
-pub letter-holds : (x : ℕ) → 1 ≤ x → x ≤ 63 → (leb 1 x && leb x 63) ≡ true
-letter-holds x h g = and-both (le-leb 1 x h) (le-leb x 63 g)
+  pub word-short : length w ≤ 64 → wordHolds w ≡ lettersHold w
+  word-short h = ap (λ (b : Bool). b && lettersHold w) (le-leb (length w) 64 h)
 
 -- no letter: the side's word is empty
 pub empty-length : (w : List ℕ) → isEmpty w ≡ eqb (length w) 0

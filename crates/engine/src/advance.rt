@@ -74,11 +74,10 @@ pub fn advance(
         Asking::Refused(refusal) => search::refused(0, refusal, run),
         Asking::Passes => {
             let at = checked.layout;
-            let first = checked.first;
             resume(
                 table,
                 at,
-                &first,
+                &checked.first,
                 upper,
                 lower,
                 run,

@@ -28,25 +28,26 @@ pub fn reads_lower(task: u32) -> bool
     task != 2
 }
 
-// 10, of one word.
+// 10, of one word. The loop goes through all its letters, so that several are compared at once.
 fn word_holds(w: &[u8]) -> bool
     ensures { λ r. ⌜ r ≡ wordHolds (now (w .entry)) ⌝ }
 {
     if 64 < w.len() {
         return false;
     }
+    let mut hold = true;
     let mut k = 0;
     while k < w.len() {
         let x = w[k];
         if x < 1 {
-            return false;
+            hold = false;
         }
         if 63 < x {
-            return false;
+            hold = false;
         }
         k += 1;
     }
-    true
+    hold
 }
 
 // 11, of one side.

@@ -1,3 +1,4 @@
--- Laws of the side rules and of the output.
+-- Laws of the side rules, of the members of a list and of the output.
 pub mod Following
+pub mod Members
 pub mod Gathered

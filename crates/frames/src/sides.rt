@@ -62,18 +62,19 @@ pub fn is_done(read: bool, word: &[u8], n: u32) -> bool
     n as usize == word.len()
 }
 
-// A state is in a list.
+// A state is in a list. The loop goes through the whole list, so that several are compared at once.
 pub fn is_member(list: &[u16], state: u16) -> bool
     ensures { λ r. ⌜ r ≡ member state (now (list .entry)) ⌝ }
 {
+    let mut found = false;
     let mut k = 0;
     while k < list.len() {
         if list[k] == state {
-            return true;
+            found = true;
         }
         k += 1;
     }
-    false
+    found
 }
 
 // A frame's path accepts. The terminal states are searched only where every given word is read to its end.

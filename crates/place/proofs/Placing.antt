@@ -65,6 +65,37 @@ low-decides (some d) x y u l e h =
     let w : y ≡ d .low = cc in
     holds-first (eqb (d .up) u) (eqb (d .low) l) (eqb y l) (eq-eqb (d .up) u (sym z ∙ h)) (ap (λ (k : ℕ). eqb k l) w)
 
+-- The test of a link, case by case.
+
+module _ (s : Setup) (first arcs upper lower : List ℕ) (g f : Frame) where
+  abbrev tried : Bool
+  tried = ltb (getD first (g .state) 0) (g .next)
+
+  abbrev led : Bool
+  led = eqb (f .state) (getD arcs (4 * (g .next - 1) + 3) 0)
+
+  abbrev made : Option Passed
+  made = followBy s upper lower (arcOf arcs (g .next - 1)) (passedOf (g .up) (g .low))
+
+  abbrev fits : Bool
+  fits = tested made (λ d. eqb (d .up) (f .up) && eqb (d .low) (f .low))
+
+  pub link-untried : g .next ≤ getD first (g .state) 0 → false ≡ linkBy s first arcs upper lower g f
+  link-untried h = fails-first tried (led && fits) (le-ltb _ _ h)
+
+  pub link-unfit : Fails ≡ fitOf made → false ≡ linkBy s first arcs upper lower g f
+  link-unfit e = fails-second tried (led && fits) (sym (fails-second led fits (both-same made (f .up) (f .low) e)))
+
+  pub link-elsewhere : (f .state ≡ getD arcs (4 * (g .next - 1) + 3) 0 → ⊥) → false ≡ linkBy s first arcs upper lower g f
+  link-elsewhere h = fails-second tried (led && fits) (sym (fails-first led fits (ne-eqb _ _ h)))
+
+  pub link-up : (x y : ℕ) → Fits x y ≡ fitOf made → (x ≡ f .up → ⊥) → false ≡ linkBy s first arcs upper lower g f
+  link-up x y e h = fails-second tried (led && fits) (sym (fails-second led fits (up-differs made x y (f .up) (f .low) e h)))
+
+  pub link-low : (x y : ℕ) → getD first (g .state) 0 < g .next → f .state ≡ getD arcs (4 * (g .next - 1) + 3) 0 → Fits x y ≡ fitOf made → x ≡ f .up
+      → eqb y (f .low) ≡ linkBy s first arcs upper lower g f
+  link-low x y t l e h = holds-first tried (led && fits) _ (lt-ltb _ _ t) (holds-first led fits _ (eq-eqb _ _ l) (low-decides made x y (f .up) (f .low) e h))
+
 module _ (s : Setup) (first initials terminals arcs upper lower : List ℕ) (R : Ready s first initials terminals arcs) where
   abbrev t : Table
   t = tableBy s initials terminals arcs
@@ -166,32 +197,35 @@ module _ (s : Setup) (first initials terminals arcs upper lower : List ℕ) (R :
         pub first-holds : nextBy first (b .state) (b .next) ≡ true → chain 0 ≡ true
         first-holds h = and-both (bottom-next ∙ h) (bottom-as ∙ e)
 
-    -- the frame above the frame at i
-    module _ (i : ℕ) (room : i < roomIn c) (held-so-far : chain i ≡ true) (g f : Frame) (Eg : g ≡ frameOf (lookAt c i)) (Ef : f ≡ frameOf (lookAt c (i + 1))) where
-      above : lookAt c (i + 1) ≡ lookAt c (suc i)
-      above = ap (lookAt c) (let z : i + 1 ≡ suc i = omega arith in z)
+    -- the frame at i, above the frame g
+    module _ (i : ℕ) (some-below : 0 < i) (room : i - 1 < roomIn c) (held-so-far : chain (i - 1) ≡ true) (g f : Frame) (Eg : g ≡ frameOf (lookAt c (i - 1))) (Ef : f ≡ frameOf (lookAt c i)) where
+      abbrev j : ℕ
+      j = i - 1
 
-      Es : f ≡ frameOf (lookAt c (suc i))
+      above : lookAt c i ≡ lookAt c (suc j)
+      above = ap (lookAt c) (let z : i ≡ suc j = omega arith in z)
+
+      Es : f ≡ frameOf (lookAt c (suc j))
       Es = Ef ∙ ap frameOf above
 
-      at-suc : (b : Bool) → chain (suc i) ≡ b → chain (i + 1) ≡ b
-      at-suc b e = ap chain (let z : i + 1 ≡ suc i = omega arith in z) ∙ e
+      at-suc : (b : Bool) → chain (suc j) ≡ b → chain i ≡ b
+      at-suc b e = ap chain (let z : i ≡ suc j = omega arith in z) ∙ e
 
-      B : InBounds first arcs c i
-      B = bounds-at i room held-so-far
+      B : InBounds first arcs c j
+      B = bounds-at j room held-so-far
 
       pub linkable : Linkable first arcs g
       linkable =
-          let x : Linkable first arcs (frameOf (lookAt c i)) = record { indexed = omega (arith, B .indexed); next-whole = B .next-whole; up-small = B .up-small; low-small = B .low-small } in
+          let x : Linkable first arcs (frameOf (lookAt c j)) = record { indexed = omega (arith, B .indexed); next-whole = B .next-whole; up-small = B .up-small; low-small = B .low-small } in
           subst (Linkable first arcs) (sym Eg) x
 
-      link-as : linkHolds M (lookAt c i) (lookAt c (suc i)) ≡ linkBy s first arcs upper lower g f
-      link-as = link-is c i B (lookAt c (suc i)) ∙ ap₂ (linkBy s first arcs upper lower) (sym Eg) (sym Es)
+      link-as : linkHolds M (lookAt c j) (lookAt c (suc j)) ≡ linkBy s first arcs upper lower g f
+      link-as = link-is c j B (lookAt c (suc j)) ∙ ap₂ (linkBy s first arcs upper lower) (sym Eg) (sym Es)
 
-      pub link-fails : linkBy s first arcs upper lower g f ≡ false → chain (i + 1) ≡ false
+      pub link-fails : linkBy s first arcs upper lower g f ≡ false → chain i ≡ false
       link-fails e =
-          at-suc false (sym (fails-second (nextHolds M (lookAt c (suc i))) (linkHolds M (lookAt c i) (lookAt c (suc i)) && chain i)
-          (sym (fails-first (linkHolds M (lookAt c i) (lookAt c (suc i))) (chain i) (link-as ∙ e)))))
+          at-suc false (sym (fails-second (nextHolds M (lookAt c (suc j))) (linkHolds M (lookAt c j) (lookAt c (suc j)) && chain j)
+          (sym (fails-first (linkHolds M (lookAt c j) (lookAt c (suc j))) (chain j) (link-as ∙ e)))))
 
       module _ (e : linkBy s first arcs upper lower g f ≡ true) where
         up-state : f .state < s .states
@@ -209,14 +243,14 @@ module _ (s : Setup) (first initials terminals arcs upper lower : List ℕ) (R :
         pub up-indexed : f .state + 1 < length first
         up-indexed = omega (arith, up-state, first-length s first initials terminals arcs upper lower R, rules s first initials terminals arcs upper lower R .few-states)
 
-        up-next : nextHolds M (lookAt c (suc i)) ≡ nextBy first (f .state) (f .next)
+        up-next : nextHolds M (lookAt c (suc j)) ≡ nextBy first (f .state) (f .next)
         up-next =
-            next-is (lookAt c (suc i)) (subst (λ (x : Frame). x .state < s .states) Es up-state) ∙ ap (λ (x : Frame). nextBy first (x .state) (x .next)) (sym Es)
+            next-is (lookAt c (suc j)) (subst (λ (x : Frame). x .state < s .states) Es up-state) ∙ ap (λ (x : Frame). nextBy first (x .state) (x .next)) (sym Es)
 
-        pub next-fails : nextBy first (f .state) (f .next) ≡ false → chain (i + 1) ≡ false
-        next-fails h = at-suc false (sym (fails-first (nextHolds M (lookAt c (suc i))) (linkHolds M (lookAt c i) (lookAt c (suc i)) && chain i) (up-next ∙ h)))
+        pub next-fails : nextBy first (f .state) (f .next) ≡ false → chain i ≡ false
+        next-fails h = at-suc false (sym (fails-first (nextHolds M (lookAt c (suc j))) (linkHolds M (lookAt c j) (lookAt c (suc j)) && chain j) (up-next ∙ h)))
 
-        pub next-more : nextBy first (f .state) (f .next) ≡ true → chain (i + 1) ≡ true
+        pub next-more : nextBy first (f .state) (f .next) ≡ true → chain i ≡ true
         next-more h = at-suc true (and-both (up-next ∙ h) (and-both (link-as ∙ e) held-so-far))
 
 -- Starts, depth and room, then the frames.

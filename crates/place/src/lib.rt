@@ -13,6 +13,7 @@ ghost use lib.ListN.{length};
 ghost use Rattle.machine.specs.Frames.{framesOf, chainHolds, placeHolds};
 ghost use Rattle.machine.specs.Stack.{framesIn, lookAt, store};
 ghost use Rattle.machine.specs.Reading.{heldOf};
+ghost use Rattle.frames.specs.Frames.{frameOf};
 ghost use Rattle.step.specs.Setting.{machineBy, Ready};
 ghost use Rattle.place.specs.Place.{nextBy, bottomBy, linkBy, Linkable};
 
@@ -43,7 +44,8 @@ fn bottom_holds(initials: &[u16], started: u32, f: Frame) -> bool
     0 == f.low
 }
 
-// The frame f is what the arc just tried in the frame g below it makes by fitting.
+// The frame at i is what the arc just tried in the frame g below it makes by fitting. It is looked at when that is known, so that fewer
+// values are held at a time.
 fn link_holds(
     setup: Setup,
     first: &[u16],
@@ -51,10 +53,12 @@ fn link_holds(
     upper: &[u8],
     lower: &[u8],
     g: Frame,
-    f: Frame,
+    stack: &[u32],
+    i: usize,
 ) -> bool
     requires { ⌜ Linkable (now first) (now arcs) g ⌝ }
-    ensures { λ r. ⌜ r ≡ linkBy setup (now (first .entry)) (now (arcs .entry)) (now (upper .entry)) (now (lower .entry)) g f ⌝ }
+    requires { ⌜ i < framesIn (now stack) ⌝ }
+    ensures { λ r. ⌜ r ≡ linkBy setup (now (first .entry)) (now (arcs .entry)) (now (upper .entry)) (now (lower .entry)) g (frameOf (lookAt (now (stack .entry)) i)) ⌝ }
 {
     let state = g.state as usize;
     let next = g.next;
@@ -62,12 +66,13 @@ fn link_holds(
         return false;
     }
     let n = next as usize - 1;
-    if f.state != step::longer(arcs[4 * n + 3]) {
-        return false;
-    }
     match sides::follow(setup, arcs, n, upper, lower, g.up, g.low) {
         Fit::Fails => false,
         Fit::Fits(up, low) => {
+            let f = cells::look(stack, i);
+            if f.state != step::longer(arcs[4 * n + 3]) {
+                return false;
+            }
             if up != f.up {
                 return false;
             }
@@ -100,16 +105,17 @@ fn frames_hold(
     if !next_holds(first, b.state, b.next) {
         return false;
     }
-    let mut i = 0;
-    while i + 1 < depth {
-        let g = cells::look(stack, i);
-        let f = cells::look(stack, i + 1);
-        if !link_holds(setup, first, arcs, upper, lower, g, f) {
+    let mut g = b;
+    let mut i = 1;
+    while i < depth {
+        if !link_holds(setup, first, arcs, upper, lower, g, stack, i) {
             return false;
         }
+        let f = cells::look(stack, i);
         if !next_holds(first, f.state, f.next) {
             return false;
         }
+        g = f;
         i += 1;
     }
     true

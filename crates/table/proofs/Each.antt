@@ -5,7 +5,7 @@ use mathlib.Core.Path.{_≡_, refl, sym, ap, subst, _∙_}
 use mathlib.Core.Bool.{Bool, true, false, _&&_, _||_, not, and-assoc, or-assoc, and-true, false≢true}
 use mathlib.Core.List.{List, [], _∷_, _++_, append-assoc, append-nil}
 use lib.ListN.{length, getD, take, drop, take-append-drop}
-use lib.Seq.{take-suc, drop-cons, take-all}
+use lib.Seq.{take-suc, drop-cons, take-all, getD-take, length-take-le}
 use Rattle.table.proofs.Tests.{and-left, and-right, and-both, or-right}
 use Rattle.table.specs.Rules.{any, lastIs, each}
 
@@ -54,6 +54,13 @@ module _ {A : Type 0} where
       last-at test d (y ∷ ys) (omega arith)
       ∙ ap (λ (n : ℕ). test (getD (x ∷ y ∷ ys) n d)) {x = suc (length (y ∷ ys) - 1)} {y = length (x ∷ y ∷ ys) - 1} (omega arith)
 
+  -- the last element of the first ones
+  pub last-take : (test : A → Bool) (d : A) (xs : List A) (k : ℕ) → k < length xs → lastIs test (take (suc k) xs) ≡ test (getD xs k d)
+  last-take test d xs k h =
+      last-at test d (take (suc k) xs) (omega (arith, length-take-le (suc k) xs (omega arith)))
+      ∙ ap (λ (n : ℕ). test (getD (take (suc k) xs) n d)) {x = length (take (suc k) xs) - 1} {y = k} (omega (arith, length-take-le (suc k) xs (omega arith)))
+      ∙ ap test (getD-take (suc k) xs k d (omega arith))
+
   pub last-none : (test : A → Bool) (xs : List A) → length xs ≡ 0 → lastIs test xs ≡ true
   last-none test [] h = refl
   last-none test (x ∷ xs) h = absurd (omega arith)
@@ -69,6 +76,12 @@ module _ {A : Type 0} where
 
       whole : each test [] xs ≡ (each test [] (take (suc k) xs) && each test (take (suc k) xs) (drop (suc k) xs))
       whole = ap (each test []) (sym (take-append-drop (suc k) xs)) ∙ each-append test [] (take (suc k) xs) (drop (suc k) xs)
+
+  -- what each element passes with the one before it
+  pub each-last : (test : A → A → Bool) (d : A) (xs : List A) → each (λ before x. lastIs (λ y. test y x) before) [] xs ≡ true → (j : ℕ) → suc j < length xs
+      → test (getD xs j d) (getD xs (suc j) d) ≡ true
+  each-last test d xs e j h =
+      sym (last-take (λ y. test y (getD xs (suc j) d)) d xs j (omega arith)) ∙ each-at (λ before x. lastIs (λ y. test y x) before) d xs e (suc j) h
 
   -- along the places of a list: one element more, the first that fails, all
 

@@ -15,7 +15,7 @@ use Rattle.table.specs.Rules.{any, lastIs, each, isEmpty, stateHolds, le
 use Rattle.table.specs.Loaded.{arcsIn}
 use Rattle.table.specs.Judge.{judged, hasState, repeated, largest, stateKey, arcKey, arcAs, arcsAs, Whole, lastSource, SourcesRise}
 use Rattle.table.proofs.Tests.{and-four, or-right}
-use Rattle.table.proofs.Each.{any-append, any-none, last-at, each-at, each-weaken}
+use Rattle.table.proofs.Each.{any-append, any-none, each-last, each-weaken}
 use Rattle.table.proofs.Rules.{arc-clear}
 use Rattle.table.proofs.Arcs.{at-equal, noArc, arcAt, arcHere, length-arcs, getD-arcs, arcs-here, last-source}
 
@@ -55,15 +55,7 @@ sources-differ a b n =
 
 module _ (arcs : List Arc) (R : each sourceHolds [] arcs ≡ true) where
   next-source : (j : ℕ) → suc j < length arcs → getD arcs j noArc .source ≤ getD arcs (suc j) noArc .source
-  next-source j h =
-      leb-true _ _
-      (sym (ap test (getD-take (suc j) arcs j noArc (omega arith)))
-      ∙ at-equal (λ n. test (getD (take (suc j) arcs) n noArc)) j (length (take (suc j) arcs) - 1) (omega (arith, length-take-le (suc j) arcs (omega arith)))
-      ∙ sym (last-at test noArc (take (suc j) arcs) (omega (arith, length-take-le (suc j) arcs (omega arith))))
-      ∙ each-at sourceHolds noArc arcs R (suc j) h)
-    where
-      test : Arc → Bool
-      test b = leb (b .source) (getD arcs (suc j) noArc .source)
+  next-source j h = leb-true _ _ (each-last (λ b a. leb (b .source) (a .source)) noArc arcs R j h)
 
   pub sources-rise : (i j : ℕ) → i ≤ j → j < length arcs → getD arcs i noArc .source ≤ getD arcs j noArc .source
   sources-rise i zero h g = at-or (ltb i 0) refl

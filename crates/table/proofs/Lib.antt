@@ -7,7 +7,9 @@ pub mod Rules
 pub mod Turn
 pub mod Arcs
 pub mod Faults
+pub mod Joined
 pub mod Rising
+pub mod Terminals
 pub mod Ruled
 pub mod Index
 pub mod Loaded

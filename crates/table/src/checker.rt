@@ -32,17 +32,26 @@ fn initials_hold(list: &[u16], states: u16) -> bool
     true
 }
 
+// Terminal states that rise are states where the last one is. The loop goes through the whole list, so that several are compared at once.
 fn terminals_hold(list: &[u16], states: u16) -> bool
     ensures { λ r. ⌜ r ≡ terminalsKeep states (now (list .entry)) ⌝ }
 {
-    let mut k = 0;
-    while k < list.len() {
-        let Judged::Kept = judge::terminal_fault(&list[..k], states, list[k]) else {
-            return false;
-        };
+    let n = list.len();
+    if n == 0 {
+        return true;
+    }
+    let mut rise = true;
+    let mut k = 1;
+    while k < n {
+        if list[k] <= list[k - 1] {
+            rise = false;
+        }
         k += 1;
     }
-    true
+    if rise {
+        return list[n - 1] < states;
+    }
+    false
 }
 
 // Each arc judged with those before it.
@@ -71,26 +80,33 @@ fn each_arc_holds(cells: &[u16], states: u16) -> bool
 }
 
 // Whether the arcs stand in order: then they keep the rules, and none has to be looked for among those before it. The last source is the
-// largest, so that one alone is held against the states.
+// largest, so that one alone is held against the states; the letters are joined and held against their limit at the end.
 fn arcs_rise(cells: &[u16], states: u16) -> bool
     requires { ⌜ Whole (now cells) ⌝ }
     ensures { λ r. ⌜ r ≡ arcsRise states (arcsAs (now (cells .entry))) ⌝ }
 {
     let mut top: u64 = 0;
+    let mut joined: u32 = 0;
     let mut at = 0;
     while at < cells.len() {
         let source = cells[at];
         let upper = cells[at + 1];
         let lower = cells[at + 2];
         let target = cells[at + 3];
-        if judge::is_rising(states, source, upper, lower, target, top) {
-            top = judge::order_key(source, upper, lower, target);
+        let letters = judge::letters(upper, lower);
+        let key = judge::order_key(source, letters);
+        if judge::is_rising(states, target, key, top) {
+            top = key;
+            joined = joined | letters;
             at += 4;
         } else {
             return false;
         }
     }
-    top <= states as u64 * 4294967296
+    if judge::joined_hold(joined) {
+        return top <= states as u64 * 4294967296;
+    }
+    false
 }
 
 // Arcs in order are held by one look at each, others each with those before it.

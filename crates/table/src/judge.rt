@@ -7,7 +7,7 @@ ghost use Prim.Native.Nat.{_≤_, _*_, _/_};
 ghost use lib.ListN.{length};
 ghost use mathlib.Core.Bool.{true};
 ghost use Rattle.table.specs.Rules.{countsHold, initialFaults, terminalFaults, arcFaults, arcsKeep};
-ghost use Rattle.table.specs.Judge.{judged, hasState, largest, stateKey, arcKey, countsAs, arcAs, arcsAs, Whole, lastSource, SourcesRise, repeated, orderKey, rises};
+ghost use Rattle.table.specs.Judge.{judged, hasState, largest, stateKey, arcKey, countsAs, arcAs, arcsAs, Whole, lastSource, SourcesRise, repeated, joinedLetters, joinedHold, keyBy, risesBy};
 
 // Rule 3: each count is within its limit.
 pub fn counts_hold(states: u16, initials: u16, terminals: u16, arcs: u16) -> bool
@@ -170,25 +170,36 @@ pub fn arc_fault(
     }
 }
 
-// A number for an arc by its source and letters, which rises where arcs stand in order.
-pub fn order_key(source: u16, upper: u16, lower: u16, target: u16) -> u64
-    ensures { λ r. ⌜ r ≡ orderKey (arcAs source upper lower target) ⌝ }
+// The letters of an arc as one number.
+pub fn letters(upper: u16, lower: u16) -> u32
+    ensures { λ r. ⌜ r ≡ joinedLetters upper lower ⌝ }
 {
-    source as u64 * 4294967296 + lower as u64 * 65536 + upper as u64 + 1
+    lower as u32 * 65536 + upper as u32
 }
 
-// Whether an arc has a target and letters in their limits and a key above `top`.
-pub fn is_rising(states: u16, source: u16, upper: u16, lower: u16, target: u16, top: u64) -> bool
-    ensures { λ r. ⌜ r ≡ rises states top (arcAs source upper lower target) ⌝ }
+// Whether letters joined by `|` are all in their limit.
+pub fn joined_hold(joined: u32) -> bool
+    ensures { λ r. ⌜ r ≡ joinedHold joined ⌝ }
+{
+    if 63 < joined % 65536 {
+        return false;
+    }
+    joined / 65536 <= 63
+}
+
+// A number for an arc by its source and letters, which rises where arcs stand in order.
+pub fn order_key(source: u16, letters: u32) -> u64
+    ensures { λ r. ⌜ r ≡ keyBy source letters ⌝ }
+{
+    source as u64 * 4294967296 + letters as u64 + 1
+}
+
+// Whether an arc has a target that is a state and a key above `top`.
+pub fn is_rising(states: u16, target: u16, key: u64, top: u64) -> bool
+    ensures { λ r. ⌜ r ≡ risesBy states target key top ⌝ }
 {
     if states <= target {
         return false;
     }
-    if 63 < upper {
-        return false;
-    }
-    if 63 < lower {
-        return false;
-    }
-    top < order_key(source, upper, lower, target)
+    top < key
 }

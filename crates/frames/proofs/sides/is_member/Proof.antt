@@ -1,34 +1,32 @@
-use Prim.Native.Nat.{ℕ, _≤_, _<_, _-_}
+use Prim.Native.Nat.{ℕ, _+_, _≤_, _-_}
 use native.Mathlib.Omega.{arith}
-use mathlib.Core.Path.{_≡_, sym}
-use mathlib.Core.Bool.{false}
-use lib.Dec.{eqb}
-use lib.ListN.{length, getD}
+use mathlib.Core.Path.{_≡_, refl, sym, ap, _∙_}
+use mathlib.Core.Bool.{Bool, true, _||_, or-true, or-false}
+use mathlib.Core.Logic.{⊎-elim}
+use lib.ListN.{length, take}
+use lib.Seq.{take-all}
 use denote.Ref.{now}
 use borrow.Author.Needs.{needs}
-use borrow.Author.Count.{below-more}
 use borrow.Author.Tests.{eq-eqb, ne-eqb}
-use Rattle.table.proofs.Each.{any-some, any-none}
+use Rattle.machine.specs.Transducer.{member}
+use Rattle.frames.proofs.Members.{member-more}
 use Rattle.frames.proofs.sides.is_member.Statement.{statement}
 use Rattle.frames.proofs.sides.is_member.Tie as tie
 
 abbrev Inv-loop : tie.InvT-loop
-Inv-loop list state k₀ k = (k ≤ length list) × ((i : ℕ) → i < k → eqb (getD list i 0) state ≡ false)
+Inv-loop list state found₀ k₀ found k = (k ≤ length list) × (found ≡ member state (take k list))
 
 abbrev μ-loop : tie.MeasureT-loop
-μ-loop list state k₀ k = length list - k
+μ-loop list state found₀ k₀ found k = length list - k
 
 loop-holds : tie.Need-loop-holds Inv-loop μ-loop
-loop-holds c = (omega arith, λ i h. absurd (omega arith))
+loop-holds c = (omega arith, refl)
 
 mul-if1 : tie.Need-mul-if1 Inv-loop μ-loop
 mul-if1 c = search needs
 
 shared-slice-read-if1 : tie.Need-shared-slice-read-if1 Inv-loop μ-loop
 shared-slice-read-if1 c = search needs
-
-returns : tie.Need-returns Inv-loop μ-loop
-returns c = sym (any-some (λ r. eqb r (c .before .before .before .before .args .state)) 0 (now (c .before .before .before .before .args .list)) (c .before .before .before .loop .k) (search needs) (eq-eqb _ _ (c .if1 .taken)))
 
 add-k : tie.Need-add-k Inv-loop μ-loop
 add-k c = search needs
@@ -37,10 +35,14 @@ loop-less : tie.Need-loop-less Inv-loop μ-loop
 loop-less c = search needs
 
 loop-again : tie.Need-loop-again Inv-loop μ-loop
-loop-again c = (omega arith, below-more _ _ (c .before .before .before .loop .inv .1) (ne-eqb _ _ (c .if1 .left)))
+loop-again c =
+    let list = now (c .before .before .before .before .args .list) in
+    let seen = member (c .before .before .before .before .args .state) (take (c .before .before .before .loop .k) list) in
+    let turn = member-more (c .before .before .before .before .args .state) list (c .before .before .before .loop .k) (c .before .before .loop-test .taken) in
+    (omega arith, ⊎-elim (λ w. w .1 ∙ sym (turn ∙ ap (λ (b : Bool). seen || b) (eq-eqb _ _ (w .0 .taken)) ∙ or-true seen)) (λ w. w .1 ∙ c .before .before .before .loop .inv .1 ∙ sym (turn ∙ ap (λ (b : Bool). seen || b) (ne-eqb _ _ (w .0 .left)) ∙ or-false seen)) (c .if1 .came))
 
-returns-2 : tie.Need-returns-2 Inv-loop μ-loop
-returns-2 c = sym (any-none (λ r. eqb r (c .before .before .args .state)) 0 (now (c .before .before .args .list)) (λ k h. c .before .loop .inv .1 k (omega arith)))
+returns : tie.Need-returns Inv-loop μ-loop
+returns c = c .before .loop .inv .1 ∙ ap (member (c .before .before .args .state)) (take-all (c .before .loop .k) (now (c .before .before .args .list)) (omega arith))
 
 pub is-member-spec : {M : Type 1} → statement M
 is-member-spec =
@@ -51,8 +53,7 @@ is-member-spec =
     loop-holds
     mul-if1
     shared-slice-read-if1
-    returns
     add-k
     loop-less
     loop-again
-    returns-2)
+    returns)

@@ -1,30 +1,34 @@
 use Prim.Native.Nat.{ℕ, _+_, _*_, _/_, _≤_, _-_}
 use native.Mathlib.Omega.{arith}
-use mathlib.Core.Path.{_≡_, refl, sym, _∙_}
-use mathlib.Core.Bool.{true}
+use mathlib.Core.Path.{_≡_, refl, sym, ap, _∙_}
+use mathlib.Core.Bool.{Bool, true, _&&_}
 use denote.Ref.{now}
-use lib.ListN.{length}
+use lib.Bits.{bitOr}
+use lib.Dec.{leb}
+use lib.ListN.{length, getD}
 use borrow.Author.Needs.{needs}
 use Rattle.table.specs.Rules.{each}
 use Rattle.table.specs.Loaded.{arcsIn}
-use Rattle.table.specs.Judge.{largest, orderKey, eachRises}
-use Rattle.table.proofs.Rising.{rise-more, rise-fails, rise-top, rise-ends}
+use Rattle.table.specs.Judge.{largest, joinedHold, keyBy, orderKey, risesBy, eachRises, lettersHold}
+use Rattle.table.proofs.Rising.{rise-more, rise-fails, rise-top, letters-more, rise-ends}
 use Rattle.table.proofs.checker.arcs_rise.Statement.{statement}
 use Rattle.table.proofs.checker.arcs_rise.Tie as tie
 use Rattle.table.proofs.checker.arcs_rise.Reads as reads
 use Rattle.table.proofs.checker.arcs_rise.Lts as lts
 use Rattle.table.proofs.judge.is_rising.Reads as is-rising-reads
+use Rattle.table.proofs.judge.joined_hold.Reads as joined-hold-reads
+use Rattle.table.proofs.judge.letters.Reads as letters-reads
 use Rattle.table.proofs.judge.order_key.Reads as order-key-reads
 
 abbrev Inv-loop : tie.InvT-loop
-Inv-loop cells states top₀ at₀ top at = (at ≤ length cells) × (at ≡ 4 * (at / 4)) × (top ≡ largest orderKey (arcsIn (at / 4) cells)) × (eachRises states (arcsIn (at / 4) cells) ≡ true)
+Inv-loop cells states top₀ joined₀ at₀ top joined at = (at ≤ length cells) × (at ≡ 4 * (at / 4)) × (top ≡ largest orderKey (arcsIn (at / 4) cells)) × (eachRises states (arcsIn (at / 4) cells) ≡ true) × (joinedHold joined ≡ lettersHold (arcsIn (at / 4) cells))
 
 abbrev μ-loop : tie.MeasureT-loop
-μ-loop cells states top₀ at₀ top at = length cells - at
+μ-loop cells states top₀ joined₀ at₀ top joined at = length cells - at
 
 loop-holds : tie.Need-loop-holds Inv-loop μ-loop
-unfolding largest each arcsIn
-loop-holds c = (omega arith, omega arith, refl, refl)
+unfolding largest each arcsIn joinedHold
+loop-holds c = (omega arith, omega arith, refl, refl, refl)
 
 mul-source : tie.Need-mul-source Inv-loop μ-loop
 mul-source c = search needs
@@ -59,11 +63,14 @@ mul-target c = search needs
 shared-slice-read-target : tie.Need-shared-slice-read-target Inv-loop μ-loop
 shared-slice-read-target c = search needs
 
-is-rising-requires : tie.Need-is-rising-requires Inv-loop μ-loop
-is-rising-requires c κs = search needs
+letters-requires : tie.Need-letters-requires Inv-loop μ-loop
+letters-requires c κs = search needs
 
 order-key-requires : tie.Need-order-key-requires Inv-loop μ-loop
 order-key-requires c κs = search needs
+
+is-rising-requires : tie.Need-is-rising-requires Inv-loop μ-loop
+is-rising-requires c κs = search needs
 
 add-at : tie.Need-add-at Inv-loop μ-loop
 add-at c = search needs
@@ -73,17 +80,39 @@ loop-less c = search needs
 
 loop-again : tie.Need-loop-again Inv-loop μ-loop
 loop-again c =
-    let told = (sym (c .before .before .is-rising .ensures) ∙ c .before .if1 .taken) in
-    (omega arith, omega arith, c .order-key .ensures ∙ rise-top (c .before .before .before .before .before .before .before .before .before .before .args .states) (now (c .before .before .before .before .before .before .before .before .before .before .args .cells)) (c .before .before .before .before .before .before .before .before .loop .at) (c .before .before .before .before .before .before .before .before .loop .top) (c .before .before .before .before .before .before .before .before .loop .inv .1) (c .before .before .before .before .before .before .before .before .loop .inv .2) told, rise-more (c .before .before .before .before .before .before .before .before .before .before .args .states) (now (c .before .before .before .before .before .before .before .before .before .before .args .cells)) (c .before .before .before .before .before .before .before .before .loop .at) (c .before .before .before .before .before .before .before .before .loop .top) (c .before .before .before .before .before .before .before .before .loop .inv .1) (c .before .before .before .before .before .before .before .before .loop .inv .2) (c .before .before .before .before .before .before .before .before .loop .inv .3) told)
+    let a = c .before .before .before .before .before .before .before .before .before .before .before .args in
+    let l = c .before .before .before .before .before .before .before .before .before .loop in
+    let s = getD (now (a .cells)) (l .at) 0 in
+    let key = c .before .before .order-key .ensures ∙ ap (keyBy s) (c .before .before .before .letters .ensures) in
+    let told = ap (λ (k : ℕ). risesBy (a .states) (getD (now (a .cells)) (l .at + 3) 0) k (l .top)) (sym key) ∙ sym (c .before .is-rising .ensures) ∙ c .if1 .taken in
+    (omega arith, omega arith, key ∙ rise-top (a .states) (now (a .cells)) (l .at) (l .top) (l .inv .1) (l .inv .2) told, rise-more (a .states) (now (a .cells)) (l .at) (l .top) (l .inv .1) (l .inv .2) (l .inv .3) told, ap (λ (n : ℕ). joinedHold (bitOr (l .joined) n)) (c .before .before .before .letters .ensures) ∙ letters-more (a .states) (now (a .cells)) (l .at) (l .top) (l .inv .1) (l .inv .2) (l .joined) (l .inv .4) (omega (arith, c .before .before .before .before .before .before .before .before .before .before .shared-slice-known .given (l .at + 1))))
 
 returns : tie.Need-returns Inv-loop μ-loop
-returns c = sym (rise-fails (c .before .before .before .before .before .before .before .before .before .args .states) (now (c .before .before .before .before .before .before .before .before .before .args .cells)) (c .before .before .before .before .before .before .before .loop .at) (c .before .before .before .before .before .before .before .loop .top) (c .before .before .before .before .before .before .before .loop .inv .1) (c .before .before .before .before .before .before .before .loop .inv .2) (length (now (c .before .before .before .before .before .before .before .before .before .args .cells)) / 4) (omega (arith, c .before .before .before .before .before .before .before .before .before .pre)) (sym (c .before .is-rising .ensures) ∙ c .if1 .left))
+returns c =
+    let a = c .before .before .before .before .before .before .before .before .before .before .before .args in
+    let l = c .before .before .before .before .before .before .before .before .before .loop in
+    let s = getD (now (a .cells)) (l .at) 0 in
+    let key = c .before .before .order-key .ensures ∙ ap (keyBy s) (c .before .before .before .letters .ensures) in
+    let told = ap (λ (k : ℕ). risesBy (a .states) (getD (now (a .cells)) (l .at + 3) 0) k (l .top)) (sym key) ∙ sym (c .before .is-rising .ensures) ∙ c .if1 .left in
+    sym (rise-fails (a .states) (now (a .cells)) (l .at) (l .top) (l .inv .1) (l .inv .2) (length (now (a .cells)) / 4) (omega (arith, c .before .before .before .before .before .before .before .before .before .before .before .pre)) told)
+
+joined-hold-requires : tie.Need-joined-hold-requires Inv-loop μ-loop
+joined-hold-requires c κs = search needs
 
 mul-result : tie.Need-mul-result Inv-loop μ-loop
 mul-result c = search needs
 
 returns-2 : tie.Need-returns-2 Inv-loop μ-loop
-returns-2 c = sym (rise-ends (c .before .before .before .args .states) (now (c .before .before .before .args .cells)) (c .before .loop .at) (c .before .loop .top) (c .before .loop .inv .1) (c .before .loop .inv .2) (length (now (c .before .before .before .args .cells)) / 4) (omega arith) (c .before .loop .inv .3))
+returns-2 c =
+    let a = c .before .before .before .before .before .args in
+    let l = c .before .before .before .loop in
+    sym (rise-ends (a .states) (now (a .cells)) (l .at) (l .top) (l .inv .1) (l .inv .2) (l .joined) (l .inv .4) (length (now (a .cells)) / 4) (omega arith) (l .inv .3) ∙ ap (λ (b : Bool). b && leb (l .top) (a .states * 4294967296)) (sym (c .before .joined-hold .ensures) ∙ c .if2 .taken))
+
+returns-3 : tie.Need-returns-3 Inv-loop μ-loop
+returns-3 c =
+    let a = c .before .before .before .before .before .args in
+    let l = c .before .before .before .loop in
+    sym (rise-ends (a .states) (now (a .cells)) (l .at) (l .top) (l .inv .1) (l .inv .2) (l .joined) (l .inv .4) (length (now (a .cells)) / 4) (omega arith) (l .inv .3) ∙ ap (λ (b : Bool). b && leb (l .top) (a .states * 4294967296)) (sym (c .before .joined-hold .ensures) ∙ c .if2 .left))
 
 pub arcs-rise-spec : {M : Type 1} → statement M
 arcs-rise-spec =
@@ -103,11 +132,14 @@ arcs-rise-spec =
     add-target
     mul-target
     shared-slice-read-target
-    is-rising-requires
+    letters-requires
     order-key-requires
+    is-rising-requires
     add-at
     loop-less
     loop-again
     returns
+    joined-hold-requires
     mul-result
-    returns-2)
+    returns-2
+    returns-3)

@@ -1,51 +1,47 @@
-use Prim.Native.Nat.{ℕ, suc, _+_, _*_, _/_, _≤_, _-_}
+use Prim.Native.Nat.{ℕ, _+_, _≤_, _-_}
 use native.Mathlib.Omega.{arith}
 use mathlib.Core.Path.{_≡_, refl, sym, ap, _∙_}
-use mathlib.Core.Bool.{Bool, true, false}
+use mathlib.Core.Bool.{Bool, true, false, _&&_, and-true, and-false}
 use mathlib.Core.Logic.{⊎-elim}
 use denote.Ref.{now}
 use lib.ListN.{length, getD, take}
-use lib.Seq.{length-take-le}
+use lib.Dec.{ltb}
+use lib.Seq.{take-all}
 use borrow.Author.Needs.{needs}
-use Rattle.table.specs.Rules.{each, terminalFaults, terminalsKeep}
-use Rattle.table.proofs.Each.{each-done}
-use Rattle.table.proofs.Turn.{keep-more, keep-fails}
+use borrow.Author.Tests.{lt-ltb, le-ltb}
+use Rattle.table.specs.Rules.{each, terminalsKeep}
+use Rattle.table.proofs.Terminals.{terminalsRise, rise-one, rise-turn, fall-breaks, rise-keeps, keeps-none}
 use Rattle.table.proofs.checker.terminals_hold.Statement.{statement}
 use Rattle.table.proofs.checker.terminals_hold.Tie as tie
 use Rattle.table.proofs.checker.terminals_hold.Reads as reads
 use Rattle.table.proofs.checker.terminals_hold.Lts as lts
-use Rattle.table.proofs.judge.terminal_fault.Reads as terminal-fault-reads
 
 abbrev Inv-loop : tie.InvT-loop
-Inv-loop list states k₀ k = (k ≤ length list) × (terminalsKeep states (take k list) ≡ true)
+Inv-loop list states n rise₀ k₀ rise k = (n ≡ length list) × (1 ≤ k) × (k ≤ n) × (rise ≡ terminalsRise (take k list))
 
 abbrev μ-loop : tie.MeasureT-loop
-μ-loop list states k₀ k = length list - k
-
-loop-holds : tie.Need-loop-holds Inv-loop μ-loop
-unfolding each
-loop-holds c = (omega arith, refl)
-
-slice-aggregate-terminal-fault : tie.Need-slice-aggregate-terminal-fault Inv-loop μ-loop
-slice-aggregate-terminal-fault c = sym (length-take-le (c .before .before .loop .k) (now (c .before .before .before .before .args .list)) (omega arith))
-
-mul-terminal-fault : tie.Need-mul-terminal-fault Inv-loop μ-loop
-mul-terminal-fault c = search needs
-
-shared-slice-read-terminal-fault : tie.Need-shared-slice-read-terminal-fault Inv-loop μ-loop
-shared-slice-read-terminal-fault c = search needs
-
-terminal-fault-requires : tie.Need-terminal-fault-requires Inv-loop μ-loop
-terminal-fault-requires c κs = search needs
-
-enum-told : tie.Need-enum-told Inv-loop μ-loop
-enum-told c = search needs
-
-enum-told-2 : tie.Need-enum-told-2 Inv-loop μ-loop
-enum-told-2 c = search needs
+μ-loop list states n rise₀ k₀ rise k = n - k
 
 returns : tie.Need-returns Inv-loop μ-loop
-returns c = sym (keep-fails (terminalFaults (c .before .before .before .before .before .before .before .before .args .states)) 0 (now (c .before .before .before .before .before .before .before .before .args .list)) (c .before .before .before .before .before .before .loop .k) (c .enum-told2 .given .0 .0) (c .before .before .before .before .before .loop-test .taken) (sym (c .before .before .terminal-fault .ensures) ∙ c .enum-told2 .given .1))
+returns c = sym (keeps-none (now (c .before .args .list)) (c .before .args .states) (c .if1 .taken))
+
+loop-holds : tie.Need-loop-holds Inv-loop μ-loop
+loop-holds c = (refl, omega arith, omega arith, sym (rise-one (now (c .before .args .list))))
+
+mul-if2 : tie.Need-mul-if2 Inv-loop μ-loop
+mul-if2 c = search needs
+
+shared-slice-read-if2 : tie.Need-shared-slice-read-if2 Inv-loop μ-loop
+shared-slice-read-if2 c = search needs
+
+sub-if2 : tie.Need-sub-if2 Inv-loop μ-loop
+sub-if2 c = search needs
+
+mul-if2-2 : tie.Need-mul-if2-2 Inv-loop μ-loop
+mul-if2-2 c = omega arith
+
+shared-slice-read-if2-2 : tie.Need-shared-slice-read-if2-2 Inv-loop μ-loop
+shared-slice-read-if2-2 c = omega arith
 
 add-k : tie.Need-add-k Inv-loop μ-loop
 add-k c = search needs
@@ -54,14 +50,31 @@ loop-less : tie.Need-loop-less Inv-loop μ-loop
 loop-less c = search needs
 
 loop-again : tie.Need-loop-again Inv-loop μ-loop
-loop-again c = (
-  omega arith,
-  keep-more (terminalFaults (c .before .before .before .before .before .before .before .before .args .states)) 0 (now (c .before .before .before .before .before .before .before .before .args .list)) (c .before .before .before .before .before .before .loop .k) (c .before .before .before .before .before .loop-test .taken) (c .before .before .before .before .before .before .loop .inv .1)
-      (sym (c .before .before .terminal-fault .ensures) ∙ c .enum-told .given .1),
-)
+loop-again c =
+    let list = now (c .before .before .before .before .before .before .args .list) in
+    let k = c .before .before .before .before .loop .k in
+    let told = c .before .before .before .before .loop .inv .3 in
+    let turn = rise-turn list k (omega arith) (omega arith) in
+    (c .before .before .before .before .loop .inv .0, omega arith, omega arith, ⊎-elim (λ w. w .1 ∙ sym (turn ∙ ap (λ (b : Bool). terminalsRise (take k list) && b) (le-ltb _ _ (w .0 .taken)) ∙ and-false (terminalsRise (take k list)))) (λ w. w .1 ∙ told ∙ sym (turn ∙ ap (λ (b : Bool). terminalsRise (take k list) && b) (lt-ltb _ _ (w .0 .left)) ∙ and-true (terminalsRise (take k list)))) (c .if2 .came))
+
+sub-result : tie.Need-sub-result Inv-loop μ-loop
+sub-result c = omega arith
+
+mul-result : tie.Need-mul-result Inv-loop μ-loop
+mul-result c = omega arith
+
+shared-slice-read-result : tie.Need-shared-slice-read-result Inv-loop μ-loop
+shared-slice-read-result c = omega arith
 
 returns-2 : tie.Need-returns-2 Inv-loop μ-loop
-returns-2 c = sym (each-done _ (now (c .before .before .before .args .list)) (c .before .loop .k) (c .loop-test .left) (c .before .loop .inv .1))
+returns-2 c =
+    let list = now (c .before .before .before .before .before .args .list) in
+    sym (rise-keeps list (c .before .before .before .before .before .args .states) (ap terminalsRise (sym (take-all (c .before .before .before .loop .k) list (omega arith))) ∙ sym (c .before .before .before .loop .inv .3) ∙ c .before .if3 .taken) (omega arith))
+
+returns-3 : tie.Need-returns-3 Inv-loop μ-loop
+returns-3 c =
+    let list = now (c .before .before .before .before .args .list) in
+    sym (fall-breaks list (c .before .before .before .before .args .states) (ap terminalsRise (sym (take-all (c .before .before .loop .k) list (omega arith))) ∙ sym (c .before .before .loop .inv .3) ∙ c .if3 .left))
 
 pub terminals-hold-spec : {M : Type 1} → statement M
 terminals-hold-spec =
@@ -69,15 +82,18 @@ terminals-hold-spec =
     (tie.spec
     Inv-loop
     μ-loop
-    loop-holds
-    slice-aggregate-terminal-fault
-    mul-terminal-fault
-    shared-slice-read-terminal-fault
-    terminal-fault-requires
-    enum-told
-    enum-told-2
     returns
+    loop-holds
+    mul-if2
+    shared-slice-read-if2
+    sub-if2
+    mul-if2-2
+    shared-slice-read-if2-2
     add-k
     loop-less
     loop-again
-    returns-2)
+    sub-result
+    mul-result
+    shared-slice-read-result
+    returns-2
+    returns-3)
