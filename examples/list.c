@@ -29,7 +29,7 @@ static int refused(const char *call, rd_answer answer) {
 
 int main(void) {
     const uint8_t upper[LETTERS] = {1, 2}, lower[1] = {0}; /* the lower word is empty; its pointer is not null */
-    uint16_t table[4612], cycle[256];
+    uint16_t table[4612];
     uint32_t stack[CELLS];
     uint8_t output[64];
     rd_run run;
@@ -37,7 +37,7 @@ int main(void) {
     rd_answer read = rd_table_read((const uint8_t *)text, sizeof text - 1, table, 4612);
     if (read.kind != RD_DONE) return refused("rd_table_read", read);
 
-    rd_answer answer = rd_start(table, read.length, RD_SYNTHESIS, upper, LETTERS, lower, 0, &run, cycle);
+    rd_answer answer = rd_start(table, read.length, RD_SYNTHESIS, upper, LETTERS, lower, 0, &run).answer;
     if (answer.kind != RD_DONE) return refused("rd_start", answer);
 
     for (;;) {

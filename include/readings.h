@@ -10,8 +10,7 @@
  * without const must be the caller's to write for the time of the call.
  *
  * Cells that are not told are untouched: a destination beyond the length told, the stack beyond what the steps use, the output beyond
- * the letters told, and with a refusal everything that is lent, but for the cycle of 12 and what steps before the refused one have done
- * to run and stack.
+ * the letters told, and with a refusal everything that is lent, but for what steps before the refused one have done to run and stack.
  */
 #ifndef READINGS_H
 #define READINGS_H
@@ -28,8 +27,15 @@ typedef struct {
     uint32_t kind;   /* one of RD_DONE .. RD_REFUSED */
     uint32_t number; /* the refusal's number, below; else 0 */
     uint32_t steps;  /* rd_next: the steps made in this call, before a refusal too */
-    uint32_t length; /* what was written: cells, bytes, states or letters, as each function says */
+    uint32_t length; /* what is told: cells, bytes, states or letters, as each function says */
 } rd_answer;
+
+/* What a start answers. With refusal 12 the cells hold, from their front, the states of one such cycle in walking order, none twice, as
+ * many as answer.length tells, then zeros; else all 256 are 0. */
+typedef struct {
+    rd_answer answer;
+    uint16_t cycle[256];
+} rd_started;
 
 enum {
     RD_DONE = 0,    /* rd_table_read, rd_table_write, rd_start: it was done */
@@ -87,12 +93,10 @@ rd_answer rd_table_read(const uint8_t *text, size_t n, uint16_t *table, size_t m
  * bytes of the text. Refusals: 20, 24. */
 rd_answer rd_table_write(const uint16_t *table, size_t n, uint8_t *text, size_t m);
 
-/* Begins a search. A start that passes sets the run to the task, 0 started and depth 0; one that is refused leaves the run as it was.
- * With 12, and only then, cycle is written: from its front the states of one such cycle in walking order, none twice, then zeros; length
- * tells how many states. The task is one byte: C would cut a larger number down to one, so check it before the call. Refusals: 20, 11,
- * 10, 12. */
-rd_answer rd_start(const uint16_t *table, size_t n, uint8_t task, const uint8_t *upper, size_t u, const uint8_t *lower, size_t l,
-                   rd_run *run, uint16_t cycle[256]);
+/* Begins a search. The task may be any number. A start that passes sets the run to the task, 0 started and depth 0; one that is refused
+ * leaves the run as it was. answer.length: states of the cycle, with 12. Refusals: 20, 11, 10, 12. */
+rd_started rd_start(const uint16_t *table, size_t n, uint32_t task, const uint8_t *upper, size_t u, const uint8_t *lower, size_t l,
+                    rd_run *run);
 
 /* Goes on with a search, for at most allowance steps, to the next reading. Table and words are those of the start; run and stack are as
  * the call before left them. The stack has s cells, four a frame: state, next arc, letters passed on the upper and on the lower side; a
@@ -103,13 +107,13 @@ rd_answer rd_next(const uint16_t *table, size_t n, const uint8_t *upper, size_t 
 
 /* Use, with a text of n bytes and an upper word of u letters (examples/list.c is this as a program):
  *
- *     static uint16_t table[4612], cycle[256];
+ *     static uint16_t table[4612];
  *     static uint32_t stack[4 * 65 * 256];
  *     uint8_t none[1] = {0}, output[4096];
  *     rd_run run;
  *     rd_answer t = rd_table_read(text, n, table, 4612);
  *     if (t.kind != RD_DONE) return t.number;
- *     rd_answer a = rd_start(table, t.length, RD_SYNTHESIS, upper, u, none, 0, &run, cycle);
+ *     rd_answer a = rd_start(table, t.length, RD_SYNTHESIS, upper, u, none, 0, &run).answer;
  *     if (a.kind != RD_DONE) return a.number;
  *     do {
  *         a = rd_next(table, t.length, upper, u, none, 0, &run, stack, 4 * 65 * 256, 1000, output, 4096);

@@ -20,6 +20,17 @@ pub struct Answer {
     pub length: u32,
 }
 
+/// The most states that a cycle can have.
+pub const CYCLE: usize = 256;
+
+/// What a start answers. With refusal 12 the states of a cycle, as many as the answer's length tells, then zeros; else all zeros.
+#[repr(C)]
+#[derive(Clone, Copy, Debug, PartialEq, Eq)]
+pub struct Started {
+    pub answer: Answer,
+    pub cycle: [u16; CYCLE],
+}
+
 /// The caller's record of a search. A run of zeros belongs to no search.
 #[repr(C)]
 #[derive(Clone, Copy, Debug, Default, PartialEq, Eq)]
@@ -35,6 +46,16 @@ impl Run {
         Run {
             task,
             ..Run::default()
+        }
+    }
+}
+
+impl Started {
+    /// An answer without a cycle.
+    pub fn bare(answer: Answer) -> Started {
+        Started {
+            answer,
+            cycle: [0; CYCLE],
         }
     }
 }

@@ -1,22 +1,11 @@
 //! What is compared: anything that starts searches and calls for readings, and anything that reads and writes tables.
-use crate::answer::{Answer, Run};
-
-/// The most states that a cycle can have.
-pub const CYCLE: usize = 256;
+use crate::answer::{Answer, Run, Started};
 
 /// Starts and calls on a loaded table.
 pub trait Engine {
-    /// Answers `done` and sets the run, or refuses; with refusal 12 the cycle is written.
-    #[allow(clippy::too_many_arguments)]
-    fn start(
-        &self,
-        table: &[u16],
-        task: u8,
-        upper: &[u8],
-        lower: &[u8],
-        run: &mut Run,
-        cycle: &mut [u16; CYCLE],
-    ) -> Answer;
+    /// Answers `done` and sets the run, or refuses; refusal 12 tells a cycle.
+    fn start(&self, table: &[u16], task: u32, upper: &[u8], lower: &[u8], run: &mut Run)
+    -> Started;
 
     /// Goes on with a run until a reading, the end, the allowance or a refusal.
     #[allow(clippy::too_many_arguments)]

@@ -11,9 +11,9 @@
 //! assert_eq!(Library.read(text, &mut table).kind, DONE);
 //!
 //! let word = [1];
-//! let (mut run, mut cycle) = (Run::default(), [0; 256]);
-//! let answer = Library.start(&table, 2, &word, &[], &mut run, &mut cycle);
-//! assert_eq!(answer, Answer::done(0));
+//! let mut run = Run::default();
+//! let started = Library.start(&table, 2, &word, &[], &mut run);
+//! assert_eq!(started.answer, Answer::done(0));
 //!
 //! let mut stack = [0; 4 * 2 * 1]; // (letters to read + 1) x states frames of four cells are enough
 //! let mut output = [0; 64];
@@ -29,12 +29,12 @@
 //! }
 //! assert_eq!(readings, [[2], [3]]);
 //! ```
-use crate::answer::{Answer, Run};
-use crate::engine::{CYCLE, Engine, Texts};
+use crate::answer::{Answer, Run, Started};
+use crate::engine::{Engine, Texts};
 
 /// The raw interface. Pointers are never null, also where a length is 0, and point to aligned memory of that many cells.
 mod raw {
-    use crate::answer::{Answer, Run};
+    use crate::answer::{Answer, Run, Started};
 
     unsafe extern "C" {
         pub fn rd_table_read(text: *const u8, n: usize, table: *mut u16, m: usize) -> Answer;
@@ -44,14 +44,13 @@ mod raw {
         pub fn rd_start(
             table: *const u16,
             n: usize,
-            task: u8,
+            task: u32,
             upper: *const u8,
             u: usize,
             lower: *const u8,
             l: usize,
             run: *mut Run,
-            cycle: *mut u16,
-        ) -> Answer;
+        ) -> Started;
 
         pub fn rd_next(
             table: *const u16,
@@ -90,12 +89,11 @@ impl Engine for Library {
     fn start(
         &self,
         table: &[u16],
-        task: u8,
+        task: u32,
         upper: &[u8],
         lower: &[u8],
         run: &mut Run,
-        cycle: &mut [u16; CYCLE],
-    ) -> Answer {
+    ) -> Started {
         unsafe {
             raw::rd_start(
                 table.as_ptr(),
@@ -106,7 +104,6 @@ impl Engine for Library {
                 lower.as_ptr(),
                 lower.len(),
                 run,
-                cycle.as_mut_ptr(),
             )
         }
     }

@@ -1,7 +1,7 @@
 //! What a start and a call must answer on anything that they are handed: the refusals in order, then the rule for one step.
 //! Plain and slow, on structs and vectors, after the specification's list of refusals and its rule for one step.
-use crate::answer::{Answer, Run};
-use crate::engine::{CYCLE, Engine, Texts};
+use crate::answer::{Answer, Run, Started};
+use crate::engine::{Engine, Texts};
 use crate::idle;
 use crate::query;
 use crate::table::{Arc, Table};
@@ -251,21 +251,19 @@ impl Engine for Model {
     fn start(
         &self,
         table: &[u16],
-        task: u8,
+        task: u32,
         upper: &[u8],
         lower: &[u8],
         run: &mut Run,
-        _cycle: &mut [u16; CYCLE],
-    ) -> Answer {
-        let task = u32::from(task);
-        match Search::ask(table, task, upper, lower) {
+    ) -> Started {
+        Started::bare(match Search::ask(table, task, upper, lower) {
             Err(number) => Answer::refused(number, 0),
             Ok(search) if idle::has_cycle(&search.table, task) => Answer::refused(12, 0),
             Ok(_) => {
                 *run = Run::of(task);
                 Answer::done(0)
             }
-        }
+        })
     }
 
     fn next(

@@ -1,6 +1,6 @@
 //! A session: a table and one query in, the lines of its readings out.
 use crate::answer::{ENDED, FOUND, REFUSED, Run};
-use crate::engine::{CYCLE, Engine};
+use crate::engine::Engine;
 use crate::text;
 
 /// The longest input, in bytes.
@@ -130,17 +130,16 @@ pub fn session(engine: &impl Engine, input: &[u8]) -> Vec<u8> {
         Ok(asked) => asked,
         Err(number) => return refusal(number),
     };
-    let (mut run, mut cycle) = (Run::default(), [0; CYCLE]);
-    let start = engine.start(
+    let mut run = Run::default();
+    let started = engine.start(
         &asked.table,
-        asked.task,
+        asked.task.into(),
         &asked.upper,
         &asked.lower,
         &mut run,
-        &mut cycle,
     );
-    if start.is_refused() {
-        return refusal(start.number);
+    if started.answer.is_refused() {
+        return refusal(started.answer.number);
     }
     answer(engine, &asked, run)
 }

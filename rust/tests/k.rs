@@ -1,6 +1,6 @@
 //! Document 01's cases on table K, on the lister, the model, the twin and the proved library.
-use readings::answer::{Answer, Run};
-use readings::engine::{CYCLE, Engine, Texts};
+use readings::answer::{Answer, Run, Started};
+use readings::engine::{Engine, Texts};
 use readings::ffi::Library;
 use readings::lister;
 use readings::model::Model;
@@ -25,13 +25,13 @@ struct Way<'a, E> {
 fn begin<'a, E: Engine>(
     engine: &'a E,
     table: &Table,
-    task: u8,
+    task: u32,
     upper: &[u8],
     lower: &[u8],
 ) -> Way<'a, E> {
     let (table, mut run) = (table.cells(), Run::default());
-    let answer = engine.start(&table, task, upper, lower, &mut run, &mut [0; CYCLE]);
-    assert_eq!(answer, Answer::done(0));
+    let started = engine.start(&table, task, upper, lower, &mut run);
+    assert_eq!(started, Started::bare(Answer::done(0)));
     Way {
         engine,
         table,
@@ -99,7 +99,7 @@ fn short_buffers(engine: &impl Engine) {
 }
 
 /// The number with which a start is refused, 0 where it passes.
-fn start_number(engine: &impl Engine, table: &Table, task: u8, word: &[u8]) -> u32 {
+fn start_number(engine: &impl Engine, table: &Table, task: u32, word: &[u8]) -> u32 {
     let (upper, lower) = if task == 3 {
         (&[][..], word)
     } else {
@@ -107,8 +107,8 @@ fn start_number(engine: &impl Engine, table: &Table, task: u8, word: &[u8]) -> u
     };
     let mut run = Run::default();
     let cells = table.cells();
-    let answer = engine.start(&cells, task, upper, lower, &mut run, &mut [0; CYCLE]);
-    answer.number
+    let started = engine.start(&cells, task, upper, lower, &mut run);
+    started.answer.number
 }
 
 fn idle_cycles(engine: &impl Engine) {
@@ -142,11 +142,23 @@ fn words(engine: &impl Engine) {
     }
 }
 
+/// No number but 1, 2 and 3 is a task, also none that would be one if it were cut down to a byte or two.
+fn tasks(engine: &impl Engine) {
+    let cells = k().cells();
+    for task in [0, 4, 255, 256, 257, 258, 259, 65_538, 1 << 31, u32::MAX] {
+        let mut run = Run::of(9);
+        let started = engine.start(&cells, task, &[], &[], &mut run);
+        assert_eq!(started, Started::bare(Answer::refused(11, 0)));
+        assert_eq!(run, Run::of(9));
+    }
+}
+
 fn all(engine: &impl Engine) {
     searches(engine);
     short_buffers(engine);
     idle_cycles(engine);
     words(engine);
+    tasks(engine);
 }
 
 #[test]

@@ -1,7 +1,7 @@
 //! The comparison notices what is told or touched beyond what document 01 says, be it one cell.
-use readings::answer::{Answer, DONE, ENDED, FOUND, PAUSED, Run};
+use readings::answer::{Answer, DONE, ENDED, FOUND, PAUSED, Run, Started};
 use readings::compare::fixed;
-use readings::engine::{CYCLE, Engine};
+use readings::engine::Engine;
 use readings::twin::SOUND;
 
 /// What a call leaves.
@@ -20,21 +20,20 @@ impl Engine for Meddled {
     fn start(
         &self,
         table: &[u16],
-        task: u8,
+        task: u32,
         upper: &[u8],
         lower: &[u8],
         run: &mut Run,
-        cycle: &mut [u16; CYCLE],
-    ) -> Answer {
-        let mut answer = SOUND.start(table, task, upper, lower, run, cycle);
+    ) -> Started {
+        let mut started = SOUND.start(table, task, upper, lower, run);
         self.0(Left {
-            answer: &mut answer,
+            answer: &mut started.answer,
             run,
             stack: &mut [],
             output: &mut [],
-            cycle,
+            cycle: &mut started.cycle,
         });
-        answer
+        started
     }
 
     fn next(
@@ -126,15 +125,15 @@ fn a_length_told_without_meaning() {
 }
 
 #[test]
-fn a_cycle_written_by_a_start_that_passes() {
+fn a_cycle_told_by_a_start_that_passes() {
     let meddle = |left: Left| {
         if left.answer.kind == DONE
             && let Some(cell) = left.cycle.last_mut()
         {
-            *cell = 0;
+            *cell = 1;
         }
     };
-    noticed(meddle, "cycle: cell 255");
+    noticed(meddle, "cells beyond the cycle");
 }
 
 #[test]

@@ -14,8 +14,15 @@ pub struct Reply {
     pub length: u32,
 }
 
+// A start's answer in numbers, with the cycle of refusal 12 beside it by value: its states, then zeros; without 12 all zeros.
+#[repr(C)]
+pub struct StartReply {
+    pub answer: Reply,
+    pub cycle: [u16; 256],
+}
+
 // What a start gives back, before the run is put into the caller's record.
 pub struct Begun {
-    pub reply: Reply,
+    pub reply: StartReply,
     pub run: machine::Run,
 }

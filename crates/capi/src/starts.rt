@@ -1,12 +1,13 @@
 // The start of a search.
 use crate::Begun;
-use crate::Reply;
+use crate::StartReply;
 use crate::numbers::start_numbers;
 use engine::starter::start;
 use machine::Run;
 use machine::StartAnswer;
+use machine::Started;
 ghost use mathlib.Core.Path.{_≡_};
-ghost use Rattle.capi.specs.Start.{startRun, StartTold};
+ghost use Rattle.capi.specs.Start.{startNumbers, startRun, StartTold};
 
 // The run that a start leaves: its own where it passes, else the one that was there.
 fn start_run(answer: StartAnswer, begun: Run, before: Run) -> Run
@@ -18,41 +19,42 @@ fn start_run(answer: StartAnswer, begun: Run, before: Run) -> Run
     }
 }
 
-// The start with the run by value; the cycle is written with 12 alone.
-fn begin(
-    table: &[u16],
-    task: u8,
-    upper: &[u8],
-    lower: &[u8],
-    run: Run,
-    cycle: &mut [u16; 256],
-) -> Begun
-    ensures { λ r. ⌜ StartTold (now (table .entry)) task (now (upper .entry)) (now (lower .entry)) run (now (cycle .entry)) (r .reply) (r .run) (now (cycle .exit)) ⌝ }
+// The answer in numbers, with the cycle.
+fn start_reply(s: Started) -> StartReply
+    ensures { λ r. ⌜ (r .answer ≡ startNumbers (s .answer) (s .length)) × (r .cycle ≡ s .cycle) ⌝ }
 {
-    let s = start(table, task as u32, upper, lower);
+    let answer = s.answer;
+    let numbers = start_numbers(answer, s.length);
+    let cycle = s.cycle;
+    StartReply {
+        answer: numbers,
+        cycle,
+    }
+}
+
+// The start with the run by value.
+fn begin(table: &[u16], task: u32, upper: &[u8], lower: &[u8], run: Run) -> Begun
+    ensures { λ r. ⌜ StartTold (now (table .entry)) task (now (upper .entry)) (now (lower .entry)) run (r .reply) (r .run) ⌝ }
+{
+    let s = start(table, task, upper, lower);
     let answer = s.answer;
     let left = start_run(answer, s.run, run);
-    let reply = start_numbers(answer, s.length);
-    if reply.number == 12 {
-        let states = s.cycle;
-        *cycle = states;
-    }
+    let reply = start_reply(s);
     Begun { reply, run: left }
 }
 
-// Begins a search. A start that passes sets the caller's run; one that is refused leaves it, and writes the cycle with 12 alone.
+// Begins a search. A start that passes sets the caller's run; one that is refused leaves it.
 #[no_mangle]
 pub extern "C" fn rd_start(
     table: &[u16],
-    task: u8,
+    task: u32,
     upper: &[u8],
     lower: &[u8],
     run: &mut Run,
-    cycle: &mut [u16; 256],
-) -> Reply
-    ensures { λ r. ⌜ StartTold (now (table .entry)) task (now (upper .entry)) (now (lower .entry)) (now (run .entry)) (now (cycle .entry)) r (now (run .exit)) (now (cycle .exit)) ⌝ }
+) -> StartReply
+    ensures { λ r. ⌜ StartTold (now (table .entry)) task (now (upper .entry)) (now (lower .entry)) (now (run .entry)) r (now (run .exit)) ⌝ }
 {
-    let b = begin(table, task, upper, lower, *run, cycle);
+    let b = begin(table, task, upper, lower, *run);
     *run = b.run;
     b.reply
 }

@@ -1,7 +1,7 @@
 //! A word run as a session runs it, both engines in turn.
 use super::lists::List;
 use readings::answer::{Answer, ENDED, FOUND, Run};
-use readings::engine::{CYCLE, Engine};
+use readings::engine::Engine;
 use std::hint::black_box;
 use std::time::{Duration, Instant};
 
@@ -9,7 +9,7 @@ const FRAMES: usize = 4_096;
 const LETTERS: usize = 4_096;
 const ALLOWANCE: u32 = 1_000;
 const MOST_READINGS: u32 = 1_000;
-const SYNTHESIS: u8 = 2;
+const SYNTHESIS: u32 = 2;
 
 /// Calls and starts in one timing, at least: fewer are too short to time.
 const CALLS: u64 = 20_000;
@@ -58,9 +58,9 @@ impl Buffers {
 }
 
 fn start(engine: &impl Engine, table: &[u16], word: &[u8]) -> (Answer, Run) {
-    let (mut run, mut cycle) = (Run::default(), [0; CYCLE]);
-    let answer = engine.start(table, SYNTHESIS, word, &[], &mut run, &mut cycle);
-    (answer, run)
+    let mut run = Run::default();
+    let started = engine.start(table, SYNTHESIS, word, &[], &mut run);
+    (started.answer, run)
 }
 
 /// A run of a word until its end or 1,000 readings; every answer goes to `see`.

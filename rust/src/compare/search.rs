@@ -47,7 +47,7 @@ fn begin(
     let (upper, lower) = words;
     let start = Start {
         table: table.cells(),
-        task: task as u8,
+        task,
         upper,
         lower,
     };

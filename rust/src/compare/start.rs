@@ -1,9 +1,9 @@
-//! One start: the answer, the run, and the cycle, of which only document 01's properties are fixed.
+//! One start: the answer, the run, and the cycle that the answer holds, of which only document 01's properties are fixed.
 use super::tally::Tally;
 use super::{RUN_GUARD, same};
-use crate::answer::{Answer, Run};
+use crate::answer::{Answer, Run, Started};
 use crate::draw;
-use crate::engine::{CYCLE, Engine};
+use crate::engine::Engine;
 use crate::idle;
 use crate::lent::Lent;
 use crate::model::Model;
@@ -14,18 +14,32 @@ use crate::table::Table;
 #[derive(Clone, Debug)]
 pub struct Start {
     pub table: Vec<u16>,
-    pub task: u8,
+    pub task: u32,
     pub upper: Vec<u8>,
     pub lower: Vec<u8>,
 }
 
-/// On 12 the cycle told: idle arcs of the table, in walking order, closed, no state twice, and zeros after it.
-fn cycle_holds(start: &Start, answer: Answer, cycle: &[u16]) -> Result<(), String> {
+/// On 12 a cycle: idle arcs of the table, in walking order, closed, no state twice.
+fn cycle_holds(start: &Start, states: &[u16]) -> Result<(), String> {
     let table = Table::loaded(&start.table).ok_or("a cycle of a bad table")?;
-    let told = cycle.split_at_checked(answer.length as usize);
-    let (states, rest) = told.ok_or("a cycle longer than its cells")?;
-    if !idle::is_cycle(&table, start.task.into(), states) {
-        return Err(format!("no idle cycle: {states:?}"));
+    if idle::is_cycle(&table, start.task, states) {
+        Ok(())
+    } else {
+        Err(format!("no idle cycle: {states:?}"))
+    }
+}
+
+/// The answer is as expected, but that 12 tells a cycle; all other cells are 0.
+fn told_as(start: &Start, told: &Started, expected: Answer) -> Result<(), String> {
+    let mut bare = told.answer;
+    if expected.number == 12 {
+        bare.length = 0;
+    }
+    same("answer", bare, expected)?;
+    let cells = told.cycle.split_at_checked(told.answer.length as usize);
+    let (states, rest) = cells.ok_or("a cycle longer than its cells")?;
+    if expected.number == 12 {
+        cycle_holds(start, states)?;
     }
     same("cells beyond the cycle", rest, &vec![0; rest.len()])
 }
@@ -37,45 +51,28 @@ fn check(engine: &impl Engine, start: &Start) -> Result<(Answer, Run), String> {
         depth: 9,
     }];
     let mut expected_run = stale[0];
-    let expected = Model.start(
-        &start.table,
-        start.task,
-        &start.upper,
-        &start.lower,
-        &mut expected_run,
-        &mut [0; CYCLE],
-    );
+    let expected = Model
+        .start(
+            &start.table,
+            start.task,
+            &start.upper,
+            &start.lower,
+            &mut expected_run,
+        )
+        .answer;
     let mut table = Lent::new(&start.table, 0xABCD);
     let mut upper = Lent::new(&start.upper, 0xAB);
     let mut lower = Lent::new(&start.lower, 0xAB);
     let mut run = Lent::new(&stale, RUN_GUARD);
-    let mut cycle = Lent::new(&[0x5A5A; CYCLE], 0xABCD);
-    let lent: &mut [u16; CYCLE] = cycle.lend().try_into().expect("256 cells");
-    let answer = engine.start(
+    let told = engine.start(
         table.lend(),
         start.task,
         upper.lend(),
         lower.lend(),
         &mut run.lend()[0],
-        lent,
     );
-    let told = if expected.number == 12 {
-        answer.length
-    } else {
-        0
-    };
-    let bare = Answer {
-        length: answer.length - told,
-        ..answer
-    };
-    same("answer", bare, expected)?;
+    told_as(start, &told, expected)?;
     run.expect("run", &[expected_run])?;
-    if expected.number == 12 {
-        cycle.expect("cycle", cycle.content())?; // its guards alone
-        cycle_holds(start, answer, cycle.content())?;
-    } else {
-        cycle.expect("cycle", &[0x5A5A; CYCLE])?;
-    }
     table.expect("table", &start.table)?;
     upper.expect("upper word", &start.upper)?;
     lower.expect("lower word", &start.lower)?;
@@ -95,7 +92,7 @@ pub fn any(engine: &impl Engine, random: &mut Random, tally: &mut Tally) -> Resu
     let (upper, lower) = draw::words(random, &table, task);
     let mut start = Start {
         table: table.cells(),
-        task: task as u8,
+        task,
         upper,
         lower,
     };
@@ -106,10 +103,13 @@ pub fn any(engine: &impl Engine, random: &mut Random, tally: &mut Tally) -> Resu
     Ok(())
 }
 
+/// Tasks, known and unknown; 257, 258 and 65,539 would be known ones if they were cut short.
+const TASKS: [u32; 10] = [0, 1, 2, 3, 4, 255, 257, 258, 65_539, u32::MAX];
+
 /// One thing made bad, or nearly.
 fn spoil(random: &mut Random, start: &mut Start) {
     match random.below(6) {
-        0 => start.task = *random.pick(&[0, 1, 2, 3, 4, 5, 17, 255]),
+        0 => start.task = *random.pick(&TASKS),
         1 => start.upper = word(random),
         2 => start.lower = word(random),
         3 => {

@@ -1,6 +1,6 @@
 //! The search for an idle cycle. Idle arcs whose target has none fall away until nothing changes; what is left leads round.
 use super::check::{Arc, View};
-use crate::engine::CYCLE;
+use crate::answer::CYCLE;
 
 /// The source and the target of an idle arc.
 type Step = [u8; 2];
@@ -10,7 +10,7 @@ fn is_idle<const UP: bool, const LOW: bool>(arc: &Arc) -> bool {
     (!UP || arc[1] == 0) & (!LOW || arc[2] == 0)
 }
 
-/// Writes the states of a cycle, zeros after them, and tells how many there are; 0 and nothing written where there is none.
+/// Writes the states of a cycle into cells of zeros, and tells how many there are; 0 and nothing written where there is none.
 #[inline(always)]
 pub fn find<const UP: bool, const LOW: bool>(view: &View, cycle: &mut [u16; CYCLE]) -> usize {
     let mut idle: [Step; 1024] = [[0; 2]; 1024];
@@ -61,7 +61,6 @@ fn walk(idle: &[Step], cycle: &mut [u16; CYCLE]) -> usize {
         state = next[state as usize];
     };
     let states = &order[begin..];
-    cycle.fill(0);
     for (cell, state) in cycle.iter_mut().zip(states) {
         *cell = u16::from(*state);
     }

@@ -7,8 +7,8 @@ mod place;
 mod scan;
 mod search;
 
-use crate::answer::{Answer, Run};
-use crate::engine::{CYCLE, Engine};
+use crate::answer::{Answer, Run, Started};
+use crate::engine::Engine;
 use check::View;
 use search::Search;
 
@@ -55,16 +55,17 @@ impl<const FAULT: u8, const VECTOR: bool> Engine for Twin<FAULT, VECTOR> {
     fn start(
         &self,
         table: &[u16],
-        task: u8,
+        task: u32,
         upper: &[u8],
         lower: &[u8],
         run: &mut Run,
-        cycle: &mut [u16; CYCLE],
-    ) -> Answer {
-        let view = match ask::<VECTOR>(table, task.into(), upper, lower) {
+    ) -> Started {
+        let view = match ask::<VECTOR>(table, task, upper, lower) {
             Ok(view) => view,
-            Err(number) => return Answer::refused(number, 0),
+            Err(number) => return Started::bare(Answer::refused(number, 0)),
         };
+        let mut started = Started::bare(Answer::done(0));
+        let cycle = &mut started.cycle;
         let both = FAULT == fault::RECOGNITION_CYCLES && task == 2;
         let found = match task {
             1 => cycle::find::<true, true>(&view, cycle),
@@ -72,14 +73,15 @@ impl<const FAULT: u8, const VECTOR: bool> Engine for Twin<FAULT, VECTOR> {
             2 => cycle::find::<true, false>(&view, cycle),
             _ => cycle::find::<false, true>(&view, cycle),
         };
-        if found != 0 {
-            return Answer {
+        if found == 0 {
+            *run = Run::of(task);
+        } else {
+            started.answer = Answer {
                 length: found as u32,
                 ..Answer::refused(12, 0)
             };
         }
-        *run = Run::of(task.into());
-        Answer::done(0)
+        started
     }
 
     #[inline(never)]
