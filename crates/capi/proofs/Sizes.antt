@@ -6,10 +6,10 @@ use mathlib.Core.List.{List}
 use Rattle.table.specs.declared.Answer.{Answer}
 use Rattle.table.specs.declared.Answer.the-variants.{Done, Refused}
 use Rattle.table.specs.Calls.{readAnswer, writeAnswer}
-use Rattle.table.proofs.Rules.{table-bounded}
-use Rattle.table.proofs.Loaded.{length-cells, cells-loaded}
-use Rattle.table.proofs.Text.{length-text}
-use Rattle.table.proofs.Determine.{read-text}
+use Rattle.format.proofs.Rules.{table-bounded}
+use Rattle.format.proofs.Loaded.{length-cells, cells-loaded}
+use Rattle.format.proofs.Text.{length-text}
+use Rattle.format.proofs.Determine.{read-text}
 use Rattle.table.proofs.Calls.{read-done, write-done}
 use Rattle.capi.specs.Numbers.{Small}
 

@@ -1,6 +1,6 @@
 // Each answer as a struct of numbers.
 use crate::Reply;
-use table::Refusal;
+use format::Refusal;
 ghost use mathlib.Core.Path.{_≡_};
 ghost use Rattle.capi.specs.Numbers.{refused, answered, answerNumbers, tableNumbers, Small};
 ghost use Rattle.capi.specs.Start.{startNumbers};
@@ -9,7 +9,7 @@ ghost use Rattle.capi.specs.Start.{startNumbers};
 pub fn refused(refusal: Refusal, steps: u32, length: u32) -> Reply
     ensures { λ r. ⌜ r ≡ refused refusal steps length ⌝ }
 {
-    let number = table::number(refusal) as u32;
+    let number = format::number(refusal) as u32;
     Reply {
         kind: 4,
         number,

@@ -7,10 +7,10 @@ use mathlib.Core.Option.{Option, some}
 use mathlib.Core.List.{List}
 use lib.ListN.{length, take, drop}
 use Rattle.table.specs.declared.Layout.{Layout}
-use Rattle.table.specs.declared.Refusal.{Refusal}
-use Rattle.table.specs.Table.{Table}
-use Rattle.table.specs.Rules.{keepsRules}
-use Rattle.table.specs.Loaded.{countsIn, tableIn}
+use Rattle.format.specs.declared.Refusal.{Refusal}
+use Rattle.format.specs.Table.{Table}
+use Rattle.format.specs.Rules.{keepsRules}
+use Rattle.format.specs.Loaded.{countsIn, tableIn}
 use Rattle.table.specs.Calls.{LaidOut, layoutOf, checkedAs, checked}
 use Rattle.table.proofs.Parts.{initials-part, terminals-part, arcs-part, arcs-whole, index-part, laid-out}
 use Rattle.table.proofs.Written.{Holding, holding}

@@ -6,15 +6,15 @@ use mathlib.Core.Bool.{Bool, true, false, true≢false, cond}
 use mathlib.Core.Option.{some}
 use mathlib.Core.List.{List, [], _∷_}
 use lib.ListN.{length}
-use Rattle.table.specs.declared.Refusal.{Refusal}
-use Rattle.table.specs.declared.Refusal.the-variants.{Input}
-use Rattle.table.specs.declared.InputCause.the-variants.{IdleCycle}
+use Rattle.format.specs.declared.Refusal.{Refusal}
+use Rattle.format.specs.declared.Refusal.the-variants.{Input}
+use Rattle.format.specs.declared.InputCause.the-variants.{IdleCycle}
 use Rattle.table.specs.declared.Checked.{Checked}
 use Rattle.table.specs.declared.Layout.{Layout}
-use Rattle.table.specs.Loaded.{countsIn, tableIn}
+use Rattle.format.specs.Loaded.{countsIn, tableIn}
 use Rattle.table.specs.Calls.{layoutOf, LaidOut, checked}
 use Rattle.table.proofs.Parts.{arcsPart, arcs-part}
-use Rattle.table.proofs.Ruled.{Ruled, ruled}
+use Rattle.format.proofs.Ruled.{Ruled, ruled}
 use Rattle.machine.specs.declared.Run.{Run}
 use Rattle.machine.specs.declared.Started.{Started}
 use Rattle.machine.specs.declared.StartAnswer.the-variants.{Ready, Refused}

@@ -9,13 +9,13 @@ use mathlib.Core.List.{List, [], _∷_}
 use lib.Dec.{eqb, leb}
 use lib.ListN.{length, getD, take}
 use borrow.Author.Tests.{eqb-true, ne-eqb, le-leb, lt-leb}
-use Rattle.table.specs.declared.Refusal.{Refusal}
-use Rattle.table.specs.declared.Refusal.the-variants.{Input, State}
-use Rattle.table.specs.declared.InputCause.the-variants.{WordFault, TaskFault}
-use Rattle.table.specs.declared.StateCause.the-variants.{LoadedTable}
-use Rattle.table.specs.Table.{Table}
-use Rattle.table.specs.Rules.{isEmpty}
-use Rattle.table.specs.Loaded.{tableIn, loaded}
+use Rattle.format.specs.declared.Refusal.{Refusal}
+use Rattle.format.specs.declared.Refusal.the-variants.{Input, State}
+use Rattle.format.specs.declared.InputCause.the-variants.{WordFault, TaskFault}
+use Rattle.format.specs.declared.StateCause.the-variants.{LoadedTable}
+use Rattle.format.specs.Table.{Table}
+use Rattle.format.specs.Rules.{isEmpty}
+use Rattle.format.specs.Loaded.{tableIn, loaded}
 use Rattle.table.specs.Calls.{checked}
 use Rattle.table.proofs.TableCheck.{passed, failed}
 use Rattle.machine.specs.Query.{Task, recognition, synthesis, analysis, upperSide, lowerSide, taskOf, reads, Query, lettersHold, wordHolds, sidesHold, wordsHold}

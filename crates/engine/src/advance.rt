@@ -7,7 +7,7 @@ use machine::Run;
 use table::Layout;
 use table::checker;
 ghost use mathlib.Core.Path.{_≡_};
-ghost use Rattle.table.specs.Loaded.{countsIn};
+ghost use Rattle.format.specs.Loaded.{countsIn};
 ghost use Rattle.table.specs.Calls.{layoutOf};
 ghost use Rattle.machine.specs.Reading.{outcome};
 ghost use Rattle.engine.specs.Advancing.{OutcomeIs, Passed};

@@ -7,5 +7,5 @@ pub mod starter;
 // What the refusals 20, 11 and 10 leave: a search that may run, or the first of them.
 pub enum Asking {
     Passes,
-    Refused(table::Refusal),
+    Refused(format::Refusal),
 }

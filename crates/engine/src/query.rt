@@ -1,14 +1,14 @@
 // Refusals 20, 11 and 10, which a start and a call look for in this order; and the sides that a task reads.
 use crate::Asking;
-use table::InputCause;
-use table::Refusal;
-use table::StateCause;
+use format::InputCause;
+use format::Refusal;
+use format::StateCause;
 ghost use mathlib.Core.Path.{_≡_};
 ghost use mathlib.Core.Bool.{_||_};
 ghost use mathlib.Core.Option.{some};
 ghost use mathlib.Core.List.{List};
 ghost use Prim.Native.Nat.{ℕ};
-ghost use Rattle.table.specs.Rules.{isEmpty};
+ghost use Rattle.format.specs.Rules.{isEmpty};
 ghost use Rattle.table.specs.Calls.{checked};
 ghost use Rattle.machine.specs.Query.{Task, taskOf, upperSide, lowerSide, reads, wordHolds};
 ghost use Rattle.machine.specs.Asked.{asked};

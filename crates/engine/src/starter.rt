@@ -1,11 +1,11 @@
 // The start of a search: 20, 11, 10, then 12.
 use crate::Asking;
 use crate::query;
+use format::InputCause;
+use format::Refusal;
 use machine::Run;
 use machine::StartAnswer;
 use machine::Started;
-use table::InputCause;
-use table::Refusal;
 ghost use mathlib.Core.Path.{_≡_};
 ghost use mathlib.Core.List.{[]};
 ghost use Rattle.machine.specs.declared.StartAnswer.the-variants.{Ready, Refused};

@@ -7,7 +7,7 @@ use mathlib.Core.List.{[], _∷_, List}
 use lib.Dec.{eqb}
 use lib.ListN.{length, getD, take}
 use lib.Seq.{take-suc}
-use Rattle.table.proofs.Each.{any-append}
+use Rattle.format.proofs.Each.{any-append}
 use Rattle.machine.specs.Transducer.{member}
 
 -- one more of them

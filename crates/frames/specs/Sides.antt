@@ -4,8 +4,8 @@ use mathlib.Core.Bool.{Bool, _&&_}
 use mathlib.Core.Option.{Option, none, some}
 use mathlib.Core.List.{List}
 use lib.ListN.{getD}
-use Rattle.table.specs.Table.{Arc}
-use Rattle.table.specs.Judge.{arcAs}
+use Rattle.format.specs.Table.{Arc}
+use Rattle.format.specs.Cells.{arcAs}
 use Rattle.machine.specs.Transducer.{sideFollow, sideDone, sideWritten, Passed, both}
 use Rattle.frames.specs.declared.Setup.{Setup}
 use Rattle.frames.specs.declared.Count.{Count}

@@ -8,7 +8,7 @@ use lib.Dec.{eqb}
 use lib.ListN.{length, getD, set, length-set}
 use lib.Seq.{getD-set-other}
 use borrow.Author.Tests.{eqb-true, eqb-false, eq-eqb, ne-eqb}
-use Rattle.table.proofs.Tests.{and-left, and-right, and-both}
+use Rattle.format.proofs.Tests.{and-left, and-right, and-both}
 use Rattle.machine.specs.Idle.{sideIdle}
 use Rattle.idle.specs.Graph.{Graph, total, idleAt, Edge, Walk, one, andThen, Cyclic, Stable, Next, Peeled, Settled}
 

@@ -10,16 +10,16 @@ use lib.Dec.{leb}
 use lib.ListN.{length, getD}
 use borrow.Author.Tests.{leb-true}
 use Rattle.table.specs.declared.Layout.{Layout}
-use Rattle.table.specs.Table.{Arc, Table}
-use Rattle.table.specs.Rules.{keepsRules}
-use Rattle.table.specs.Loaded.{countsIn, extent, tableIn, loaded}
-use Rattle.table.specs.Index.{below, firstIndex}
-use Rattle.table.specs.Judge.{arcsAs}
+use Rattle.format.specs.Table.{Arc, Table}
+use Rattle.format.specs.Rules.{keepsRules}
+use Rattle.format.specs.Loaded.{countsIn, extent, tableIn, loaded}
+use Rattle.format.specs.Index.{below, firstIndex}
+use Rattle.format.specs.Cells.{arcsAs}
 use Rattle.table.specs.Calls.{layoutOf, LaidOut, checkedAs, checked}
-use Rattle.table.proofs.Arcs.{arcAt, length-arcs, getD-arcs}
-use Rattle.table.proofs.Index.{length-index, index-at}
+use Rattle.format.proofs.Arcs.{arcAt, length-arcs, getD-arcs}
+use Rattle.format.proofs.Index.{length-index, index-at}
 use Rattle.table.proofs.Parts.{laid-out}
-use Rattle.table.proofs.Ruled.{Ruled}
+use Rattle.format.proofs.Ruled.{Ruled}
 use Rattle.machine.specs.Query.{Task, recognition, upperSide, lowerSide, reads, Query}
 use Rattle.machine.specs.Machine.{ArcOf}
 use Rattle.machine.specs.Transducer.{noArc, machine}

@@ -1,7 +1,7 @@
 -- The starred cases hold, by computing.
 use lib.Dec.{T}
-use Rattle.table.specs.Rules.{each, countsHold, headerFaults, initialFaults, terminalFaults, arcFaults, keepsRules}
-use Rattle.table.specs.Loaded.{arcsCells, cellsOf, arcsIn, tableIn, loaded}
+use Rattle.format.specs.Rules.{each, countsHold, headerFaults, initialFaults, terminalFaults, arcFaults, keepsRules}
+use Rattle.format.specs.Loaded.{arcsCells, cellsOf, arcsIn, tableIn, loaded}
 use Rattle.machine.specs.Frames.{placeHolds}
 use Rattle.machine.specs.Step.{move, step}
 use Rattle.machine.specs.Call.{advance, call}

@@ -8,12 +8,12 @@ use mathlib.Core.Option.{some}
 use mathlib.Core.List.{List, [], List·Memᴰ}
 use lib.ListN.{length, take, drop}
 use lib.Dec.{T}
-use Rattle.table.specs.Table.{Arc, Table}
-use Rattle.table.specs.Rules.{keepsRules}
-use Rattle.table.specs.Loaded.{loaded}
-use Rattle.table.specs.declared.Refusal.the-variants.{State}
-use Rattle.table.specs.declared.StateCause.the-variants.{Place}
-use Rattle.table.proofs.Ruled.{Ruled, ruled}
+use Rattle.format.specs.Table.{Arc, Table}
+use Rattle.format.specs.Rules.{keepsRules}
+use Rattle.format.specs.Loaded.{loaded}
+use Rattle.format.specs.declared.Refusal.the-variants.{State}
+use Rattle.format.specs.declared.StateCause.the-variants.{Place}
+use Rattle.format.proofs.Ruled.{Ruled, ruled}
 use Rattle.machine.specs.declared.Run.{Run}
 use Rattle.machine.specs.declared.Answer.the-variants.{Refused}
 use Rattle.machine.specs.declared.StartAnswer.the-variants.{Ready}

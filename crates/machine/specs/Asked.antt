@@ -3,12 +3,12 @@ use Prim.Native.Nat.{ℕ}
 use mathlib.Core.Bool.{cond}
 use mathlib.Core.Option.{Option, none, some}
 use mathlib.Core.List.{List}
-use Rattle.table.specs.declared.Refusal.{Refusal}
-use Rattle.table.specs.declared.Refusal.the-variants.{Input, State}
-use Rattle.table.specs.declared.InputCause.the-variants.{WordFault, TaskFault}
-use Rattle.table.specs.declared.StateCause.the-variants.{LoadedTable}
-use Rattle.table.specs.Table.{Table}
-use Rattle.table.specs.Loaded.{loaded}
+use Rattle.format.specs.declared.Refusal.{Refusal}
+use Rattle.format.specs.declared.Refusal.the-variants.{Input, State}
+use Rattle.format.specs.declared.InputCause.the-variants.{WordFault, TaskFault}
+use Rattle.format.specs.declared.StateCause.the-variants.{LoadedTable}
+use Rattle.format.specs.Table.{Table}
+use Rattle.format.specs.Loaded.{loaded}
 use Rattle.machine.specs.Query.{Task, taskOf, Query, wordsHold, sidesHold}
 
 -- a refusal, or what is to be run

@@ -6,8 +6,8 @@ use mathlib.Core.Option.{Option, none, some}
 use mathlib.Core.List.{List, [], _∷_, _++_}
 use lib.ListN.{replicate, take}
 use lib.Dec.{eqb}
-use Rattle.table.specs.Table.{Arc, Table}
-use Rattle.table.specs.Loaded.{cellsOf}
+use Rattle.format.specs.Table.{Arc, Table}
+use Rattle.format.specs.Loaded.{cellsOf}
 use Rattle.machine.specs.declared.Run.{Run}
 use Rattle.machine.specs.declared.Started.{Started}
 use Rattle.machine.specs.Query.{sameWord}

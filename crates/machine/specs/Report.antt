@@ -3,7 +3,7 @@ use Prim.Native.Nat.{ℕ, zero, suc}
 use mathlib.Core.Path.{_≡_}
 use mathlib.Core.Bool.{Bool, true, false}
 use mathlib.Core.List.{List, [], _∷_, _++_, List·Memᴰ}
-use Rattle.table.specs.Table.{Arc, Table}
+use Rattle.format.specs.Table.{Arc, Table}
 use Rattle.machine.specs.Query.{Task, recognition, synthesis, analysis}
 
 infixl 60 _∘_

@@ -10,10 +10,20 @@ pub struct Run {
 
 // What a call for a reading answers, with the steps made in it.
 pub enum Answer {
-    Found { steps: u32, length: u32 },
-    Paused { steps: u32 },
-    Ended { steps: u32 },
-    Refused { steps: u32, refusal: table::Refusal },
+    Found {
+        steps: u32,
+        length: u32,
+    },
+    Paused {
+        steps: u32,
+    },
+    Ended {
+        steps: u32,
+    },
+    Refused {
+        steps: u32,
+        refusal: format::Refusal,
+    },
 }
 
 // An answer, with the run moved on.
@@ -25,7 +35,7 @@ pub struct Called {
 // What a start answers.
 pub enum StartAnswer {
     Ready,
-    Refused(table::Refusal),
+    Refused(format::Refusal),
 }
 
 // What a start gives back: the run to go on with, and with refusal 12 the states of an idle cycle.

@@ -8,11 +8,11 @@ use mathlib.Core.List.{List}
 use lib.Dec.{eqb, ltb, leb}
 use lib.ListN.{length, getD}
 use borrow.Author.Tests.{eqb-true, eq-eqb, ne-eqb, ltb-true, lt-ltb, le-ltb, le-leb, lt-leb}
-use Rattle.table.proofs.Tests.{and-left, and-right, and-both}
-use Rattle.table.specs.Table.{Arc, Table}
-use Rattle.table.specs.Index.{below}
-use Rattle.table.specs.Judge.{arcsAs}
-use Rattle.table.proofs.Arcs.{getD-arcs, length-arcs}
+use Rattle.format.proofs.Tests.{and-left, and-right, and-both}
+use Rattle.format.specs.Table.{Arc, Table}
+use Rattle.format.specs.Index.{below}
+use Rattle.format.specs.Cells.{arcsAs}
+use Rattle.format.proofs.Arcs.{getD-arcs, length-arcs}
 use Rattle.machine.specs.Query.{Query}
 use Rattle.machine.specs.Machine.{Machine, tested}
 use Rattle.machine.specs.Frames as F

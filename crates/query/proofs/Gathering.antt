@@ -12,13 +12,13 @@ use borrow.Author.Tests.{eqb-true, eqb-false, eq-eqb, ne-eqb}
 use Rattle.hex.specs.declared.Decoded.the-variants.{Value, Invalid}
 use Rattle.hex.specs.Hex.{decoded, encoded}
 use Rattle.hex.proofs.Hex.{encoded-decoded}
-use Rattle.table.specs.declared.Scanned.{Scanned}
-use Rattle.table.specs.Rules.{isEmpty}
-use Rattle.table.specs.Line.{Line, withChar, linesOf, malformed, bytesOf, charsOf}
-use Rattle.table.specs.Scan.{padded, malformedLine, lineAs, scannedAs}
-use Rattle.table.proofs.All.{All, all-append}
-use Rattle.table.proofs.Line.{IsByte, lineWith, lines-line, line-well, chars-append, bytes-chars}
-use Rattle.table.proofs.Scan.{Scanning, out-end, out-half, out-invalid, out-empty}
+use Rattle.parser.specs.declared.Scanned.{Scanned}
+use Rattle.format.specs.Rules.{isEmpty}
+use Rattle.format.specs.Line.{Line, withChar, linesOf, malformed, bytesOf, charsOf}
+use Rattle.parser.specs.Scan.{padded, malformedLine, lineAs, scannedAs}
+use Rattle.format.proofs.All.{All, all-append}
+use Rattle.format.proofs.Line.{IsByte, lineWith, lines-line, line-well, chars-append, bytes-chars}
+use Rattle.parser.proofs.Scan.{Scanning, out-end, out-half, out-invalid, out-empty}
 use Rattle.query.specs.declared.FirstLine.{FirstLine}
 use Rattle.query.specs.declared.FirstLine.the-variants.{Bad, Says}
 use Rattle.query.specs.Asking.{firstLineOf, BytesIn}

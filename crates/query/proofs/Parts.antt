@@ -9,8 +9,8 @@ use lib.Dec.{eqb}
 use lib.ListN.{length, getD, drop, length-drop, drop-of-length-le, List·getD-eq-default}
 use lib.Seq.{drop-cons, drop-drop, getD-drop}
 use borrow.Author.Tests.{eqb-true, ne-eqb}
-use Rattle.table.specs.Line.{Line, withChar, linesOf}
-use Rattle.table.proofs.Line.{lines-char}
+use Rattle.format.specs.Line.{Line, withChar, linesOf}
+use Rattle.format.proofs.Line.{lines-char}
 use Rattle.query.specs.Parts.{sizeOf, firstSize, begins05, sizeThrough, tableSize}
 
 -- The first line.

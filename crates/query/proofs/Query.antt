@@ -8,13 +8,13 @@ use lib.Dec.{eqb}
 use lib.ListN.{length, getD, take, drop, length-append}
 use lib.Seq.{take-at}
 use borrow.Author.Tests.{eqb-true, eq-eqb}
-use Rattle.table.specs.declared.InputCause.{InputCause}
-use Rattle.table.specs.declared.InputCause.the-variants.{Malformed, Misplaced}
-use Rattle.table.specs.Rules.{isEmpty}
-use Rattle.table.specs.Line.{Line, linesOf, malformed, bytesOf}
-use Rattle.table.proofs.Tests.{and-left, and-right}
-use Rattle.table.proofs.All.{All, all-getD}
-use Rattle.table.proofs.Line.{IsByte, line-bytes}
+use Rattle.format.specs.declared.InputCause.{InputCause}
+use Rattle.format.specs.declared.InputCause.the-variants.{Malformed, Misplaced}
+use Rattle.format.specs.Rules.{isEmpty}
+use Rattle.format.specs.Line.{Line, linesOf, malformed, bytesOf}
+use Rattle.format.proofs.Tests.{and-left, and-right}
+use Rattle.format.proofs.All.{All, all-getD}
+use Rattle.format.proofs.Line.{IsByte, line-bytes}
 use Rattle.query.specs.declared.FirstLine.the-variants.{Bad, Says}
 use Rattle.query.specs.declared.Asking.{Asking}
 use Rattle.query.specs.declared.Asking.the-variants.{Fault, Words}

@@ -4,9 +4,9 @@ use mathlib.Core.Path.{_≡_}
 use mathlib.Core.Bool.{true, false, cond}
 use mathlib.Core.List.{List, [], _∷_, _++_}
 use lib.ListN.{length, drop}
-use Rattle.table.specs.declared.InputCause.the-variants.{Misplaced}
-use Rattle.table.specs.Rules.{isEmpty}
-use Rattle.table.specs.Line.{Line, malformed, bytesOf}
+use Rattle.format.specs.declared.InputCause.the-variants.{Misplaced}
+use Rattle.format.specs.Rules.{isEmpty}
+use Rattle.format.specs.Line.{Line, malformed, bytesOf}
 use Rattle.query.specs.declared.FirstLine.{FirstLine}
 use Rattle.query.specs.declared.FirstLine.the-variants.{Bad, Says}
 use Rattle.query.specs.declared.Asking.{Asking}

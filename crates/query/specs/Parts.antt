@@ -4,7 +4,7 @@ use mathlib.Core.Bool.{Bool, cond, _&&_}
 use mathlib.Core.List.{List, [], _∷_}
 use lib.Dec.{eqb}
 use lib.ListN.{length, getD, take, drop}
-use Rattle.table.specs.Line.{Line, linesOf}
+use Rattle.format.specs.Line.{Line, linesOf}
 
 -- how many characters a line has, with its line feed if that is there
 abbrev pub sizeOf : Line → ℕ

@@ -4,10 +4,10 @@ use mathlib.Core.Bool.{Bool, cond, _&&_}
 use mathlib.Core.List.{List, [], _∷_}
 use lib.Dec.{eqb}
 use lib.ListN.{length, getD, take, drop}
-use Rattle.table.specs.declared.InputCause.{InputCause}
-use Rattle.table.specs.declared.InputCause.the-variants.{Malformed, Misplaced}
-use Rattle.table.specs.Rules.{isEmpty}
-use Rattle.table.specs.Line.{Line, malformed, bytesOf}
+use Rattle.format.specs.declared.InputCause.{InputCause}
+use Rattle.format.specs.declared.InputCause.the-variants.{Malformed, Misplaced}
+use Rattle.format.specs.Rules.{isEmpty}
+use Rattle.format.specs.Line.{Line, malformed, bytesOf}
 
 -- the parts of a query's bytes
 abbrev pub taskIn : List ℕ → ℕ

@@ -1,12 +1,12 @@
 // The query: exactly one line.
 use crate::Asking;
 use crate::FirstLine;
+use format::InputCause;
 use hex::Decoded;
-use table::InputCause;
 ghost use mathlib.Core.Path.{_≡_};
 ghost use Prim.Native.Nat.{_<_};
 ghost use lib.ListN.{length};
-ghost use Rattle.table.specs.Line.{linesOf};
+ghost use Rattle.format.specs.Line.{linesOf};
 ghost use Rattle.query.specs.Query.{queryOf};
 ghost use Rattle.query.specs.Asking.{firstLineOf, BytesIn, askingOf, wordsOf, QueryIn};
 

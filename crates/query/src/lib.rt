@@ -2,7 +2,7 @@
 pub mod asker;
 pub mod splitter;
 
-use table::InputCause;
+use format::InputCause;
 
 // What the first line of a text says: that it is malformed, or how many bytes, and whether no other line follows.
 pub enum FirstLine {

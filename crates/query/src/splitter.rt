@@ -2,7 +2,7 @@
 ghost use mathlib.Core.Path.{_≡_};
 ghost use Prim.Native.Nat.{_+_, _≤_};
 ghost use lib.ListN.{length, drop};
-ghost use Rattle.table.specs.Line.{linesOf};
+ghost use Rattle.format.specs.Line.{linesOf};
 ghost use Rattle.query.specs.Parts.{begins05, firstSize, tableSize};
 
 // Where the line that begins at a place ends, its line feed included.

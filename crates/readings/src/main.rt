@@ -6,12 +6,12 @@
 //     2E number                    a refusal
 //
 // Where standard input cannot be read or standard output not be written, it says so on standard error and stops.
+use format::Refusal;
 use session::Lined;
 use session::Opening;
 use session::Talk;
 use session::opener;
 use session::speaker;
-use table::Refusal;
 ghost use Prim.Native.Nat.{_+_, _≤_};
 ghost use lib.ListN.{length};
 ghost use Rattle.readings.specs.Read.{Within};

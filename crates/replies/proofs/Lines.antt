@@ -8,9 +8,9 @@ use lib.ListN.{length, getD, drop, set, length-append, drop-of-length-le}
 use lib.Seq.{sets, sets-eq, drop-cons}
 use Rattle.hex.specs.declared.Digits.{Digits}
 use Rattle.hex.specs.Hex.{encoded}
-use Rattle.table.specs.Line.{charsOf, lineText}
-use Rattle.table.proofs.Line.{length-chars, chars-append}
-use Rattle.table.proofs.Stores.{then, byte-stored}
+use Rattle.format.specs.Line.{charsOf, lineText}
+use Rattle.format.proofs.Line.{length-chars, chars-append}
+use Rattle.format.proofs.Stores.{then, byte-stored}
 use Rattle.replies.specs.Lines.{storedLine}
 
 -- Where the first of the bytes left is stored, storing the others is storing them all.

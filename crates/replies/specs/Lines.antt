@@ -2,10 +2,10 @@
 use Prim.Native.Nat.{ℕ}
 use mathlib.Core.List.{List, [], _∷_, _++_}
 use lib.ListN.{length, drop}
-use Rattle.table.specs.declared.Refusal.{Refusal}
-use Rattle.table.specs.Refusal.{numberOf}
-use Rattle.table.specs.Line.{lineText}
-use Rattle.table.specs.Text.{number}
+use Rattle.format.specs.declared.Refusal.{Refusal}
+use Rattle.format.specs.Refusal.{numberOf}
+use Rattle.format.specs.Line.{lineText}
+use Rattle.format.specs.Text.{number}
 
 -- "`20`, ordinal (two), length (two), letters for each reading"
 abbrev pub readingLine : ℕ → List ℕ → List ℕ

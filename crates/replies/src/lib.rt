@@ -4,8 +4,8 @@ ghost use mathlib.Core.List.{[], _∷_, _++_};
 ghost use Prim.Native.Nat.{_+_, _*_, _/_, _%_, _≤_};
 ghost use lib.ListN.{length};
 ghost use lib.Seq.{sets};
-ghost use Rattle.table.specs.Line.{charsOf, lineText};
-ghost use Rattle.table.specs.Text.{number};
+ghost use Rattle.format.specs.Line.{charsOf, lineText};
+ghost use Rattle.format.specs.Text.{number};
 ghost use Rattle.replies.specs.Lines.{storedLine};
 
 // The two digits of each byte, from a place of the text on.

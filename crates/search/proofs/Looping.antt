@@ -7,10 +7,10 @@ use mathlib.Core.List.{List, _++_}
 use lib.Dec.{eqb, leb}
 use lib.ListN.{length, drop}
 use borrow.Author.Tests.{eqb-true, eq-eqb, leb-true, leb-false}
-use Rattle.table.proofs.Tests.{and-left, and-right}
-use Rattle.table.specs.Table.{Table}
-use Rattle.table.specs.declared.StateCause.{StateCause}
-use Rattle.table.specs.declared.Refusal.the-variants.{Input, State}
+use Rattle.format.proofs.Tests.{and-left, and-right}
+use Rattle.format.specs.Table.{Table}
+use Rattle.format.specs.declared.StateCause.{StateCause}
+use Rattle.format.specs.declared.Refusal.the-variants.{Input, State}
 use Rattle.machine.specs.declared.Run.{Run}
 use Rattle.machine.specs.declared.Answer.{Answer}
 use Rattle.machine.specs.declared.Answer.the-variants.{Found, Paused, Ended, Refused}

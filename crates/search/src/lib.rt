@@ -1,11 +1,11 @@
 // A call on a table that keeps the rules: 21, then steps until the end, a reading, the allowance or a refusal.
+use format::Refusal;
+use format::StateCause;
 use frames::Setup;
 use machine::Answer;
 use machine::Called;
 use machine::Run;
 use step::Turn;
-use table::Refusal;
-use table::StateCause;
 ghost use mathlib.Core.Path.{_≡_};
 ghost use mathlib.Core.Bool.{_&&_};
 ghost use lib.Dec.{eqb, leb};

@@ -8,19 +8,19 @@ use lib.Dec.{leb}
 use lib.ListN.{length, take, drop, length-drop}
 use lib.Seq.{take-at, take-all}
 use borrow.Author.Tests.{le-leb, lt-leb, lt-ltb, le-ltb}
-use Rattle.table.specs.declared.InputCause.the-variants.{CountLimit, IdleCycle}
-use Rattle.table.specs.declared.StateCause.the-variants.{DestinationShort}
-use Rattle.table.specs.declared.Refusal.{Refusal}
-use Rattle.table.specs.declared.Refusal.the-variants.{Input, State}
+use Rattle.format.specs.declared.InputCause.the-variants.{CountLimit, IdleCycle}
+use Rattle.format.specs.declared.StateCause.the-variants.{DestinationShort}
+use Rattle.format.specs.declared.Refusal.{Refusal}
+use Rattle.format.specs.declared.Refusal.the-variants.{Input, State}
 use Rattle.table.specs.declared.Answer.the-variants as A
-use Rattle.table.specs.Table.{Table}
-use Rattle.table.specs.Loaded.{cellsOf}
-use Rattle.table.specs.Line.{linesOf}
-use Rattle.table.specs.Parse.{Parsed, accepted, turnedDown, parsed}
+use Rattle.format.specs.Table.{Table}
+use Rattle.format.specs.Loaded.{cellsOf}
+use Rattle.format.specs.Line.{linesOf}
+use Rattle.format.specs.Parse.{Parsed, accepted, turnedDown, parsed}
 use Rattle.table.specs.Calls.{readAs, readAnswer, readCells}
-use Rattle.table.proofs.Rules.{table-bounded}
-use Rattle.table.proofs.Loaded.{length-cells}
-use Rattle.table.proofs.Determine.{read-text}
+use Rattle.format.proofs.Rules.{table-bounded}
+use Rattle.format.proofs.Loaded.{length-cells}
+use Rattle.format.proofs.Determine.{read-text}
 use Rattle.table.proofs.Calls.{read-done, read-fits, read-length}
 use Rattle.machine.specs.declared.Run.{Run}
 use Rattle.machine.specs.declared.StartAnswer.{StartAnswer}

@@ -2,11 +2,11 @@
 use mathlib.Core.Path.{_≡_, refl}
 use mathlib.Core.List.{[], _∷_, _++_}
 use Rattle.hex.specs.Hex.{valueOf, joined, decoded, digitOf, encoded}
-use Rattle.table.specs.Rules.{each, countsHold, headerFaults, initialFaults, terminalFaults, arcFaults, keepsRules}
-use Rattle.table.specs.Loaded.{arcsCells, cellsOf, arcsIn, tableIn, loaded}
-use Rattle.table.specs.Line.{linesOf, malformed, bytesOf, charsOf, lineText}
-use Rattle.table.specs.Text.{itemLines, joinLines, textOf}
-use Rattle.table.specs.Parse.{itemFaults, bytesFaults, lineFaults, onward, parseFrom, parsed}
+use Rattle.format.specs.Rules.{each, countsHold, headerFaults, initialFaults, terminalFaults, arcFaults, keepsRules}
+use Rattle.format.specs.Loaded.{arcsCells, cellsOf, arcsIn, tableIn, loaded}
+use Rattle.format.specs.Line.{linesOf, malformed, bytesOf, charsOf, lineText}
+use Rattle.format.specs.Text.{itemLines, joinLines, textOf}
+use Rattle.format.specs.Parse.{itemFaults, bytesFaults, lineFaults, onward, parseFrom, parsed}
 use Rattle.machine.specs.Frames.{placeHolds}
 use Rattle.machine.specs.Step.{move, step}
 use Rattle.machine.specs.Call.{advance, call}

@@ -9,19 +9,19 @@ use lib.Dec.{leb, ltb}
 use lib.ListN.{length, take, drop, replicate, length-append, length-drop, length-replicate}
 use lib.Seq.{take-nil, take-at, take-append-le, drop-append-le}
 use borrow.Author.Tests.{leb-false, le-leb}
-use Rattle.table.specs.declared.InputCause.the-variants.{CountLimit, Malformed, Misplaced}
-use Rattle.table.specs.declared.Refusal.{Refusal}
-use Rattle.table.specs.declared.Refusal.the-variants.{Input, State}
-use Rattle.table.specs.declared.StateCause.the-variants.{DestinationShort}
-use Rattle.table.specs.Table.{Table}
-use Rattle.table.specs.Rules.{isEmpty, keepsRules}
-use Rattle.table.specs.Loaded.{cellsOf, loaded}
-use Rattle.table.specs.Line.{Line, linesOf, malformed, bytesOf, lineText}
-use Rattle.table.specs.Parse.{Parsed, accepted, turnedDown, parsed}
-use Rattle.table.proofs.Tests.{and-left}
-use Rattle.table.proofs.Loaded.{loaded-cells}
-use Rattle.table.proofs.Line.{line-bytes}
-use Rattle.table.proofs.Determine.{read-text}
+use Rattle.format.specs.declared.InputCause.the-variants.{CountLimit, Malformed, Misplaced}
+use Rattle.format.specs.declared.Refusal.{Refusal}
+use Rattle.format.specs.declared.Refusal.the-variants.{Input, State}
+use Rattle.format.specs.declared.StateCause.the-variants.{DestinationShort}
+use Rattle.format.specs.Table.{Table}
+use Rattle.format.specs.Rules.{isEmpty, keepsRules}
+use Rattle.format.specs.Loaded.{cellsOf, loaded}
+use Rattle.format.specs.Line.{Line, linesOf, malformed, bytesOf, lineText}
+use Rattle.format.specs.Parse.{Parsed, accepted, turnedDown, parsed}
+use Rattle.format.proofs.Tests.{and-left}
+use Rattle.format.proofs.Loaded.{loaded-cells}
+use Rattle.format.proofs.Line.{line-bytes}
+use Rattle.format.proofs.Determine.{read-text}
 use Rattle.machine.specs.declared.Run.{Run}
 use Rattle.machine.specs.declared.Answer.{Answer}
 use Rattle.machine.specs.declared.Answer.the-variants.{Found, Paused, Ended, Refused}

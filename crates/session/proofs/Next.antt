@@ -8,11 +8,11 @@ use mathlib.Core.List.{List, [], _∷_}
 use lib.Dec.{leb}
 use lib.ListN.{length, take, drop, length-append}
 use borrow.Author.Tests.{le-leb, lt-leb}
-use Rattle.table.specs.declared.Refusal.{Refusal}
-use Rattle.table.specs.declared.Refusal.the-variants.{State}
-use Rattle.table.specs.declared.StateCause.the-variants.{DestinationShort}
-use Rattle.table.specs.Refusal.{numberOf}
-use Rattle.table.specs.Line.{lineText}
+use Rattle.format.specs.declared.Refusal.{Refusal}
+use Rattle.format.specs.declared.Refusal.the-variants.{State}
+use Rattle.format.specs.declared.StateCause.the-variants.{DestinationShort}
+use Rattle.format.specs.Refusal.{numberOf}
+use Rattle.format.specs.Line.{lineText}
 use Rattle.machine.specs.declared.Run.{Run}
 use Rattle.machine.specs.declared.Answer.{Answer}
 use Rattle.machine.specs.declared.Answer.the-variants.{Found, Paused, Ended, Refused}

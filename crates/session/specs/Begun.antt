@@ -6,9 +6,9 @@ use mathlib.Core.Bool.{cond, _&&_}
 use mathlib.Core.List.{List, _++_}
 use lib.Dec.{leb}
 use lib.ListN.{length, drop}
-use Rattle.table.specs.declared.Refusal.{Refusal}
-use Rattle.table.specs.declared.Refusal.the-variants.{State}
-use Rattle.table.specs.declared.StateCause.the-variants.{DestinationShort}
+use Rattle.format.specs.declared.Refusal.{Refusal}
+use Rattle.format.specs.declared.Refusal.the-variants.{State}
+use Rattle.format.specs.declared.StateCause.the-variants.{DestinationShort}
 use Rattle.machine.specs.declared.Run.{Run}
 use Rattle.query.specs.Query.{upperLength, lowerLength}
 use Rattle.session.specs.declared.Talk.{Talk}

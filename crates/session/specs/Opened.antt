@@ -5,12 +5,12 @@ use mathlib.Core.Bool.{cond}
 use mathlib.Core.List.{List, []}
 use lib.Dec.{ltb}
 use lib.ListN.{length}
-use Rattle.table.specs.declared.InputCause.the-variants.{CountLimit}
-use Rattle.table.specs.declared.Refusal.{Refusal}
-use Rattle.table.specs.declared.Refusal.the-variants.{Input}
-use Rattle.table.specs.Loaded.{cellsOf}
-use Rattle.table.specs.Line.{Line, linesOf}
-use Rattle.table.specs.Parse.{Parsed, accepted, turnedDown, parsed}
+use Rattle.format.specs.declared.InputCause.the-variants.{CountLimit}
+use Rattle.format.specs.declared.Refusal.{Refusal}
+use Rattle.format.specs.declared.Refusal.the-variants.{Input}
+use Rattle.format.specs.Loaded.{cellsOf}
+use Rattle.format.specs.Line.{Line, linesOf}
+use Rattle.format.specs.Parse.{Parsed, accepted, turnedDown, parsed}
 use Rattle.machine.specs.declared.Run.{Run}
 use Rattle.machine.specs.declared.StartAnswer.{StartAnswer}
 use Rattle.machine.specs.declared.StartAnswer.the-variants.{Ready, Refused}

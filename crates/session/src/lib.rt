@@ -3,8 +3,8 @@ mod caller;
 pub mod opener;
 pub mod speaker;
 
+use format::Refusal;
 use machine::Run;
-use table::Refusal;
 
 // What an opening answers: the lengths of the query's words and the talk to begin with, or a refusal.
 pub enum Opening {

@@ -3,12 +3,12 @@ use crate::Lined;
 use crate::Said;
 use crate::Talk;
 use crate::caller;
-use table::Refusal;
-use table::StateCause;
+use format::Refusal;
+use format::StateCause;
 ghost use mathlib.Core.Path.{_≡_};
 ghost use Prim.Native.Nat.{_≤_, _<_};
 ghost use lib.ListN.{length};
-ghost use Rattle.table.specs.Line.{lineText};
+ghost use Rattle.format.specs.Line.{lineText};
 ghost use Rattle.replies.specs.Lines.{storedLine};
 ghost use Rattle.session.specs.Next.{Fits, bytesSaid, talkAfter, linedAs, lining, LiningIs, refusalLined, refusalLeft};
 
@@ -36,7 +36,7 @@ fn tell(said: Said, count: u16, output: &[u8], line: &mut [u8]) -> Lined
             length: replies::count_line(line, 47, count),
         },
         Said::Refused(refusal) => Lined::Last {
-            length: replies::refusal_line(line, table::number(refusal)),
+            length: replies::refusal_line(line, format::number(refusal)),
         },
         Said::Spent => Lined::Last {
             length: replies::count_line(line, 45, count),
@@ -80,6 +80,6 @@ pub fn refused_line(refusal: Refusal, line: &mut [u8]) -> Lined
         return Lined::Refused(Refusal::State(StateCause::DestinationShort));
     }
     Lined::Last {
-        length: replies::refusal_line(line, table::number(refusal)),
+        length: replies::refusal_line(line, format::number(refusal)),
     }
 }

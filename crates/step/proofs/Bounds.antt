@@ -5,12 +5,12 @@ use mathlib.Core.Path.{_≡_, refl, ap, ap₂, subst, _∙_}
 use mathlib.Core.Bool.{Bool, true, false, cond, _&&_, _||_}
 use mathlib.Core.List.{List, [], _∷_, _++_, append-nil}
 use lib.ListN.{length, getD}
-use Rattle.table.specs.Table.{Arc, Table}
-use Rattle.table.specs.Index.{below}
-use Rattle.table.specs.Judge.{arcsAs}
-use Rattle.table.proofs.Arcs.{length-arcs, getD-arcs}
-use Rattle.table.proofs.Index.{length-index, index-at}
-use Rattle.table.proofs.Ruled.{Ruled, ruled}
+use Rattle.format.specs.Table.{Arc, Table}
+use Rattle.format.specs.Index.{below}
+use Rattle.format.specs.Cells.{arcsAs}
+use Rattle.format.proofs.Arcs.{length-arcs, getD-arcs}
+use Rattle.format.proofs.Index.{length-index, index-at}
+use Rattle.format.proofs.Ruled.{Ruled, ruled}
 use Rattle.machine.specs.Query.{Query, upperSide, lowerSide}
 use Rattle.machine.specs.Machine.{output}
 use Rattle.machine.specs.Frames as F

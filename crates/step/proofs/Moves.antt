@@ -6,10 +6,10 @@ use mathlib.Core.Bool.{Bool, true, false, _||_}
 use mathlib.Core.Option.{Option, none, some}
 use mathlib.Core.List.{List, []}
 use lib.ListN.{length, getD}
-use Rattle.table.specs.Table.{Arc}
-use Rattle.table.specs.Index.{below}
-use Rattle.table.specs.Judge.{arcsAs}
-use Rattle.table.proofs.Arcs.{getD-arcs}
+use Rattle.format.specs.Table.{Arc}
+use Rattle.format.specs.Index.{below}
+use Rattle.format.specs.Cells.{arcsAs}
+use Rattle.format.proofs.Arcs.{getD-arcs}
 use Rattle.machine.specs.Query.{upperSide, lowerSide, reads}
 use Rattle.machine.specs.Machine.{Machine}
 use Rattle.machine.specs.Frames as F

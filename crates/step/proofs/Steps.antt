@@ -8,10 +8,10 @@ use mathlib.Core.List.{List}
 use lib.Dec.{ltb}
 use lib.ListN.{length, getD}
 use borrow.Author.Tests.{ltb-false}
-use Rattle.table.specs.Table.{Table}
-use Rattle.table.specs.declared.StateCause.{StateCause}
-use Rattle.table.specs.declared.StateCause.the-variants.{StackFull, OutputFull}
-use Rattle.table.specs.declared.Refusal.the-variants.{State}
+use Rattle.format.specs.Table.{Table}
+use Rattle.format.specs.declared.StateCause.{StateCause}
+use Rattle.format.specs.declared.StateCause.the-variants.{StackFull, OutputFull}
+use Rattle.format.specs.declared.Refusal.the-variants.{State}
 use Rattle.machine.specs.Query.{Query}
 use Rattle.machine.specs.Machine.{accepts, output}
 use Rattle.machine.specs.Frames as F

@@ -7,9 +7,9 @@ use mathlib.Core.List.{List, [], _∷_, _++_}
 use lib.Dec.{ltb}
 use lib.ListN.{length, getD, drop}
 use borrow.Author.Tests.{ltb-true}
-use Rattle.table.specs.Table.{Table}
-use Rattle.table.specs.declared.StateCause.{StateCause}
-use Rattle.table.specs.declared.Refusal.the-variants.{State}
+use Rattle.format.specs.Table.{Table}
+use Rattle.format.specs.declared.StateCause.{StateCause}
+use Rattle.format.specs.declared.Refusal.the-variants.{State}
 use Rattle.machine.specs.declared.Run.{Run}
 use Rattle.machine.specs.Query.{Query}
 use Rattle.machine.specs.Machine.{Machine, accepts, output}

@@ -4,10 +4,10 @@ use mathlib.Core.Path.{_≡_}
 use mathlib.Core.Bool.{Bool, true, false, _||_}
 use mathlib.Core.List.{List}
 use lib.ListN.{length, getD}
-use Rattle.table.specs.Table.{Table}
-use Rattle.table.specs.Rules.{keepsRules}
-use Rattle.table.specs.Index.{below, firstIndex}
-use Rattle.table.specs.Judge.{arcsAs, Whole}
+use Rattle.format.specs.Table.{Table}
+use Rattle.format.specs.Rules.{keepsRules}
+use Rattle.format.specs.Index.{below, firstIndex}
+use Rattle.format.specs.Cells.{arcsAs, Whole}
 use Rattle.machine.specs.Query.{Task, recognition, synthesis, analysis, Query}
 use Rattle.machine.specs.Machine.{Machine}
 use Rattle.machine.specs.Frames.{Held}

@@ -5,9 +5,9 @@ use mathlib.Core.Bool.{Bool, true, false, cond, _&&_, _||_}
 use mathlib.Core.List.{List, _++_}
 use lib.Dec.{ltb}
 use lib.ListN.{length, getD, drop}
-use Rattle.table.specs.declared.Refusal.{Refusal}
-use Rattle.table.specs.declared.Refusal.the-variants.{Input, State}
-use Rattle.table.specs.declared.StateCause.the-variants.{StackFull, OutputFull}
+use Rattle.format.specs.declared.Refusal.{Refusal}
+use Rattle.format.specs.declared.Refusal.the-variants.{Input, State}
+use Rattle.format.specs.declared.StateCause.the-variants.{StackFull, OutputFull}
 use Rattle.machine.specs.Frames as F
 use Rattle.machine.specs.Frames.{Held, entering}
 use Rattle.machine.specs.Step as S
@@ -15,7 +15,7 @@ use Rattle.machine.specs.Step.{Stepped, ends, moves, finds, refuses, triedOf}
 use Rattle.machine.specs.Transducer.{Passed, member, machine}
 use Rattle.machine.specs.Stack.{framesIn, roomIn, lookAt, putAt}
 use Rattle.machine.specs.declared.Run.{Run}
-use Rattle.table.specs.Table.{Table}
+use Rattle.format.specs.Table.{Table}
 use Rattle.machine.specs.Query.{Query}
 use Rattle.step.specs.declared.Move.{Move}
 use Rattle.step.specs.declared.Move.the-variants.{Drops, Skips, Pushes}

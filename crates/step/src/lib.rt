@@ -1,4 +1,5 @@
 // One step of a search.
+use format::StateCause;
 use frames::Fit;
 use frames::Frame;
 use frames::Setup;
@@ -6,7 +7,6 @@ use frames::cells;
 use frames::output;
 use frames::sides;
 use machine::Run;
-use table::StateCause;
 ghost use mathlib.Core.Path.{_≡_};
 ghost use mathlib.Core.Bool.{true, _&&_, _||_};
 ghost use mathlib.Core.List.{[]};

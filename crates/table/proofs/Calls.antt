@@ -9,17 +9,17 @@ use lib.Dec.{leb}
 use lib.ListN.{length, take, drop, length-append, length-drop}
 use lib.Seq.{take-at}
 use borrow.Author.Tests.{leb-true, le-leb}
-use Rattle.table.specs.declared.StateCause.the-variants.{DestinationShort}
-use Rattle.table.specs.declared.Refusal.{Refusal}
-use Rattle.table.specs.declared.Refusal.the-variants.{State}
+use Rattle.format.specs.declared.StateCause.the-variants.{DestinationShort}
+use Rattle.format.specs.declared.Refusal.{Refusal}
+use Rattle.format.specs.declared.Refusal.the-variants.{State}
 use Rattle.table.specs.declared.Answer.the-variants.{Done, Refused}
-use Rattle.table.specs.Table.{Table, countsOf}
-use Rattle.table.specs.Loaded.{cellsOf, countsIn, extent, loaded}
-use Rattle.table.specs.Text.{textOf}
-use Rattle.table.specs.Parse.{Parsed, accepted, turnedDown, parsed}
+use Rattle.format.specs.Table.{Table, countsOf}
+use Rattle.format.specs.Loaded.{cellsOf, countsIn, extent, loaded}
+use Rattle.format.specs.Text.{textOf}
+use Rattle.format.specs.Parse.{Parsed, accepted, turnedDown, parsed}
 use Rattle.table.specs.Calls.{storedAnswer, storedCells, readAs, readCellsAs, readAnswer, readCells, writtenAs, writtenTextAs, writeAnswer, writeText}
-use Rattle.table.proofs.Loaded.{length-cells, counts-in, loaded-cells, cells-loaded}
-use Rattle.table.proofs.Determine.{text-read, read-text}
+use Rattle.format.proofs.Loaded.{length-cells, counts-in, loaded-cells, cells-loaded}
+use Rattle.format.proofs.Determine.{text-read, read-text}
 
 -- Storing in a destination.
 
@@ -128,14 +128,6 @@ module _ (cells destination : List ℕ) where
       go : (p : Option Table) → writtenAs p destination ≡ Refused r → writtenTextAs p destination ≡ destination
       go (some t) k = stored-refused (textOf t) destination r k
       go none k = refl
-
-  pub write-length : length (writeText cells destination) ≡ length destination
-  unfolding writeText
-  write-length = go (loaded cells)
-    where
-      go : (p : Option Table) → length (writtenTextAs p destination) ≡ length destination
-      go (some t) = stored-length (textOf t) destination
-      go none = refl
 
 -- A text that is read is written back from the cells that reading leaves.
 pub read-written : (x d e : List ℕ) (n : ℕ) → readAnswer x d ≡ Done n → length x ≤ length e

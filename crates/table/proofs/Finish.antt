@@ -1,25 +1,24 @@
 -- What the reader answers, from what it made of the text.
-use Prim.Native.Nat.{ℕ, _+_, _*_, _<_, _≤_}
+use Prim.Native.Nat.{ℕ, _+_, _<_, _≤_}
 use native.Mathlib.Omega.{arith}
-use mathlib.Core.Path.{_≡_, refl, sym, ap, ap₂, subst, _∙_}
+use mathlib.Core.Path.{_≡_, refl, sym, ap, subst, _∙_}
 use mathlib.Core.List.{List, _++_}
 use lib.ListN.{length, take, drop}
 use borrow.Author.Tests.{le-leb, lt-leb}
-use Rattle.table.specs.declared.InputCause.{InputCause}
-use Rattle.table.specs.declared.StateCause.the-variants.{DestinationShort}
-use Rattle.table.specs.declared.Refusal.the-variants.{Input, State}
+use Rattle.format.specs.declared.InputCause.{InputCause}
+use Rattle.format.specs.declared.StateCause.the-variants.{DestinationShort}
+use Rattle.format.specs.declared.Refusal.the-variants.{Input, State}
 use Rattle.table.specs.declared.Answer.{Answer}
 use Rattle.table.specs.declared.Answer.the-variants.{Done, Refused}
-use Rattle.table.specs.declared.Read.{Read}
-use Rattle.table.specs.declared.Read.the-variants.{Cells, Fault}
-use Rattle.table.specs.Table.{Table}
-use Rattle.table.specs.Loaded.{cellsOf}
-use Rattle.table.specs.Parse.{Parsed, accepted, turnedDown, parsed}
-use Rattle.table.specs.Draft.{cellsRead, CellsAre}
+use Rattle.parser.specs.declared.Read.the-variants.{Cells, Fault}
+use Rattle.format.specs.Table.{Table}
+use Rattle.format.specs.Loaded.{cellsOf}
+use Rattle.format.specs.Parse.{Parsed, accepted, turnedDown, parsed}
+use Rattle.parser.specs.Draft.{cellsRead, CellsAre}
 use Rattle.table.specs.Calls.{readAs, readCellsAs, readAnswer, readCells}
-use Rattle.table.proofs.Rules.{table-bounded}
-use Rattle.table.proofs.Loaded.{length-cells}
-use Rattle.table.proofs.Determine.{read-text}
+use Rattle.format.proofs.Rules.{table-bounded}
+use Rattle.format.proofs.Loaded.{length-cells}
+use Rattle.format.proofs.Determine.{read-text}
 
 module _ (text destination : List ℕ) where
   -- the answer and the destination as the reader leaves them

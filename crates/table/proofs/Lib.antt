@@ -1,30 +1,8 @@
--- Laws of the definitions, for the proofs of this crate and of the crates above; each file is named after what it is about.
-pub mod Tests
-pub mod All
-pub mod Any
-pub mod Each
-pub mod Rules
-pub mod Turn
-pub mod Arcs
-pub mod Faults
-pub mod Joined
+-- Laws of the calls: the quick check, the table's parts in its cells, the answers, and the text written.
 pub mod Rising
 pub mod Terminals
-pub mod Ruled
-pub mod Index
-pub mod Loaded
 pub mod Parts
-pub mod Line
-pub mod Text
-pub mod Scan
-pub mod Told
-pub mod Parse
-pub mod Draft
-pub mod Items
-pub mod Lowest
-pub mod Determine
 pub mod Calls
 pub mod Finish
 pub mod TableCheck
-pub mod Stores
 pub mod Written

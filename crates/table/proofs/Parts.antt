@@ -1,24 +1,24 @@
 -- The parts of cells that hold a table whole are the table's lists; with them the rules are those of the table.
-use Prim.Native.Nat.{ℕ, _+_, _-_, _*_, _/_, _≤_, _<_}
+use Prim.Native.Nat.{ℕ, _-_, _*_, _/_, _≤_, _<_}
 use native.Mathlib.Omega.{arith}
 use mathlib.Core.Path.{_≡_, refl, sym, ap, ap₂, _∙_}
 use mathlib.Core.Bool.{Bool, true, false, cond, _&&_}
 use mathlib.Core.Option.{none, some}
 use mathlib.Core.List.{List}
 use lib.Dec.{leb}
-use lib.ListN.{length, getD, take, drop, length-drop, replicate}
+use lib.ListN.{length, getD, take, drop, length-drop}
 use lib.Seq.{length-take-le}
 use borrow.Author.Tests.{le-leb, lt-leb}
 use Rattle.table.specs.declared.Layout.{Layout}
-use Rattle.table.specs.Table.{Arc, Table, Counts, countsOf}
-use Rattle.table.specs.Rules.{countsHold, initialsKeep, terminalsKeep, arcsKeep, keepsRules}
-use Rattle.table.specs.Loaded.{countsIn, arcsIn, terminalsAt, arcsAt, extent, tableIn, loaded}
-use Rattle.table.specs.Index.{firstIndex, firstArcs}
-use Rattle.table.specs.Judge.{countsAs, arcsAs, Whole}
+use Rattle.format.specs.Table.{countsOf}
+use Rattle.format.specs.Rules.{countsHold, initialsKeep, terminalsKeep, arcsKeep, keepsRules}
+use Rattle.format.specs.Loaded.{countsIn, arcsIn, extent, tableIn, loaded}
+use Rattle.format.specs.Index.{firstIndex, firstArcs}
+use Rattle.format.specs.Cells.{countsAs, arcsAs, Whole}
 use Rattle.table.specs.Calls.{LaidOut, layoutOf}
-use Rattle.table.proofs.Arcs.{at-equal, arcs-take}
-use Rattle.table.proofs.Rules.{header-clear, keeps-parts, counts-bounded}
-use Rattle.table.proofs.Loaded.{counts-of}
+use Rattle.format.proofs.Arcs.{at-equal, arcs-take}
+use Rattle.format.proofs.Rules.{header-clear, keeps-parts, counts-bounded}
+use Rattle.format.proofs.Loaded.{counts-of}
 
 module _ (cells : List ℕ) (l : Layout) (L : LaidOut cells l) where
   pub initials-part : take (l .terminals - 4) (drop 4 cells) ≡ tableIn cells .initials

@@ -9,11 +9,11 @@ use lib.Dec.{ltb}
 use lib.ListN.{length, getD, take}
 use lib.Seq.{take-suc}
 use borrow.Author.Tests.{ltb-true, lt-ltb}
-use Rattle.table.specs.Rules.{lastIs, each, stateHolds, terminalRises, terminalsKeep}
-use Rattle.table.proofs.Tests.{and-right, and-both}
-use Rattle.table.proofs.Rules.{terminalPasses, terminal-clear}
-use Rattle.table.proofs.Each.{each-snoc, each-at, each-more, each-fails, each-done, each-weaken, last-take, each-last}
-use Rattle.table.proofs.Arcs.{at-equal}
+use Rattle.format.specs.Rules.{each, stateHolds, terminalRises, terminalsKeep}
+use Rattle.format.proofs.Tests.{and-right, and-both}
+use Rattle.format.proofs.Rules.{terminalPasses, terminal-clear}
+use Rattle.format.proofs.Each.{each-snoc, each-at, each-more, each-fails, each-done, each-weaken, last-take, each-last}
+use Rattle.format.proofs.Arcs.{at-equal}
 
 abbrev pub terminalsRise : List ℕ → Bool
 terminalsRise = each terminalRises []

@@ -1,22 +1,22 @@
 -- What each public call answers, and what it leaves in the destination that it is lent.
 use Prim.Native.Nat.{ℕ, _+_, _≤_}
 use mathlib.Core.Path.{_≡_}
-use mathlib.Core.Bool.{Bool, true, false, cond}
+use mathlib.Core.Bool.{true, false, cond}
 use mathlib.Core.Option.{Option, none, some}
-use mathlib.Core.List.{List, [], _∷_, _++_}
+use mathlib.Core.List.{List, _++_}
 use lib.Dec.{leb}
 use lib.ListN.{length, drop, replicate}
-use Rattle.table.specs.declared.StateCause.the-variants.{LoadedTable, DestinationShort}
-use Rattle.table.specs.declared.Refusal.the-variants.{Input, State}
+use Rattle.format.specs.declared.StateCause.the-variants.{LoadedTable, DestinationShort}
+use Rattle.format.specs.declared.Refusal.the-variants.{Input, State}
 use Rattle.table.specs.declared.Answer.{Answer}
 use Rattle.table.specs.declared.Answer.the-variants.{Done, Refused}
 use Rattle.table.specs.declared.Checked.{Checked}
 use Rattle.table.specs.declared.Layout.{Layout}
-use Rattle.table.specs.Table.{Table, Counts}
-use Rattle.table.specs.Loaded.{cellsOf, countsIn, terminalsAt, arcsAt, extent, loaded}
-use Rattle.table.specs.Index.{firstArcs}
-use Rattle.table.specs.Text.{textOf}
-use Rattle.table.specs.Parse.{Parsed, accepted, turnedDown, parsed}
+use Rattle.format.specs.Table.{Table, Counts}
+use Rattle.format.specs.Loaded.{cellsOf, countsIn, terminalsAt, arcsAt, extent, loaded}
+use Rattle.format.specs.Index.{firstArcs}
+use Rattle.format.specs.Text.{textOf}
+use Rattle.format.specs.Parse.{Parsed, accepted, turnedDown, parsed}
 
 -- where the parts of a loaded table begin, by its counts
 abbrev pub layoutOf : Counts → Layout

@@ -1,16 +1,16 @@
 // The table check: does a loaded table keep every rule, and where do each state's arcs begin?
 use crate::Checked;
-use crate::Judged;
 use crate::Layout;
-use crate::judge;
+use judge::Judged;
 ghost use mathlib.Core.Path.{_≡_};
 ghost use mathlib.Core.Bool.{true};
 ghost use Prim.Native.Nat.{_≤_};
 ghost use lib.ListN.{length, getD};
-ghost use Rattle.table.specs.Rules.{initialsKeep, terminalsKeep, arcsKeep, keepsRules};
-ghost use Rattle.table.specs.Loaded.{countsIn, tableIn};
-ghost use Rattle.table.specs.Judge.{arcsAs, Whole, arcsRise};
-ghost use Rattle.table.specs.Index.{firstIndex};
+ghost use Rattle.format.specs.Rules.{initialsKeep, terminalsKeep, arcsKeep, keepsRules};
+ghost use Rattle.format.specs.Loaded.{countsIn, tableIn};
+ghost use Rattle.format.specs.Cells.{arcsAs, Whole};
+ghost use Rattle.judge.specs.Judge.{arcsRise};
+ghost use Rattle.format.specs.Index.{firstIndex};
 ghost use Rattle.table.specs.Calls.{layoutOf, LaidOut, checked};
 
 fn initials_hold(list: &[u16], states: u16) -> bool

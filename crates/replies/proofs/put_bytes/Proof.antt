@@ -6,7 +6,7 @@ use denote.Ref.{now}
 use lib.ListN.{length, drop, length-set}
 use lib.Seq.{sets}
 use borrow.Author.Needs.{needs}
-use Rattle.table.specs.Line.{charsOf}
+use Rattle.format.specs.Line.{charsOf}
 use Rattle.replies.proofs.Lines.{bytes-turn, bytes-end}
 use Rattle.replies.proofs.put_bytes.Statement.{statement}
 use Rattle.replies.proofs.put_bytes.Tie as tie

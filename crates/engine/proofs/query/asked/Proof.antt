@@ -6,7 +6,7 @@ use mathlib.Core.Bool.{Bool, true, false, _&&_, and-false}
 use denote.Ref.{now}
 use borrow.Author.Needs.{needs}
 use borrow.Author.Tests.{not-true, not-false}
-use Rattle.table.proofs.Tests.{and-both}
+use Rattle.format.proofs.Tests.{and-both}
 use Rattle.machine.specs.Query.{wordHolds}
 use Rattle.engine.proofs.Words.{task-none, asking-table, asking-task, asking-upper, asking-lower, asking-words}
 use Rattle.engine.proofs.query.asked.Statement.{statement}

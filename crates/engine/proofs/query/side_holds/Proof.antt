@@ -3,7 +3,7 @@ use mathlib.Core.Path.{sym, ap, _∙_}
 use mathlib.Core.Bool.{Bool, _||_}
 use denote.Ref.{now}
 use borrow.Author.Needs.{needs}
-use Rattle.table.specs.Rules.{isEmpty}
+use Rattle.format.specs.Rules.{isEmpty}
 use Rattle.engine.proofs.Words.{empty-length}
 use Rattle.engine.proofs.query.side_holds.Statement.{statement}
 use Rattle.engine.proofs.query.side_holds.Tie as tie

@@ -5,7 +5,7 @@ use lib.Seq.{length-take-le}
 use borrow.Author.Needs.{needs}
 use native.Mathlib.Omega.{arith}
 use denote.Ref.{now}
-use Rattle.table.specs.Line.{linesOf}
+use Rattle.format.specs.Line.{linesOf}
 use Rattle.query.proofs.Query.{nonzero, lines-none, lines-some, said, asks-none, asks-bad, asks-followed, asks-long, asks-words}
 use Rattle.query.proofs.asker.query.Statement.{statement}
 use Rattle.query.proofs.asker.query.Tie as tie

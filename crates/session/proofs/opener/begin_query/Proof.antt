@@ -7,7 +7,7 @@ use lib.Seq.{length-take-le}
 use borrow.Author.Needs.{needs}
 use native.Mathlib.Omega.{arith}
 use denote.Ref.{now}
-use Rattle.table.specs.Line.{linesOf}
+use Rattle.format.specs.Line.{linesOf}
 use Rattle.query.specs.Query.{isQuery, upperLength, lowerLength, queryOf}
 use Rattle.session.specs.Opened.{Opened, startedOn, openedQuery}
 use Rattle.session.specs.Begun.{begun, BegunIs}

@@ -1,14 +1,10 @@
 use mathlib.Core.Path.{sym, _∙_}
 use denote.Ref.{now}
 use borrow.Author.Needs.{needs}
-use Rattle.table.specs.Judge.{arcsAs}
+use Rattle.format.specs.Cells.{arcsAs}
 use Rattle.table.proofs.Rising.{rising-keep}
 use Rattle.table.proofs.checker.arcs_hold.Statement.{statement}
 use Rattle.table.proofs.checker.arcs_hold.Tie as tie
-use Rattle.table.proofs.checker.arcs_hold.Reads as reads
-use Rattle.table.proofs.checker.arcs_hold.Lts as lts
-use Rattle.table.proofs.checker.arcs_rise.Reads as arcs-rise-reads
-use Rattle.table.proofs.checker.each_arc_holds.Reads as each-arc-holds-reads
 
 arcs-rise-requires : tie.Need-arcs-rise-requires
 arcs-rise-requires c κs = search needs

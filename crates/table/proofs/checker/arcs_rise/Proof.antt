@@ -7,18 +7,12 @@ use lib.Bits.{bitOr}
 use lib.Dec.{leb}
 use lib.ListN.{length, getD}
 use borrow.Author.Needs.{needs}
-use Rattle.table.specs.Rules.{each}
-use Rattle.table.specs.Loaded.{arcsIn}
-use Rattle.table.specs.Judge.{largest, joinedHold, keyBy, orderKey, risesBy, eachRises, lettersHold}
+use Rattle.format.specs.Rules.{each}
+use Rattle.format.specs.Loaded.{arcsIn}
+use Rattle.judge.specs.Judge.{largest, joinedHold, keyBy, orderKey, risesBy, eachRises, lettersHold}
 use Rattle.table.proofs.Rising.{rise-more, rise-fails, rise-top, letters-more, rise-ends}
 use Rattle.table.proofs.checker.arcs_rise.Statement.{statement}
 use Rattle.table.proofs.checker.arcs_rise.Tie as tie
-use Rattle.table.proofs.checker.arcs_rise.Reads as reads
-use Rattle.table.proofs.checker.arcs_rise.Lts as lts
-use Rattle.table.proofs.judge.is_rising.Reads as is-rising-reads
-use Rattle.table.proofs.judge.joined_hold.Reads as joined-hold-reads
-use Rattle.table.proofs.judge.letters.Reads as letters-reads
-use Rattle.table.proofs.judge.order_key.Reads as order-key-reads
 
 abbrev Inv-loop : tie.InvT-loop
 Inv-loop cells states top₀ joined₀ at₀ top joined at = (at ≤ length cells) × (at ≡ 4 * (at / 4)) × (top ≡ largest orderKey (arcsIn (at / 4) cells)) × (eachRises states (arcsIn (at / 4) cells) ≡ true) × (joinedHold joined ≡ lettersHold (arcsIn (at / 4) cells))

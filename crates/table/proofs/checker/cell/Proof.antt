@@ -4,8 +4,6 @@ use lib.ListN.{List·getD-eq-default}
 use borrow.Author.Needs.{needs}
 use Rattle.table.proofs.checker.cell.Statement.{statement}
 use Rattle.table.proofs.checker.cell.Tie as tie
-use Rattle.table.proofs.checker.cell.Reads as reads
-use Rattle.table.proofs.checker.cell.Lts as lts
 
 mul-result : tie.Need-mul-result
 mul-result c = search needs

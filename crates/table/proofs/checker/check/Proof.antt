@@ -6,17 +6,12 @@ use mathlib.Core.List.{List}
 use denote.Ref.{now}
 use Rattle.table.specs.declared.Checked.{Checked}
 use Rattle.table.specs.declared.Layout.{Layout}
-use Rattle.table.specs.Loaded.{countsIn}
+use Rattle.format.specs.Loaded.{countsIn}
 use borrow.Author.Needs.{needs}
 use Rattle.table.specs.Calls.{layoutOf, checkedAs, checked}
 use Rattle.table.proofs.Parts.{laid-out, index-ready, index-part, loaded-kept, loaded-broken, loaded-short}
 use Rattle.table.proofs.checker.check.Statement.{statement}
 use Rattle.table.proofs.checker.check.Tie as tie
-use Rattle.table.proofs.checker.check.Reads as reads
-use Rattle.table.proofs.checker.check.Lts as lts
-use Rattle.table.proofs.checker.first_arcs.Reads as first-arcs-reads
-use Rattle.table.proofs.checker.keeps_rules.Reads as keeps-rules-reads
-use Rattle.table.proofs.checker.layout.Reads as layout-reads
 
 abbrev indexed : Layout → List ℕ → Checked
 indexed l f = record { ok = true; layout = l; first = f }

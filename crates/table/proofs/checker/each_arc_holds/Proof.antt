@@ -1,23 +1,19 @@
-use Prim.Native.Nat.{ℕ, suc, _+_, _*_, _/_, _≤_, _-_}
+use Prim.Native.Nat.{_*_, _/_, _≤_, _-_}
 use native.Mathlib.Omega.{arith}
 use mathlib.Core.Path.{_≡_, refl, sym, ap, _∙_}
 use mathlib.Core.Bool.{true}
 use mathlib.Core.Logic.{⊎-elim}
 use denote.Ref.{now}
-use lib.ListN.{length, getD, take}
+use lib.ListN.{length}
 use lib.Seq.{length-take-le}
 use borrow.Author.Needs.{needs}
-use Rattle.table.specs.Rules.{each, arcsKeep}
-use Rattle.table.specs.Loaded.{arcsIn}
-use Rattle.table.specs.Judge.{largest, arcKey}
-use Rattle.table.proofs.Arcs.{at-equal, arcHere, front, whole}
-use Rattle.table.proofs.Turn.{keep-arc, fail-arc, top-arc}
+use Rattle.format.specs.Rules.{each, arcsKeep}
+use Rattle.format.specs.Loaded.{arcsIn}
+use Rattle.judge.specs.Judge.{largest, arcKey}
+use Rattle.format.proofs.Arcs.{at-equal, arcHere, front, whole}
+use Rattle.judge.proofs.Turn.{keep-arc, fail-arc, top-arc}
 use Rattle.table.proofs.checker.each_arc_holds.Statement.{statement}
 use Rattle.table.proofs.checker.each_arc_holds.Tie as tie
-use Rattle.table.proofs.checker.each_arc_holds.Reads as reads
-use Rattle.table.proofs.checker.each_arc_holds.Lts as lts
-use Rattle.table.proofs.judge.arc_fault.Reads as arc-fault-reads
-use Rattle.table.proofs.judge.arc_key.Reads as arc-key-reads
 
 abbrev Inv-loop : tie.InvT-loop
 Inv-loop cells states top₀ at₀ top at = (at ≤ length cells) × (at ≡ 4 * (at / 4)) × (largest arcKey (arcsIn (at / 4) cells) ≤ top) × (arcsKeep states (arcsIn (at / 4) cells) ≡ true)

@@ -1,20 +1,17 @@
-use Prim.Native.Nat.{ℕ, suc, _+_, _*_, _/_, _≤_, _<_, _-_}
+use Prim.Native.Nat.{ℕ, suc, _+_, _*_, _/_, _≤_, _-_}
 use native.Mathlib.Omega.{arith}
-use mathlib.Core.Path.{_≡_, refl, sym, ap, subst, _∙_}
+use mathlib.Core.Path.{_≡_, refl, sym, subst, _∙_}
 use mathlib.Core.List.{List}
 use denote.Ref.{now}
 use lib.ListN.{length, getD, set}
 use borrow.Author.Needs.{needs}
-use Rattle.table.specs.Table.{Arc}
-use Rattle.table.specs.Loaded.{arcsIn}
-use Rattle.table.specs.Index.{below}
-use Rattle.table.specs.Judge.{arcsAs}
-use Rattle.table.proofs.Arcs.{at-equal, arcAt, arcs-snoc, length-arcs}
-use Rattle.table.proofs.Index.{ending, ending-few, below-few, source-inside, Counts, Sums, counts-none, counts-more, sums-none, sums-more, sums-all}
+use Rattle.format.specs.Table.{Arc}
+use Rattle.format.specs.Loaded.{arcsIn}
+use Rattle.format.specs.Cells.{arcsAs}
+use Rattle.format.proofs.Arcs.{at-equal, arcAt, arcs-snoc, length-arcs}
+use Rattle.format.proofs.Index.{ending-few, below-few, source-inside, Counts, Sums, counts-none, counts-more, sums-none, sums-more, sums-all}
 use Rattle.table.proofs.checker.first_arcs.Statement.{statement}
 use Rattle.table.proofs.checker.first_arcs.Tie as tie
-use Rattle.table.proofs.checker.first_arcs.Reads as reads
-use Rattle.table.proofs.checker.first_arcs.Lts as lts
 
 abbrev Inv-loop : tie.InvT-loop
 Inv-loop cells states first₀ count k₀ first k = (count ≡ length cells / 4) × (k ≤ count) × Counts (arcsIn k cells) first

@@ -1,22 +1,18 @@
-use Prim.Native.Nat.{ℕ, suc, _+_, _≤_, _-_}
+use Prim.Native.Nat.{_+_, _≤_, _-_}
 use native.Mathlib.Omega.{arith}
-use mathlib.Core.Path.{_≡_, refl, sym, ap, _∙_}
-use mathlib.Core.Bool.{Bool, true}
+use mathlib.Core.Path.{_≡_, refl, sym, _∙_}
+use mathlib.Core.Bool.{true}
 use mathlib.Core.Logic.{⊎-elim}
 use denote.Ref.{now}
 use lib.ListN.{length, getD, take}
 use lib.Seq.{length-take-le}
 use borrow.Author.Needs.{needs}
-use Rattle.table.specs.Rules.{each, initialFaults, initialsKeep}
-use Rattle.table.specs.Judge.{judged, largest, stateKey}
-use Rattle.table.proofs.Each.{each-done}
-use Rattle.table.proofs.Turn.{keep-more, keep-fails, top-more}
+use Rattle.format.specs.Rules.{each, initialFaults, initialsKeep}
+use Rattle.judge.specs.Judge.{largest, stateKey}
+use Rattle.format.proofs.Each.{each-done}
+use Rattle.judge.proofs.Turn.{keep-more, keep-fails, top-more}
 use Rattle.table.proofs.checker.initials_hold.Statement.{statement}
 use Rattle.table.proofs.checker.initials_hold.Tie as tie
-use Rattle.table.proofs.checker.initials_hold.Reads as reads
-use Rattle.table.proofs.checker.initials_hold.Lts as lts
-use Rattle.table.proofs.judge.initial_fault.Reads as initial-fault-reads
-use Rattle.table.proofs.judge.state_key.Reads as state-key-reads
 
 abbrev Inv-loop : tie.InvT-loop
 Inv-loop list states top₀ k₀ top k = (k ≤ length list) × (largest stateKey (take k list) ≤ top) × (initialsKeep states (take k list) ≡ true)

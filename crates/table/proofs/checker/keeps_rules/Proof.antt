@@ -1,16 +1,9 @@
-use native.Mathlib.Omega.{arith}
 use mathlib.Core.Path.{sym, _∙_}
 use denote.Ref.{now}
 use borrow.Author.Needs.{needs}
 use Rattle.table.proofs.Parts.{rules-parts, arcs-whole}
 use Rattle.table.proofs.checker.keeps_rules.Statement.{statement}
 use Rattle.table.proofs.checker.keeps_rules.Tie as tie
-use Rattle.table.proofs.checker.keeps_rules.Reads as reads
-use Rattle.table.proofs.checker.keeps_rules.Lts as lts
-use Rattle.table.proofs.checker.arcs_hold.Reads as arcs-hold-reads
-use Rattle.table.proofs.checker.initials_hold.Reads as initials-hold-reads
-use Rattle.table.proofs.checker.terminals_hold.Reads as terminals-hold-reads
-use Rattle.table.proofs.judge.counts_hold.Reads as counts-hold-reads
 
 shared-slice-read-counts-hold : tie.Need-shared-slice-read-counts-hold
 shared-slice-read-counts-hold c = search needs

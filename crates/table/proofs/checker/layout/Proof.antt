@@ -1,11 +1,7 @@
-use Prim.Native.Nat.{ℕ, _+_, _*_}
-use mathlib.Core.Path.{ap, ap₂}
+use Prim.Native.Nat.{_+_, _*_}
 use borrow.Author.Needs.{needs}
 use Rattle.table.proofs.checker.layout.Statement.{statement}
 use Rattle.table.proofs.checker.layout.Tie as tie
-use Rattle.table.proofs.checker.layout.Reads as reads
-use Rattle.table.proofs.checker.layout.Lts as lts
-use Rattle.table.proofs.checker.cell.Reads as cell-reads
 
 cell-requires : tie.Need-cell-requires
 cell-requires c κs = search needs

@@ -1,20 +1,16 @@
-use Prim.Native.Nat.{ℕ, _+_, _≤_, _-_}
+use Prim.Native.Nat.{_≤_, _-_}
 use native.Mathlib.Omega.{arith}
 use mathlib.Core.Path.{_≡_, refl, sym, ap, _∙_}
-use mathlib.Core.Bool.{Bool, true, false, _&&_, and-true, and-false}
+use mathlib.Core.Bool.{Bool, _&&_, and-true, and-false}
 use mathlib.Core.Logic.{⊎-elim}
 use denote.Ref.{now}
-use lib.ListN.{length, getD, take}
-use lib.Dec.{ltb}
+use lib.ListN.{length, take}
 use lib.Seq.{take-all}
 use borrow.Author.Needs.{needs}
 use borrow.Author.Tests.{lt-ltb, le-ltb}
-use Rattle.table.specs.Rules.{each, terminalsKeep}
 use Rattle.table.proofs.Terminals.{terminalsRise, rise-one, rise-turn, fall-breaks, rise-keeps, keeps-none}
 use Rattle.table.proofs.checker.terminals_hold.Statement.{statement}
 use Rattle.table.proofs.checker.terminals_hold.Tie as tie
-use Rattle.table.proofs.checker.terminals_hold.Reads as reads
-use Rattle.table.proofs.checker.terminals_hold.Lts as lts
 
 abbrev Inv-loop : tie.InvT-loop
 Inv-loop list states n rise₀ k₀ rise k = (n ≡ length list) × (1 ≤ k) × (k ≤ n) × (rise ≡ terminalsRise (take k list))

@@ -1,17 +1,15 @@
 use Prim.Native.Nat.{ℕ, suc, _+_, _≤_, _-_}
 use native.Mathlib.Omega.{arith}
 use native.Mathlib.Nat.{zero-add}
-use mathlib.Core.Path.{_≡_, refl, sym, ap, ap₂, _∙_}
+use mathlib.Core.Path.{_≡_, refl, sym, ap₂, _∙_}
 use mathlib.Core.List.{List, _++_}
 use denote.Ref.{now}
 use lib.ListN.{length, getD, take, drop, set, length-set}
 use lib.Seq.{paste, paste-zero, paste-suc}
 use borrow.Author.Needs.{needs}
-use Rattle.table.proofs.Arcs.{at-equal}
+use Rattle.format.proofs.Arcs.{at-equal}
 use Rattle.table.proofs.reader.copy.Statement.{statement}
 use Rattle.table.proofs.reader.copy.Tie as tie
-use Rattle.table.proofs.reader.copy.Reads as reads
-use Rattle.table.proofs.reader.copy.Lts as lts
 
 abbrev Inv-loop : tie.InvT-loop
 Inv-loop from count to₀ k₀ to k = (k ≤ count) × (length to ≡ length to₀) × (to ≡ paste to₀ 0 from k)

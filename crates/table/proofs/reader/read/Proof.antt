@@ -5,10 +5,6 @@ use borrow.Author.Needs.{needs}
 use Rattle.table.proofs.Finish.{left-fault, read-room, left-short, left-done}
 use Rattle.table.proofs.reader.read.Statement.{statement}
 use Rattle.table.proofs.reader.read.Tie as tie
-use Rattle.table.proofs.reader.read.Reads as reads
-use Rattle.table.proofs.reader.read.Lts as lts
-use Rattle.table.proofs.reader.copy.Reads as copy-reads
-use Rattle.table.proofs.reader.read_table.Reads as read-table-reads
 
 slice-aggregate-read-table : tie.Need-slice-aggregate-read-table
 slice-aggregate-read-table c = search needs

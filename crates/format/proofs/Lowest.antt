@@ -1,0 +1,79 @@
+-- "within it the lowest number": the refusals that a line earns stand by rising number.
+use Prim.Native.Nat.{ℕ}
+use mathlib.Core.Path.{_≡_, refl}
+use mathlib.Core.Bool.{Bool, true, false, cond, _&&_}
+use mathlib.Core.List.{List, [], _∷_, _++_}
+use lib.Dec.{eqb, ltb}
+use Rattle.format.specs.declared.InputCause.{InputCause}
+use Rattle.format.specs.declared.InputCause.the-variants.{Malformed, Misplaced, CountLimit, StateNumber, LetterLimit, StateOrder, SourceOrder, ArcRepeated, LineCount}
+use Rattle.format.specs.Refusal.{inputNumber}
+use Rattle.format.specs.Table.{Table}
+use Rattle.format.specs.Rules.{unless, countsHold, stateHolds, letterHolds, initialIsNew, terminalRises, sourceHolds, arcIsNew, headerFaults, initialFaults, terminalFaults, arcFaults}
+use Rattle.format.specs.Line.{Line, malformed, bytesOf}
+use Rattle.format.specs.Text.{linesBefore}
+use Rattle.format.specs.Parse.{Kind, header, initial, terminal, arc, end, numberAt, countsFrom, arcFrom, isOf, due, emptyTable, Progress, opening, within, closed, itemFaults, kindFaults, bytesFaults, lineFaults}
+
+-- each refusal's number is below the next one's
+abbrev pub numbersRise : List InputCause → Bool
+numbersRise [] = true
+numbersRise (f ∷ []) = true
+numbersRise (f ∷ g ∷ fs) = ltb (inputNumber f) (inputNumber g) && numbersRise (g ∷ fs)
+
+one : (a : Bool) (f : InputCause) → numbersRise (unless a f) ≡ true
+one true f = refl
+one false f = refl
+
+two : (a b : Bool) → numbersRise (unless a StateNumber ++ unless b StateOrder) ≡ true
+two true true = refl
+two true false = refl
+two false true = refl
+two false false = refl
+
+four : (a b c d : Bool) → numbersRise (unless a StateNumber ++ (unless b LetterLimit ++ (unless c SourceOrder ++ unless d ArcRepeated))) ≡ true
+four true true true true = refl
+four true true true false = refl
+four true true false true = refl
+four true true false false = refl
+four true false true true = refl
+four true false true false = refl
+four true false false true = refl
+four true false false false = refl
+four false true true true = refl
+four false true true false = refl
+four false true false true = refl
+four false true false false = refl
+four false false true true = refl
+four false false true false = refl
+four false false false true = refl
+four false false false false = refl
+
+item-rise : (k : Kind) (t : Table) (b : List ℕ) → numbersRise (itemFaults k t b) ≡ true
+unfolding itemFaults headerFaults initialFaults terminalFaults arcFaults
+item-rise header t b = one (countsHold (countsFrom b)) CountLimit
+item-rise initial t b = two (stateHolds (t .states) (numberAt b 1)) (initialIsNew (t .initials) (numberAt b 1))
+item-rise terminal t b = two (stateHolds (t .states) (numberAt b 1)) (terminalRises (t .terminals) (numberAt b 1))
+item-rise arc t b =
+    let a = arcFrom b in
+    four (stateHolds (t .states) (a .source) && stateHolds (t .states) (a .target)) (letterHolds (a .upper) && letterHolds (a .lower)) (sourceHolds (t .arcs) a) (arcIsNew (t .arcs) a)
+item-rise end t b = one (eqb (numberAt b 1) (linesBefore t)) LineCount
+
+kind-rise : (k : Kind) (t : Table) (b : List ℕ) → numbersRise (kindFaults k t b) ≡ true
+kind-rise k t b = go (isOf k b)
+  where
+    go : (x : Bool) → numbersRise (cond x (itemFaults k t b) (Misplaced ∷ [])) ≡ true
+    go true = item-rise k t b
+    go false = refl
+
+bytes-rise : (p : Progress) (b : List ℕ) → numbersRise (bytesFaults p b) ≡ true
+unfolding bytesFaults
+bytes-rise opening b = kind-rise header (emptyTable 0) b
+bytes-rise (within c t) b = kind-rise (due c t) t b
+bytes-rise (closed t) b = refl
+
+pub faults-rise : (p : Progress) (l : Line) → numbersRise (lineFaults p l) ≡ true
+unfolding lineFaults
+faults-rise p l = go (malformed l)
+  where
+    go : (x : Bool) → numbersRise (cond x (Malformed ∷ []) (bytesFaults p (bytesOf (l .chars)))) ≡ true
+    go true = refl
+    go false = bytes-rise p (bytesOf (l .chars))

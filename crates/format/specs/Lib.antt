@@ -1,0 +1,10 @@
+-- What a table is, its rules, its loaded form and its text: what a reader has to believe. Cells says only how code holds counts and arcs.
+pub mod Refusal
+pub mod Table
+pub mod Rules
+pub mod Loaded
+pub mod Cells
+pub mod Index
+pub mod Line
+pub mod Text
+pub mod Parse

@@ -1,0 +1,251 @@
+// The lines of a text to the cells of a table, in an array that is lent: each line is scanned, judged and appended.
+mod scanner;
+
+use format::InputCause;
+use judge::Judged;
+ghost use mathlib.Core.Path.{_≡_};
+ghost use mathlib.Core.Bool.{true};
+ghost use mathlib.Core.List.{List};
+ghost use Prim.Native.Nat.{ℕ, _≤_, _<_, _+_};
+ghost use lib.ListN.{length, drop};
+ghost use lib.Seq.{sets};
+ghost use Rattle.format.specs.Table.{Table, Counts};
+ghost use Rattle.format.specs.Rules.{countsHold, arcFaults};
+ghost use Rattle.format.specs.Loaded.{countCells, countsIn, cellsOf};
+ghost use Rattle.format.specs.Line.{linesOf};
+ghost use Rattle.format.specs.Parse.{Kind, codeOf, due, countsFrom, arcFrom, kindFaults, parseFrom, parsed, closed};
+ghost use Rattle.judge.specs.Judge.{judged};
+ghost use Rattle.format.specs.Cells.{arcsAs};
+ghost use Rattle.parser.specs.Scan.{padded};
+ghost use Rattle.parser.specs.Draft.{itemsParsed, kindAfter, IsItem, Tracks, Drafted, ArcsReady, itemCells, itemKey, cellsRead, CellsAre};
+
+// A line of a text: whether it is well formed, how many bytes it says, the first nine of them, and where the next line begins.
+pub struct Scanned {
+    pub ok: bool,
+    pub count: usize,
+    pub next: usize,
+    pub bytes: [u8; 9],
+}
+
+// What the lines of a text give: how many cells a table has, or the first bad line's refusal.
+pub enum Read {
+    Cells(usize),
+    Fault(InputCause),
+}
+
+fn wide(x: u16) -> usize
+    ensures { λ r. ⌜ (r ≡ x) × (r < 65536) ⌝ }
+{
+    x as usize
+}
+
+fn letter(b: u8) -> u16
+    ensures { λ r. ⌜ r ≡ b ⌝ }
+{
+    b as u16
+}
+
+// The kind of the next line, from the counts and the lines so far.
+fn kind_due(cells: &[u16], lines: usize) -> u8
+    requires { ⌜ 4 ≤ length (now cells) ⌝ }
+    ensures { λ r. ⌜ r ≡ kindAfter (countsIn (now (cells .entry))) lines ⌝ }
+{
+    let initials = wide(cells[1]);
+    if lines <= initials {
+        return 2;
+    }
+    let terminals = initials + wide(cells[2]);
+    if lines <= terminals {
+        return 3;
+    }
+    if lines <= terminals + wide(cells[3]) {
+        return 4;
+    }
+    5
+}
+
+// What an arc line earns, after the arcs before it.
+fn arc_item(before: &[u16], states: u16, bytes: [u8; 9], top: u64) -> Judged
+    requires { ⌜ ArcsReady states (now before) top ⌝ }
+    ensures { λ r. ⌜ r ≡ judged (arcFaults states (arcsAs (now (before .entry))) (arcFrom bytes)) ⌝ }
+{
+    judge::arc_fault(
+        before,
+        states,
+        scanner::number_at(bytes, 1),
+        letter(bytes[3]),
+        letter(bytes[4]),
+        scanner::number_at(bytes, 5),
+        top,
+    )
+}
+
+// What a line earns, of the kind that is due.
+fn item_fault(
+    cells: &[u16],
+    kind: u8,
+    bytes: [u8; 9],
+    count: usize,
+    lines: usize,
+    filled: usize,
+    top: u64,
+) -> Judged
+    requires { ⌜ Drafted lines filled top (now cells) kind ⌝ }
+    ensures { λ r. ⌜ ((c : Counts) (t : Table) (b : List ℕ) → Tracks c t lines filled top (now (cells .entry)) → kind ≡ codeOf (due c t)
+        → bytes ≡ padded b → count ≡ length b → r ≡ judged (kindFaults (due c t) t b)) ⌝ }
+{
+    if bytes[0] != kind {
+        return Judged::Broken(InputCause::Misplaced);
+    }
+    if kind == 4 {
+        if count != 7 {
+            return Judged::Broken(InputCause::Misplaced);
+        }
+        let from = 4 + wide(cells[1]) + wide(cells[2]);
+        return arc_item(&cells[from..filled], cells[0], bytes, top);
+    }
+    if count != 3 {
+        return Judged::Broken(InputCause::Misplaced);
+    }
+    let number = scanner::number_at(bytes, 1);
+    if kind == 2 {
+        return judge::initial_fault(&cells[4..filled], cells[0], number, top);
+    }
+    if kind == 3 {
+        let from = 4 + wide(cells[1]);
+        return judge::terminal_fault(&cells[from..filled], cells[0], number);
+    }
+    if wide(number) == lines {
+        Judged::Kept
+    } else {
+        Judged::Broken(InputCause::LineCount)
+    }
+}
+
+// The line's item, behind the cells so far; how many there are then.
+fn append(cells: &mut [u16], kind: u8, bytes: [u8; 9], filled: usize) -> usize
+    requires { ⌜ filled + 4 ≤ length (now cells) ⌝ }
+    ensures { λ r. ⌜ ((k : Kind) (b : List ℕ) → kind ≡ codeOf k → IsItem k → bytes ≡ padded b
+        → (r ≡ filled + length (itemCells k b)) × (now (cells .exit) ≡ sets (now (cells .entry)) filled (itemCells k b))) ⌝ }
+{
+    let number = scanner::number_at(bytes, 1);
+    cells[filled] = number;
+    if kind != 4 {
+        return filled + 1;
+    }
+    cells[filled + 1] = letter(bytes[3]);
+    cells[filled + 2] = letter(bytes[4]);
+    cells[filled + 3] = scanner::number_at(bytes, 5);
+    filled + 4
+}
+
+// The key of the line's item, 0 where it has none.
+fn item_key(kind: u8, bytes: [u8; 9]) -> u64
+    ensures { λ r. ⌜ ((k : Kind) (b : List ℕ) → kind ≡ codeOf k → IsItem k → bytes ≡ padded b → itemKey k b ≤ r) ⌝ }
+{
+    if kind == 2 {
+        return judge::state_key(scanner::number_at(bytes, 1));
+    }
+    if kind == 4 {
+        return judge::arc_key(
+            scanner::number_at(bytes, 1),
+            letter(bytes[3]),
+            letter(bytes[4]),
+            scanner::number_at(bytes, 5),
+        );
+    }
+    0
+}
+
+// After the end line: nothing, or a line that is misplaced.
+fn read_end(text: &[u8], at: usize, filled: usize) -> Read
+    ensures { λ r. ⌜ ((t : Table) → filled ≡ length (cellsOf t) → r ≡ cellsRead (parseFrom (closed t) (linesOf (drop at (now (text .entry)))))) ⌝ }
+{
+    if text.len() <= at {
+        return Read::Cells(filled);
+    }
+    let line = scanner::scan(text, at);
+    if line.ok {
+        Read::Fault(InputCause::Misplaced)
+    } else {
+        Read::Fault(InputCause::Malformed)
+    }
+}
+
+// The lines after the header's, from `start` on.
+fn read_items(text: &[u8], start: usize, cells: &mut [u16]) -> Read
+    requires { ⌜ (length (now cells) ≡ 4612) × (start ≤ length (now text)) × (countsHold (countsIn (now cells)) ≡ true) ⌝ }
+    ensures { λ r. ⌜ (r ≡ cellsRead (itemsParsed (countsIn (now (cells .entry))) (drop start (now (text .entry)))))
+        × CellsAre (itemsParsed (countsIn (now (cells .entry))) (drop start (now (text .entry)))) (now (cells .exit)) ⌝ }
+{
+    let mut at = start;
+    let mut lines: usize = 1;
+    let mut filled: usize = 4;
+    let mut top: u64 = 0;
+    while at < text.len() {
+        let line = scanner::scan(text, at);
+        if line.ok {
+            let bytes = line.bytes;
+            let kind = kind_due(cells, lines);
+            let judged = item_fault(cells, kind, bytes, line.count, lines, filled, top);
+            if let Judged::Broken(fault) = judged {
+                return Read::Fault(fault);
+            }
+            at = line.next;
+            if kind == 5 {
+                return read_end(text, at, filled);
+            }
+            let key = item_key(kind, bytes);
+            if top < key {
+                top = key;
+            }
+            filled = append(cells, kind, bytes, filled);
+            lines += 1;
+        } else {
+            return Read::Fault(InputCause::Malformed);
+        }
+    }
+    Read::Fault(InputCause::Misplaced)
+}
+
+// A header line's counts, to the front of the cells; whether they are within their limits.
+fn put_counts(cells: &mut [u16], bytes: [u8; 9]) -> bool
+    requires { ⌜ 4 ≤ length (now cells) ⌝ }
+    ensures { λ r. ⌜ (r ≡ countsHold (countsFrom bytes)) × (now (cells .exit) ≡ sets (now (cells .entry)) 0 (countCells (countsFrom bytes))) ⌝ }
+{
+    let states = scanner::number_at(bytes, 1);
+    let initials = scanner::number_at(bytes, 3);
+    let terminals = scanner::number_at(bytes, 5);
+    let arcs = scanner::number_at(bytes, 7);
+    cells[0] = states;
+    cells[1] = initials;
+    cells[2] = terminals;
+    cells[3] = arcs;
+    judge::counts_hold(states, initials, terminals, arcs)
+}
+
+// A whole text.
+pub fn read_table(text: &[u8], cells: &mut [u16]) -> Read
+    requires { ⌜ length (now cells) ≡ 4612 ⌝ }
+    ensures { λ r. ⌜ (r ≡ cellsRead (parsed (now (text .entry)))) × CellsAre (parsed (now (text .entry))) (now (cells .exit)) ⌝ }
+{
+    if text.len() == 0 {
+        return Read::Fault(InputCause::Misplaced);
+    }
+    let line = scanner::scan(text, 0);
+    if line.ok {
+        let bytes = line.bytes;
+        if line.count != 9 {
+            return Read::Fault(InputCause::Misplaced);
+        }
+        if bytes[0] != 1 {
+            return Read::Fault(InputCause::Misplaced);
+        }
+        if put_counts(cells, bytes) {
+            let next = line.next;
+            return read_items(text, next, cells);
+        }
+        return Read::Fault(InputCause::CountLimit);
+    }
+    Read::Fault(InputCause::Malformed)
+}
