@@ -1,5 +1,4 @@
 -- Laws of the start and of the call for a reading.
-pub mod Words
 pub mod Starts
 pub mod Resuming
 pub mod Told

@@ -27,7 +27,7 @@ use Rattle.machine.specs.Reading.{Outcome, heldOf, outcomeAs, outcomeOf, outcom
 use Rattle.frames.specs.declared.Setup.{Setup}
 use Rattle.step.specs.Setting.{taskBy, queryBy, tableBy, machineBy, Ready}
 use Rattle.search.specs.Searching.{calledWith, SearchIs}
-use Rattle.engine.proofs.Words.{Asks}
+use Rattle.admission.proofs.Words.{Asks}
 use Rattle.engine.specs.Advancing.{OutcomeIs, Passed}
 
 -- 20, 11 and 10 leave all as it was

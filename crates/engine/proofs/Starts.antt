@@ -25,7 +25,7 @@ use Rattle.machine.specs.Start.{firstRun, startedWith, startedAs, started, Tell
 use Rattle.machine.proofs.Asked.{loaded-rules}
 use Rattle.idle.specs.declared.Cycle.{Cycle}
 use Rattle.idle.specs.Graph.{Graph, FoundCycle, CycleOrNone, cycleCells}
-use Rattle.engine.proofs.Words.{Asks}
+use Rattle.admission.proofs.Words.{Asks}
 use Rattle.idle.proofs.TableGraph.{loaded-laid, loaded-index, graph-of, found-none, found-some, found-states}
 
 module _ (cells : List ℕ) (task : ℕ) (upper lower : List ℕ) where

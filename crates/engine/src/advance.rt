@@ -1,6 +1,5 @@
 // The core of a call for a reading: the run goes in by value, and comes back by value.
-use crate::Asking;
-use crate::query;
+use admission::Admission;
 use frames::Setup;
 use machine::Called;
 use machine::Run;
@@ -35,8 +34,8 @@ fn resume(
     let task = run.task;
     let setup = Setup {
         states: at.states,
-        up: query::reads_upper(task),
-        low: query::reads_lower(task),
+        up: admission::reads_upper(task),
+        low: admission::reads_lower(task),
     };
     search::call(
         setup,
@@ -69,10 +68,10 @@ pub fn advance(
 {
     let checked = checker::check(table);
     let task = run.task;
-    let asking = query::asked(checked.ok, task, upper, lower);
+    let asking = admission::asked(checked.ok, task, upper, lower);
     match asking {
-        Asking::Refused(refusal) => search::refused(0, refusal, run),
-        Asking::Passes => {
+        Admission::Refused(refusal) => search::refused(0, refusal, run),
+        Admission::Passes => {
             let at = checked.layout;
             resume(
                 table,

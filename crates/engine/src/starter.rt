@@ -1,6 +1,5 @@
 // The start of a search: 20, 11, 10, then 12.
-use crate::Asking;
-use crate::query;
+use admission::Admission;
 use format::InputCause;
 use format::Refusal;
 use machine::Run;
@@ -51,8 +50,8 @@ pub fn start(table: &[u16], task: u32, upper: &[u8], lower: &[u8]) -> Started
     ensures { λ r. ⌜ StartIs (now (table .entry)) task (now (upper .entry)) (now (lower .entry)) r ⌝ }
 {
     let checked = table::checker::check(table);
-    let asking = query::asked(checked.ok, task, upper, lower);
-    if let Asking::Refused(refusal) = asking {
+    let asking = admission::asked(checked.ok, task, upper, lower);
+    if let Admission::Refused(refusal) = asking {
         return refused(refusal);
     }
     let first = checked.first;
@@ -64,8 +63,8 @@ pub fn start(table: &[u16], task: u32, upper: &[u8], lower: &[u8]) -> Started
         &table[arcs..end],
         &first,
         states,
-        query::reads_upper(task),
-        query::reads_lower(task),
+        admission::reads_upper(task),
+        admission::reads_lower(task),
     );
     if found.length == 0 {
         return ready(task);

@@ -1,5 +1,4 @@
 // Refusals 20, 11 and 10, which a start and a call look for in this order; and the sides that a task reads.
-use crate::Asking;
 use format::InputCause;
 use format::Refusal;
 use format::StateCause;
@@ -12,7 +11,13 @@ ghost use Rattle.format.specs.Rules.{isEmpty};
 ghost use Rattle.table.specs.Calls.{checked};
 ghost use Rattle.machine.specs.Query.{Task, taskOf, upperSide, lowerSide, reads, wordHolds};
 ghost use Rattle.machine.specs.Asked.{asked};
-ghost use Rattle.engine.specs.Asking.{askingOf};
+ghost use Rattle.admission.specs.Admission.{admissionOf};
+
+// What these refusals leave: a search that may run, or the first of them.
+pub enum Admission {
+    Passes,
+    Refused(Refusal),
+}
 
 // Whether a task, 1 to 3, reads the upper side.
 pub fn reads_upper(task: u32) -> bool
@@ -61,29 +66,29 @@ fn side_holds(read: bool, w: &[u8]) -> bool
 }
 
 // 20, 11 and 10, where `ok` is what the table check says.
-pub fn asked(ok: bool, task: u32, upper: &[u8], lower: &[u8]) -> Asking
-    ensures { λ r. ⌜ ((cells : List ℕ) → ok ≡ checked cells .ok → r ≡ askingOf (asked cells task (now (upper .entry)) (now (lower .entry)))) ⌝ }
+pub fn asked(ok: bool, task: u32, upper: &[u8], lower: &[u8]) -> Admission
+    ensures { λ r. ⌜ ((cells : List ℕ) → ok ≡ checked cells .ok → r ≡ admissionOf (asked cells task (now (upper .entry)) (now (lower .entry)))) ⌝ }
 {
     if !ok {
-        return Asking::Refused(Refusal::State(StateCause::LoadedTable));
+        return Admission::Refused(Refusal::State(StateCause::LoadedTable));
     }
     if task < 1 {
-        return Asking::Refused(Refusal::Input(InputCause::TaskFault));
+        return Admission::Refused(Refusal::Input(InputCause::TaskFault));
     }
     if 3 < task {
-        return Asking::Refused(Refusal::Input(InputCause::TaskFault));
+        return Admission::Refused(Refusal::Input(InputCause::TaskFault));
     }
     if !side_holds(reads_upper(task), upper) {
-        return Asking::Refused(Refusal::Input(InputCause::TaskFault));
+        return Admission::Refused(Refusal::Input(InputCause::TaskFault));
     }
     if !side_holds(reads_lower(task), lower) {
-        return Asking::Refused(Refusal::Input(InputCause::TaskFault));
+        return Admission::Refused(Refusal::Input(InputCause::TaskFault));
     }
     if !word_holds(upper) {
-        return Asking::Refused(Refusal::Input(InputCause::WordFault));
+        return Admission::Refused(Refusal::Input(InputCause::WordFault));
     }
     if !word_holds(lower) {
-        return Asking::Refused(Refusal::Input(InputCause::WordFault));
+        return Admission::Refused(Refusal::Input(InputCause::WordFault));
     }
-    Asking::Passes
+    Admission::Passes
 }

@@ -8,9 +8,9 @@ use borrow.Author.Needs.{needs}
 use borrow.Author.Tests.{not-true, not-false}
 use Rattle.format.proofs.Tests.{and-both}
 use Rattle.machine.specs.Query.{wordHolds}
-use Rattle.engine.proofs.Words.{task-none, asking-table, asking-task, asking-upper, asking-lower, asking-words}
-use Rattle.engine.proofs.query.asked.Statement.{statement}
-use Rattle.engine.proofs.query.asked.Tie as tie
+use Rattle.admission.proofs.Words.{task-none, asking-table, asking-task, asking-upper, asking-lower, asking-words}
+use Rattle.admission.proofs.asked.Statement.{statement}
+use Rattle.admission.proofs.asked.Tie as tie
 
 returns : tie.Need-returns
 returns c = λ cells e. asking-table (c .before .before .before .args .task) (now (c .before .before .before .args .upper)) (now (c .before .before .before .args .lower)) cells (c .before .before .before .args .ok) e (not-true (c .before .before .before .args .ok) (c .if1 .taken))

@@ -4,9 +4,9 @@ use mathlib.Core.Bool.{Bool, _||_}
 use denote.Ref.{now}
 use borrow.Author.Needs.{needs}
 use Rattle.format.specs.Rules.{isEmpty}
-use Rattle.engine.proofs.Words.{empty-length}
-use Rattle.engine.proofs.query.side_holds.Statement.{statement}
-use Rattle.engine.proofs.query.side_holds.Tie as tie
+use Rattle.admission.proofs.Words.{empty-length}
+use Rattle.admission.proofs.side_holds.Statement.{statement}
+use Rattle.admission.proofs.side_holds.Tie as tie
 
 returns : tie.Need-returns
 returns c = search needs

@@ -1,7 +1,7 @@
 -- The number of a task tells the sides that it reads.
-use Rattle.engine.proofs.Words.{upper-read}
-use Rattle.engine.proofs.query.reads_upper.Statement.{statement}
-use Rattle.engine.proofs.query.reads_upper.Tie as tie
+use Rattle.admission.proofs.Words.{upper-read}
+use Rattle.admission.proofs.reads_upper.Statement.{statement}
+use Rattle.admission.proofs.reads_upper.Tie as tie
 
 returns : tie.Need-returns
 returns c = λ k e. upper-read (c .args .task) k e

@@ -11,9 +11,9 @@ use lib.Seq.{take-all}
 use borrow.Author.Needs.{needs}
 use borrow.Author.Tests.{le-leb, lt-leb}
 use Rattle.machine.specs.Query.{lettersHold}
-use Rattle.engine.proofs.Words.{letters-more, word-long, word-short}
-use Rattle.engine.proofs.query.word_holds.Statement.{statement}
-use Rattle.engine.proofs.query.word_holds.Tie as tie
+use Rattle.admission.proofs.Words.{letters-more, word-long, word-short}
+use Rattle.admission.proofs.word_holds.Statement.{statement}
+use Rattle.admission.proofs.word_holds.Tie as tie
 
 abbrev Inv-loop : tie.InvT-loop
 Inv-loop w hold₀ k₀ hold k = (length w ≤ 64) × (k ≤ length w) × (hold ≡ lettersHold (take k w))

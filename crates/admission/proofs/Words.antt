@@ -20,9 +20,9 @@ use Rattle.table.specs.Calls.{checked}
 use Rattle.table.proofs.TableCheck.{passed, failed}
 use Rattle.machine.specs.Query.{Task, recognition, synthesis, analysis, upperSide, lowerSide, taskOf, reads, Query, lettersHold, wordHolds, sidesHold, wordsHold}
 use Rattle.machine.specs.Asked.{Asked, turned, runs, askedWords, askedTask, askedTable, asked}
-use Rattle.engine.specs.declared.Asking.{Asking}
-use Rattle.engine.specs.declared.Asking.the-variants.{Passes, Refused}
-use Rattle.engine.specs.Asking.{askingOf}
+use Rattle.admission.specs.declared.Admission.{Admission}
+use Rattle.admission.specs.declared.Admission.the-variants.{Passes, Refused}
+use Rattle.admission.specs.Admission.{admissionOf}
 
 -- Letters.
 
@@ -103,31 +103,31 @@ module _ (task : ℕ) (upper lower cells : List ℕ) (ok : Bool) (e : ok ≡ che
   abbrev queryOf : Task → Query
   queryOf k = record { task = k; upperWord = upper; lowerWord = lower }
 
-  pub asking-table : ok ≡ false → Refused (State LoadedTable) ≡ askingOf (asked cells task upper lower)
+  pub asking-table : ok ≡ false → Refused (State LoadedTable) ≡ admissionOf (asked cells task upper lower)
   unfolding asked
-  asking-table o = ap (λ (x : Option Table). askingOf (askedTable x task upper lower)) (sym (failed cells (checked cells) refl (sym e ∙ o)))
+  asking-table o = ap (λ (x : Option Table). admissionOf (askedTable x task upper lower)) (sym (failed cells (checked cells) refl (sym e ∙ o)))
 
   by-task : ok ≡ true → asked cells task upper lower ≡ askedTask (tableIn cells) (taskOf task) upper lower
   unfolding asked
   by-task o = ap (λ (x : Option Table). askedTable x task upper lower) (passed cells (checked cells) refl (sym e ∙ o))
 
-  pub asking-task : ok ≡ true → taskOf task ≡ none → Refused (Input TaskFault) ≡ askingOf (asked cells task upper lower)
-  asking-task o n = ap askingOf (sym (by-task o ∙ ap (λ (x : Option Task). askedTask (tableIn cells) x upper lower) n))
+  pub asking-task : ok ≡ true → taskOf task ≡ none → Refused (Input TaskFault) ≡ admissionOf (asked cells task upper lower)
+  asking-task o n = ap admissionOf (sym (by-task o ∙ ap (λ (x : Option Task). askedTask (tableIn cells) x upper lower) n))
 
   module _ (o : ok ≡ true) (low : 1 ≤ task) (high : task ≤ 3) where
-    by-words : (a : Asking) → ((k : Task) → taskOf task ≡ some k → askingOf (askedWords (tableIn cells) (queryOf k)) ≡ a) → a ≡ askingOf (asked cells task upper lower)
+    by-words : (a : Admission) → ((k : Task) → taskOf task ≡ some k → admissionOf (askedWords (tableIn cells) (queryOf k)) ≡ a) → a ≡ admissionOf (asked cells task upper lower)
     by-words a f =
         let K = task-there task low high in
-        sym (ap askingOf (by-task o ∙ ap (λ (x : Option Task). askedTask (tableIn cells) x upper lower) (K .1)) ∙ f (K .0) (K .1))
+        sym (ap admissionOf (by-task o ∙ ap (λ (x : Option Task). askedTask (tableIn cells) x upper lower) (K .1)) ∙ f (K .0) (K .1))
 
-    sides-not : (k : Task) → sidesHold (queryOf k) ≡ false → askingOf (askedWords (tableIn cells) (queryOf k)) ≡ Refused (Input TaskFault)
-    sides-not k h = ap (λ (b : Bool). askingOf (cond b (cond (wordsHold (queryOf k)) (runs (tableIn cells) (queryOf k)) (turned (Input WordFault))) (turned (Input TaskFault)))) h
+    sides-not : (k : Task) → sidesHold (queryOf k) ≡ false → admissionOf (askedWords (tableIn cells) (queryOf k)) ≡ Refused (Input TaskFault)
+    sides-not k h = ap (λ (b : Bool). admissionOf (cond b (cond (wordsHold (queryOf k)) (runs (tableIn cells) (queryOf k)) (turned (Input WordFault))) (turned (Input TaskFault)))) h
 
     module _ (u l : Bool) (U : (k : Task) → taskOf task ≡ some k → u ≡ reads k upperSide) (s : Bool) (S : s ≡ (u || isEmpty upper)) where
       upper-holds : (k : Task) → taskOf task ≡ some k → s ≡ (reads k upperSide || isEmpty upper)
       upper-holds k t = S ∙ ap (λ (b : Bool). b || isEmpty upper) (U k t)
 
-      pub asking-upper : s ≡ false → Refused (Input TaskFault) ≡ askingOf (asked cells task upper lower)
+      pub asking-upper : s ≡ false → Refused (Input TaskFault) ≡ admissionOf (asked cells task upper lower)
       asking-upper n = by-words _ (λ k t. sides-not k (ap (λ (b : Bool). b && (reads k lowerSide || isEmpty lower)) (sym (upper-holds k t) ∙ n)))
 
       module _ (y : s ≡ true) (L : (k : Task) → taskOf task ≡ some k → l ≡ reads k lowerSide) (r : Bool) (R : r ≡ (l || isEmpty lower)) where
@@ -135,27 +135,27 @@ module _ (task : ℕ) (upper lower cells : List ℕ) (ok : Bool) (e : ok ≡ che
         sides-are k t =
             ap (λ (b : Bool). b && (reads k lowerSide || isEmpty lower)) (sym (upper-holds k t) ∙ y) ∙ ap (λ (b : Bool). b || isEmpty lower) (sym (L k t)) ∙ sym R
 
-        pub asking-lower : r ≡ false → Refused (Input TaskFault) ≡ askingOf (asked cells task upper lower)
+        pub asking-lower : r ≡ false → Refused (Input TaskFault) ≡ admissionOf (asked cells task upper lower)
         asking-lower n = by-words _ (λ k t. sides-not k (sides-are k t ∙ n))
 
         -- by what the words are
-        abbrev worded : Bool → Asking
+        abbrev worded : Bool → Admission
         worded true = Passes
         worded false = Refused (Input WordFault)
 
-        pub asking-words : r ≡ true → (b : Bool) → (wordHolds upper && wordHolds lower) ≡ b → worded b ≡ askingOf (asked cells task upper lower)
+        pub asking-words : r ≡ true → (b : Bool) → (wordHolds upper && wordHolds lower) ≡ b → worded b ≡ admissionOf (asked cells task upper lower)
         asking-words z b w =
             by-words (worded b)
-            (λ k t. ap (λ (x : Bool). askingOf (cond x (cond (wordHolds upper && wordHolds lower) (runs (tableIn cells) (queryOf k)) (turned (Input WordFault))) (turned (Input TaskFault)))) (sides-are k t ∙ z)
-            ∙ ap (λ (x : Bool). askingOf (cond x (runs (tableIn cells) (queryOf k)) (turned (Input WordFault)))) w ∙ last k b)
+            (λ k t. ap (λ (x : Bool). admissionOf (cond x (cond (wordHolds upper && wordHolds lower) (runs (tableIn cells) (queryOf k)) (turned (Input WordFault))) (turned (Input TaskFault)))) (sides-are k t ∙ z)
+            ∙ ap (λ (x : Bool). admissionOf (cond x (runs (tableIn cells) (queryOf k)) (turned (Input WordFault)))) w ∙ last k b)
           where
-            last : (k : Task) (x : Bool) → askingOf (cond x (runs (tableIn cells) (queryOf k)) (turned (Input WordFault))) ≡ worded x
+            last : (k : Task) (x : Bool) → admissionOf (cond x (runs (tableIn cells) (queryOf k)) (turned (Input WordFault))) ≡ worded x
             last k true = refl
             last k false = refl
 
 -- What the caller learns.
 
-pub asking-turned : (w : Asked) (r : Refusal) → Refused r ≡ askingOf w → w ≡ turned r
+pub asking-turned : (w : Asked) (r : Refusal) → Refused r ≡ admissionOf w → w ≡ turned r
 asking-turned (turned s) r e = let z : s ≡ r = cc in ap turned z
 asking-turned (runs t q) r e = absurd (let z : _≡_ {A = ℕ} 0 1 = cc in omega arith)
 
@@ -169,14 +169,14 @@ pub record Asks (cells : List ℕ) (task : ℕ) (upper lower : List ℕ) : Type 
 passes-refused : (r : Refusal) → Passes ≡ Refused r → ⊥
 passes-refused r e = let z : _≡_ {A = ℕ} 0 1 = cc in omega arith
 
-pub asking-passes : (task : ℕ) (upper lower cells : List ℕ) (ok : Bool) → ok ≡ checked cells .ok → Passes ≡ askingOf (asked cells task upper lower) → Asks cells task upper lower
+pub asking-passes : (task : ℕ) (upper lower cells : List ℕ) (ok : Bool) → ok ≡ checked cells .ok → Passes ≡ admissionOf (asked cells task upper lower) → Asks cells task upper lower
 asking-passes task upper lower cells ok e p = by-table ok refl
   where
     by-words : (k : Task) → (a b : Bool) → cond a (cond b (runs (tableIn cells) (queryOf task upper lower cells ok e k)) (turned (Input WordFault))) (turned (Input TaskFault)) ≡ asked cells task upper lower
         → runs (tableIn cells) (queryOf task upper lower cells ok e k) ≡ asked cells task upper lower
     by-words k true true w = w
-    by-words k true false w = absurd (passes-refused (Input WordFault) (p ∙ ap askingOf (sym w)))
-    by-words k false b w = absurd (passes-refused (Input TaskFault) (p ∙ ap askingOf (sym w)))
+    by-words k true false w = absurd (passes-refused (Input WordFault) (p ∙ ap admissionOf (sym w)))
+    by-words k false b w = absurd (passes-refused (Input TaskFault) (p ∙ ap admissionOf (sym w)))
 
     by-number : ok ≡ true → (o : Option Task) → taskOf task ≡ o → Asks cells task upper lower
     by-number z none w = absurd (passes-refused (Input TaskFault) (p ∙ sym (asking-task task upper lower cells ok e z w)))

@@ -1,7 +1,7 @@
 -- The number of a task tells the sides that it reads.
-use Rattle.engine.proofs.Words.{lower-read}
-use Rattle.engine.proofs.query.reads_lower.Statement.{statement}
-use Rattle.engine.proofs.query.reads_lower.Tie as tie
+use Rattle.admission.proofs.Words.{lower-read}
+use Rattle.admission.proofs.reads_lower.Statement.{statement}
+use Rattle.admission.proofs.reads_lower.Tie as tie
 
 returns : tie.Need-returns
 returns c = λ k e. lower-read (c .args .task) k e
