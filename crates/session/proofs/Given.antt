@@ -37,12 +37,13 @@ use Rattle.replies.specs.Lines.{readingLine, limitLine, refusalLine, storedLine
 use Rattle.session.specs.declared.Talk.{Talk}
 use Rattle.session.specs.declared.Opening.{Opening}
 use Rattle.session.specs.declared.Opening.the-variants.{Ready}
-use Rattle.session.specs.declared.Said.the-variants as S
+use Rattle.caller.specs.declared.Said.the-variants as S
 use Rattle.session.specs.declared.Lined.the-variants as L
 use Rattle.session.specs.Opened.{Opened, refused, ready, openedAs, startedOn, openedQuery, openedTable, opened}
 use Rattle.session.specs.Begun.{Begun, firstTalk, begunNot, begun, BegunIs}
 use Rattle.session.specs.Session.{told, linesLeft, linesOn, sessionLines}
-use Rattle.session.specs.Next.{heardBy, heard, Spoken, spokenOf, nextLine, Lining, linedAs, liningOf, liningNot, lining, refusalLined, refusalLeft}
+use Rattle.caller.specs.Heard.{heardBy, heard}
+use Rattle.session.specs.Next.{Spoken, spokenOf, nextLine, Lining, linedAs, liningOf, liningNot, lining, refusalLined, refusalLeft}
 use Rattle.session.specs.Given.{textsAs, textsBy, spoken, spokenAfter}
 use Rattle.session.proofs.Begun.{cells-most}
 use Rattle.session.proofs.Output.{next-length}

@@ -1,6 +1,5 @@
 -- Laws of a session, for its proofs and those of the program.
 pub mod Copying
-pub mod Turns
 pub mod Begun
 pub mod Next
 pub mod Output

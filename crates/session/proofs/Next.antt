@@ -24,11 +24,12 @@ use Rattle.machine.specs.Stack.{store}
 use Rattle.machine.specs.Reading.{heldOf, answerAs, outputAs, outcomeOf, Outcome, outcome}
 use Rattle.replies.specs.Lines.{readingLine, endLine, limitLine, refusalLine, storedLine}
 use Rattle.session.specs.declared.Talk.{Talk}
-use Rattle.session.specs.declared.Said.{Said}
-use Rattle.session.specs.declared.Said.the-variants as S
+use Rattle.caller.specs.declared.Said.{Said}
+use Rattle.caller.specs.declared.Said.the-variants as S
 use Rattle.session.specs.declared.Lined.{Lined}
 use Rattle.session.specs.declared.Lined.the-variants as L
-use Rattle.session.specs.Next.{Heard, heardBy, heard, Spoken, bytesSaid, Fits, talkAfter, spokenOf, nextLine, linedAs, liningOf, liningNot, lining, LiningIs, refusalLined, refusalLeft}
+use Rattle.caller.specs.Heard.{Heard, heardBy, heard}
+use Rattle.session.specs.Next.{Spoken, bytesSaid, Fits, talkAfter, spokenOf, nextLine, linedAs, liningOf, liningNot, lining, LiningIs, refusalLined, refusalLeft}
 
 -- A reading's letters are in the buffer.
 

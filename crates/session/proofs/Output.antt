@@ -20,8 +20,9 @@ use Rattle.machine.specs.Transducer.{machine}
 use Rattle.machine.specs.Stack.{store}
 use Rattle.machine.specs.Reading.{heldOf, outputAs, outcomeOf, Outcome, outcome}
 use Rattle.session.specs.declared.Talk.{Talk}
-use Rattle.session.specs.declared.Said.the-variants as S
-use Rattle.session.specs.Next.{heardBy, heard, spokenOf, nextLine}
+use Rattle.caller.specs.declared.Said.the-variants as S
+use Rattle.caller.specs.Heard.{heardBy, heard}
+use Rattle.session.specs.Next.{spokenOf, nextLine}
 
 -- what is found, if anything, has at most l letters
 

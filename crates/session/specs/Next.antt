@@ -1,5 +1,5 @@
 -- One line of a session at a time. The headline theorem says that these lines, one after another, are those of Session.
-use Prim.Native.Nat.{ℕ, zero, suc, _+_, _≤_}
+use Prim.Native.Nat.{ℕ, _+_, _≤_}
 use mathlib.Core.Path.{_≡_}
 use mathlib.Core.Bool.{cond, _&&_}
 use mathlib.Core.Option.{Option, none, some}
@@ -10,37 +10,14 @@ use Rattle.format.specs.declared.Refusal.{Refusal}
 use Rattle.format.specs.declared.Refusal.the-variants.{State}
 use Rattle.format.specs.declared.StateCause.the-variants.{DestinationShort}
 use Rattle.format.specs.Line.{lineText}
-use Rattle.machine.specs.declared.Run.{Run}
-use Rattle.machine.specs.declared.Answer.{Answer}
-use Rattle.machine.specs.declared.Answer.the-variants.{Found, Paused, Ended, Refused}
-use Rattle.machine.specs.Reading.{Outcome, outcome}
+use Rattle.machine.specs.declared.Answer.the-variants.{Ended, Refused}
+use Rattle.caller.specs.Heard.{Heard, heard}
 use Rattle.replies.specs.Lines.{readingLine, endLine, limitLine, refusalLine, storedLine}
 use Rattle.session.specs.declared.Talk.{Talk}
-use Rattle.session.specs.declared.Said.{Said}
-use Rattle.session.specs.declared.Said.the-variants as S
+use Rattle.caller.specs.declared.Said.{Said}
+use Rattle.caller.specs.declared.Said.the-variants as S
 use Rattle.session.specs.declared.Lined.{Lined}
 use Rattle.session.specs.declared.Lined.the-variants as L
-
--- Calls until one is not Paused or none is left.
-
--- what they come to, with the stack and the output buffer as they leave them
-pub record Heard : Type 0 where
-  pub said : Said
-  pub stack : List ℕ
-  pub output : List ℕ
-
--- a call's answer, with the calls left after it; k says how they go on
-abbrev pub heardBy : Answer → Outcome → ℕ → (Run → List ℕ → List ℕ → Heard) → Heard
-heardBy (Found steps n) o calls k = record { said = S.Reading n (o .called .run) calls; stack = o .stack; output = o .output }
-heardBy (Paused steps) o calls k = k (o .called .run) (o .stack) (o .output)
-heardBy (Ended steps) o calls k = record { said = S.Ended; stack = o .stack; output = o .output }
-heardBy (Refused steps r) o calls k = record { said = S.Refused r; stack = o .stack; output = o .output }
-
-unfoldable pub heard : (cells upper lower : List ℕ) → ℕ → Run → List ℕ → List ℕ → Heard
-heard cells upper lower zero run stack output = record { said = S.Spent; stack = stack; output = output }
-heard cells upper lower (suc calls) run stack output =
-    heardBy (outcome cells upper lower run stack 1000 output .called .answer) (outcome cells upper lower run stack 1000 output) calls
-    (λ r s o. heard cells upper lower calls r s o)
 
 -- The next line.
 

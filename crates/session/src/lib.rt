@@ -1,5 +1,4 @@
 // A session: a table and one query in, readings out, one line at a time. Nothing here reads or writes but what it is lent.
-mod caller;
 pub mod opener;
 pub mod speaker;
 
@@ -14,14 +13,6 @@ pub enum Opening {
         talk: Talk,
     },
     Refused(Refusal),
-}
-
-// What calls for a reading come to: a reading of so many letters with the calls left, the end, a refusal, or no call left.
-pub enum Said {
-    Reading { length: u32, run: Run, calls: u32 },
-    Ended,
-    Refused(Refusal),
-    Spent,
 }
 
 // Where a session stands between two lines: its run, the readings told and the calls left.

@@ -1,8 +1,7 @@
 // The lines of a session that is open, one a call.
 use crate::Lined;
-use crate::Said;
 use crate::Talk;
-use crate::caller;
+use caller::Said;
 use format::Refusal;
 use format::StateCause;
 ghost use mathlib.Core.Path.{_≡_};

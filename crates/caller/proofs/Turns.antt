@@ -10,9 +10,9 @@ use Rattle.machine.specs.declared.Answer.{Answer}
 use Rattle.machine.specs.declared.Answer.the-variants.{Found, Paused, Ended, Refused}
 use Rattle.machine.specs.declared.Called.{Called}
 use Rattle.machine.specs.Reading.{Outcome, outcome}
-use Rattle.session.specs.declared.Said.{Said}
-use Rattle.session.specs.declared.Said.the-variants as S
-use Rattle.session.specs.Next.{Heard, heardBy, heard}
+use Rattle.caller.specs.declared.Said.{Said}
+use Rattle.caller.specs.declared.Said.the-variants as S
+use Rattle.caller.specs.Heard.{Heard, heardBy, heard}
 
 -- what was said, and the stack and the output buffer
 abbrev pub HeardIs : Heard → Said → List ℕ → List ℕ → Type 0

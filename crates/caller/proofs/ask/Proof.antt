@@ -2,10 +2,10 @@
 use native.Mathlib.Omega.{arith}
 use denote.Ref.{now}
 use borrow.Author.Needs.{needs}
-use Rattle.session.specs.Next.{heard}
-use Rattle.session.proofs.Turns.{Asking, asking-first, spent, asking-found, asking-ended, asking-refused, asking-paused}
-use Rattle.session.proofs.caller.ask.Statement.{statement}
-use Rattle.session.proofs.caller.ask.Tie as tie
+use Rattle.caller.specs.Heard.{heard}
+use Rattle.caller.proofs.Turns.{Asking, asking-first, spent, asking-found, asking-ended, asking-refused, asking-paused}
+use Rattle.caller.proofs.ask.Statement.{statement}
+use Rattle.caller.proofs.ask.Tie as tie
 
 abbrev Inv-loop : tie.InvT-loop
 Inv-loop table upper lower calls stack₀ output₀ left₀ at₀ stack output left at = Asking table upper lower (heard table upper lower calls at₀ stack₀ output₀) stack₀ output₀ left at stack output

@@ -1,10 +1,18 @@
 // Calls for a reading, one after the other.
-use crate::Said;
 use engine::advance;
+use format::Refusal;
 use machine::Answer;
 use machine::Run;
 ghost use mathlib.Core.Path.{_≡_};
-ghost use Rattle.session.specs.Next.{heard};
+ghost use Rattle.caller.specs.Heard.{heard};
+
+// What calls for a reading come to: a reading of so many letters with the calls left, the end, a refusal, or no call left.
+pub enum Said {
+    Reading { length: u32, run: Run, calls: u32 },
+    Ended,
+    Refused(Refusal),
+    Spent,
+}
 
 // Calls until one is not Paused or none is left.
 pub fn ask(
