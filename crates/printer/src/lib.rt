@@ -1,7 +1,7 @@
-// The lines of a table written as text: numbers, each kind of line, and the lines of a list.
+// Bytes written as lines of text: the line of any bytes, each kind of line of a table, and the lines of a list.
 ghost use mathlib.Core.Path.{_≡_};
-ghost use mathlib.Core.List.{[], _∷_, map};
-ghost use Prim.Native.Nat.{ℕ, _+_, _*_, _/_, _≤_, _<_};
+ghost use mathlib.Core.List.{_∷_, map};
+ghost use Prim.Native.Nat.{ℕ, _+_, _*_, _/_, _%_, _≤_, _<_};
 ghost use lib.ListN.{length, getD};
 ghost use lib.Seq.{sets};
 ghost use Rattle.format.specs.Loaded.{countsIn};
@@ -9,23 +9,45 @@ ghost use Rattle.format.specs.Line.{charsOf, lineText};
 ghost use Rattle.format.specs.Text.{number, headerBytes, arcBytes, joinLines};
 ghost use Rattle.format.specs.Cells.{arcAs, arcsAs, Whole};
 
-// The two digits of a byte, at a place of the text.
-fn put_byte(text: &mut [u8], at: usize, b: u8)
-    requires { ⌜ at + 2 ≤ length (now text) ⌝ }
-    ensures { λ _. ⌜ now (text .exit) ≡ sets (now (text .entry)) at (charsOf (b ∷ [])) ⌝ }
+// The high byte of a number of two bytes.
+pub fn high(n: u16) -> u8
+    ensures { λ r. ⌜ r ≡ n / 256 ⌝ }
 {
-    let digits = hex::encode(b);
-    text[at] = digits.high;
-    text[at + 1] = digits.low;
+    (n / 256) as u8
 }
 
-// A number of two bytes, high byte first.
-fn put_number(text: &mut [u8], at: usize, n: u16)
-    requires { ⌜ at + 4 ≤ length (now text) ⌝ }
-    ensures { λ _. ⌜ now (text .exit) ≡ sets (now (text .entry)) at (charsOf (number n)) ⌝ }
+pub fn low(n: u16) -> u8
+    ensures { λ r. ⌜ r ≡ n % 256 ⌝ }
 {
-    put_byte(text, at, (n / 256) as u8);
-    put_byte(text, at + 2, (n % 256) as u8);
+    (n % 256) as u8
+}
+
+// The two digits of each byte, from a place of the text on.
+pub fn put_bytes(text: &mut [u8], at: usize, bytes: &[u8])
+    requires { ⌜ at + 2 * length (now bytes) ≤ length (now text) ⌝ }
+    ensures { λ _. ⌜ now (text .exit) ≡ sets (now (text .entry)) at (charsOf (now (bytes .entry))) ⌝ }
+{
+    let mut to = at;
+    let mut k = 0;
+    while k < bytes.len() {
+        let digits = hex::encode(bytes[k]);
+        text[to] = digits.high;
+        text[to + 1] = digits.low;
+        to += 2;
+        k += 1;
+    }
+}
+
+// The line of some bytes, from a place of the text on, and the place after it.
+pub fn put_line(text: &mut [u8], at: usize, bytes: &[u8]) -> usize
+    requires { ⌜ at + 2 * length (now bytes) + 1 ≤ length (now text) ⌝ }
+    ensures { λ r. ⌜ (r ≡ at + 2 * length (now (bytes .entry)) + 1) × (now (text .exit) ≡ sets (now (text .entry)) at (lineText (now (bytes .entry)))) ⌝ }
+{
+    let end = at + 2 * bytes.len();
+    let after = end + 1;
+    put_bytes(text, at, bytes);
+    text[end] = 10;
+    after
 }
 
 // The header line, which opens the text.
@@ -33,12 +55,25 @@ pub fn header_line(text: &mut [u8], cells: &[u16])
     requires { ⌜ (19 ≤ length (now text)) × (4 ≤ length (now cells)) ⌝ }
     ensures { λ _. ⌜ now (text .exit) ≡ sets (now (text .entry)) 0 (lineText (headerBytes (countsIn (now (cells .entry))))) ⌝ }
 {
-    put_byte(text, 0, 1);
-    put_number(text, 2, cells[0]);
-    put_number(text, 6, cells[1]);
-    put_number(text, 10, cells[2]);
-    put_number(text, 14, cells[3]);
-    text[18] = 10;
+    let states = cells[0];
+    let initials = cells[1];
+    let terminals = cells[2];
+    let arcs = cells[3];
+    put_line(
+        text,
+        0,
+        &[
+            1,
+            high(states),
+            low(states),
+            high(initials),
+            low(initials),
+            high(terminals),
+            low(terminals),
+            high(arcs),
+            low(arcs),
+        ],
+    );
 }
 
 // A line of a kind and one number: an initial state, a terminal state, the end.
@@ -46,9 +81,7 @@ pub fn number_line(text: &mut [u8], at: usize, kind: u8, n: u16)
     requires { ⌜ at + 7 ≤ length (now text) ⌝ }
     ensures { λ _. ⌜ now (text .exit) ≡ sets (now (text .entry)) at (lineText (kind ∷ number n)) ⌝ }
 {
-    put_byte(text, at, kind);
-    put_number(text, at + 2, n);
-    text[at + 6] = 10;
+    put_line(text, at, &[kind, high(n), low(n)]);
 }
 
 // An arc's line.
@@ -56,12 +89,19 @@ fn arc_line(text: &mut [u8], at: usize, source: u16, upper: u16, lower: u16, tar
     requires { ⌜ (at + 15 ≤ length (now text)) × ((upper < 256) × (lower < 256)) ⌝ }
     ensures { λ _. ⌜ now (text .exit) ≡ sets (now (text .entry)) at (lineText (arcBytes (arcAs source upper lower target))) ⌝ }
 {
-    put_byte(text, at, 4);
-    put_number(text, at + 2, source);
-    put_byte(text, at + 6, upper as u8);
-    put_byte(text, at + 8, lower as u8);
-    put_number(text, at + 10, target);
-    text[at + 14] = 10;
+    put_line(
+        text,
+        at,
+        &[
+            4,
+            high(source),
+            low(source),
+            upper as u8,
+            lower as u8,
+            high(target),
+            low(target),
+        ],
+    );
 }
 
 // The lines of a list of states, and the place after them.

@@ -1,72 +1,51 @@
--- The six parts of an arc's line, one after the other.
-use lib.ListN.{length-set}
-use native.Mathlib.Omega.{arith}
+-- A kind, the two bytes of a state, two letters, and the two bytes of a state.
+use mathlib.Core.List.{[], _∷_}
 use borrow.Author.Needs.{needs}
-use Rattle.printer.proofs.Lines.{arc-line-stored}
+use Rattle.printer.proofs.Lines.{line-as}
 use Rattle.printer.proofs.arc_line.Statement.{statement}
 use Rattle.printer.proofs.arc_line.Tie as tie
 
-put-byte-requires : tie.Need-put-byte-requires
-put-byte-requires c κs = search needs
+high-requires : tie.Need-high-requires
+high-requires c κs = search needs
 
-add-put-number : tie.Need-add-put-number
-add-put-number c = search needs
+low-requires : tie.Need-low-requires
+low-requires c κs = search needs
 
-put-number-requires : tie.Need-put-number-requires
-put-number-requires c κs = search needs
+cast-t13 : tie.Need-cast-t13
+cast-t13 c = search needs
 
-add-put-byte : tie.Need-add-put-byte
-add-put-byte c = search needs
+cast-t14 : tie.Need-cast-t14
+cast-t14 c = search needs
 
-cast-put-byte : tie.Need-cast-put-byte
-cast-put-byte c = search needs
+high-requires-2 : tie.Need-high-requires-2
+high-requires-2 c κs = search needs
 
-put-byte-requires-2 : tie.Need-put-byte-requires-2
-put-byte-requires-2 c κs = search needs
+low-requires-2 : tie.Need-low-requires-2
+low-requires-2 c κs = search needs
 
-add-put-byte-2 : tie.Need-add-put-byte-2
-add-put-byte-2 c = search needs
+slice-aggregate-put-line : tie.Need-slice-aggregate-put-line
+slice-aggregate-put-line c = search needs
 
-cast-put-byte-2 : tie.Need-cast-put-byte-2
-cast-put-byte-2 c = search needs
-
-put-byte-requires-3 : tie.Need-put-byte-requires-3
-put-byte-requires-3 c κs = search needs
-
-add-put-number-2 : tie.Need-add-put-number-2
-add-put-number-2 c = search needs
-
-put-number-requires-2 : tie.Need-put-number-requires-2
-put-number-requires-2 c κs = search needs
-
-add-text : tie.Need-add-text
-add-text c = search needs
-
-slice-write-text : tie.Need-slice-write-text
-slice-write-text c = search needs
+put-line-requires : tie.Need-put-line-requires
+put-line-requires c κs = search needs
 
 same-length : tie.Need-same-length
-same-length c = simp length-set (omega arith)
+same-length c = search needs
 
 returns : tie.Need-returns
-returns c = arc-line-stored _ _ _ _ _ _ _ _ (c .before .before .before .before .before .before .before .before .before .before .before .before .before .before .before .before .before .before .put-byte .ensures) (c .before .before .before .before .before .before .before .before .before .before .before .before .before .before .put-number .ensures) (c .before .before .before .before .before .before .before .before .before .before .put-byte2 .ensures) (c .before .before .before .before .before .before .put-byte3 .ensures) (c .before .before .put-number2 .ensures)
+returns c = line-as _ _ _ _ _ (λ i. 4 ∷ c .before .before .before .before .before .before .before .high .ensures i ∷ c .before .before .before .before .before .before .low .ensures i ∷ c .before .before .before .before .before .before .before .before .before .before .args .upper ∷ c .before .before .before .before .before .before .before .before .before .before .args .lower ∷ c .before .before .before .before .before .high2 .ensures i ∷ c .before .before .before .before .low2 .ensures i ∷ []) (c .before .before .put-line .ensures .1)
 
 pub arc-line-spec : {M : Type 1} → statement M
 arc-line-spec =
     tie.close
     (tie.spec
-    put-byte-requires
-    add-put-number
-    put-number-requires
-    add-put-byte
-    cast-put-byte
-    put-byte-requires-2
-    add-put-byte-2
-    cast-put-byte-2
-    put-byte-requires-3
-    add-put-number-2
-    put-number-requires-2
-    add-text
-    slice-write-text
+    high-requires
+    low-requires
+    cast-t13
+    cast-t14
+    high-requires-2
+    low-requires-2
+    slice-aggregate-put-line
+    put-line-requires
     same-length
     returns)

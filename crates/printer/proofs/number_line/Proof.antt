@@ -1,40 +1,35 @@
--- A byte, a number and the line feed, one after the other.
-use lib.ListN.{length-set}
-use native.Mathlib.Omega.{arith}
+-- A kind and the two bytes of a number.
+use mathlib.Core.List.{[], _∷_}
 use borrow.Author.Needs.{needs}
-use Rattle.printer.proofs.Lines.{number-line-stored}
+use Rattle.printer.proofs.Lines.{line-as}
 use Rattle.printer.proofs.number_line.Statement.{statement}
 use Rattle.printer.proofs.number_line.Tie as tie
 
-put-byte-requires : tie.Need-put-byte-requires
-put-byte-requires c κs = search needs
+high-requires : tie.Need-high-requires
+high-requires c κs = search needs
 
-add-put-number : tie.Need-add-put-number
-add-put-number c = search needs
+low-requires : tie.Need-low-requires
+low-requires c κs = search needs
 
-put-number-requires : tie.Need-put-number-requires
-put-number-requires c κs = search needs
+slice-aggregate-put-line : tie.Need-slice-aggregate-put-line
+slice-aggregate-put-line c = search needs
 
-add-text : tie.Need-add-text
-add-text c = search needs
-
-slice-write-text : tie.Need-slice-write-text
-slice-write-text c = search needs
+put-line-requires : tie.Need-put-line-requires
+put-line-requires c κs = search needs
 
 same-length : tie.Need-same-length
-same-length c = simp length-set (omega arith)
+same-length c = search needs
 
 returns : tie.Need-returns
-returns c = number-line-stored _ _ _ _ _ _ (c .before .before .before .before .before .before .put-byte .ensures) (c .before .before .put-number .ensures)
+returns c = line-as _ _ _ _ _ (λ i. c .before .before .before .before .before .before .before .before .args .kind ∷ c .before .before .before .before .before .high .ensures i ∷ c .before .before .before .before .low .ensures i ∷ []) (c .before .before .put-line .ensures .1)
 
 pub number-line-spec : {M : Type 1} → statement M
 number-line-spec =
     tie.close
     (tie.spec
-    put-byte-requires
-    add-put-number
-    put-number-requires
-    add-text
-    slice-write-text
+    high-requires
+    low-requires
+    slice-aggregate-put-line
+    put-line-requires
     same-length
     returns)

@@ -1,50 +1,25 @@
--- Some bytes, others, and the line feed, one after the other.
-use mathlib.Core.Path.{refl}
-use lib.ListN.{length-set}
-use borrow.Author.Needs.{needs}
-use native.Mathlib.Omega.{arith}
+-- Some bytes, then the line of others.
 use denote.Ref.{now}
+use borrow.Author.Needs.{needs}
 use Rattle.replies.proofs.Lines.{line-stored}
 use Rattle.replies.proofs.put_line.Statement.{statement}
 use Rattle.replies.proofs.put_line.Tie as tie
 
-mul-from : tie.Need-mul-from
-mul-from c = search needs
-
-mul-end : tie.Need-mul-end
-mul-end c = search needs
-
-add-end : tie.Need-add-end
-add-end c = search needs
-
 put-bytes-requires : tie.Need-put-bytes-requires
 put-bytes-requires c κs = search needs
 
-put-bytes-requires-2 : tie.Need-put-bytes-requires-2
-put-bytes-requires-2 c κs = search needs
+mul-put-line : tie.Need-mul-put-line
+mul-put-line c = search needs
 
-slice-write-text : tie.Need-slice-write-text
-slice-write-text c = search needs
-
-add-result : tie.Need-add-result
-add-result c = search needs
+put-line-requires : tie.Need-put-line-requires
+put-line-requires c κs = search needs
 
 same-length : tie.Need-same-length
-same-length c = simp length-set (omega arith)
+same-length c = search needs
 
 returns : tie.Need-returns
-returns c = line-stored (now (c .before .before .before .before .before .before .before .before .before .before .before .args .text)) _ _ (now (c .before .before .before .before .before .before .before .before .before .before .before .args .head)) (now (c .before .before .before .before .before .before .before .before .before .before .before .args .tail)) _ _ (c .before .before .before .before .before .before .before .before .before .before .before .pre) refl refl (c .before .before .before .before .before .before .put-bytes .ensures) (c .before .before .put-bytes2 .ensures)
+returns c = line-stored _ _ _ (now (c .before .before .before .before .before .before .before .before .before .before .before .args .head)) (now (c .before .before .before .before .before .before .before .before .before .before .before .args .tail)) _ (c .before .before .before .before .before .before .before .before .before .before .before .pre) (c .before .before .before .before .before .before .put-bytes .ensures) (c .before .before .put-line .ensures .0) (c .before .before .put-line .ensures .1)
 
 pub put-line-spec : {M : Type 1} → statement M
 put-line-spec =
-    tie.close
-    (tie.spec
-    mul-from
-    mul-end
-    add-end
-    put-bytes-requires
-    put-bytes-requires-2
-    slice-write-text
-    add-result
-    same-length
-    returns)
+    tie.close (tie.spec put-bytes-requires mul-put-line put-line-requires same-length returns)

@@ -7,9 +7,9 @@ use lib.ListN.{length, drop, length-set}
 use lib.Seq.{sets}
 use borrow.Author.Needs.{needs}
 use Rattle.format.specs.Line.{charsOf}
-use Rattle.replies.proofs.Lines.{bytes-turn, bytes-end}
-use Rattle.replies.proofs.put_bytes.Statement.{statement}
-use Rattle.replies.proofs.put_bytes.Tie as tie
+use Rattle.printer.proofs.Lines.{bytes-turn, bytes-end}
+use Rattle.printer.proofs.put_bytes.Statement.{statement}
+use Rattle.printer.proofs.put_bytes.Tie as tie
 
 abbrev Inv-loop : tie.InvT-loop
 Inv-loop text₀ at bytes to₀ k₀ text to k =
