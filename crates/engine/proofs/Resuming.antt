@@ -25,10 +25,10 @@ use Rattle.machine.specs.Stack.{store}
 use Rattle.machine.specs.Asked.{Asked, turned, asked}
 use Rattle.machine.specs.Reading.{Outcome, heldOf, outcomeAs, outcomeOf, outcome}
 use Rattle.frames.specs.declared.Setup.{Setup}
-use Rattle.step.specs.Setting.{taskBy, queryBy, tableBy, machineBy, Ready}
+use Rattle.step.specs.Setting.{taskBy, queryBy, tableBy, machineBy, Prepared}
 use Rattle.search.specs.Searching.{calledWith, SearchIs}
 use Rattle.admission.proofs.Words.{Asks}
-use Rattle.engine.specs.Advancing.{OutcomeIs, Passed}
+use Rattle.engine.specs.Advancing.{OutcomeIs, Admitted}
 
 -- 20, 11 and 10 leave all as it was
 pub turned-outcome : (cells upper lower : List ℕ) (run : Run) (stack : List ℕ) (n : ℕ) (buffer : List ℕ) (r : Refusal) → asked cells (run .task) upper lower ≡ turned r
@@ -47,7 +47,7 @@ some-flag recognition = refl
 some-flag synthesis = refl
 some-flag analysis = refl
 
-module _ (cells upper lower first : List ℕ) (run : Run) (P : Passed cells (run .task) upper lower first) (l : Layout) (E : l ≡ layoutOf (countsIn cells))
+module _ (cells upper lower first : List ℕ) (run : Run) (P : Admitted cells (run .task) upper lower first) (l : Layout) (E : l ≡ layoutOf (countsIn cells))
     (u v : Bool) (U : (k : Task) → taskOf (run .task) ≡ some k → u ≡ reads k upperSide) (Z : (k : Task) → taskOf (run .task) ≡ some k → v ≡ reads k lowerSide) where
   H : Holding cells
   H = holding cells (P .loads)
@@ -88,8 +88,8 @@ module _ (cells upper lower first : List ℕ) (run : Run) (P : Passed cells (run
   query-is =
       ap (λ (k : Task). record { task = k; upperWord = upper; lowerWord = lower }) (ap₂ taskBy (U (P .asks) (P .task-is)) (Z (P .asks) (P .task-is)) ∙ by-flags (P .asks))
 
-  pub ready : Ready setup first initials terminals arcs
-  ready =
+  pub prepared : Prepared setup first initials terminals arcs
+  prepared =
       record {
         keeps = subst (λ (t : Table). keepsRules t ≡ true) (sym table-is) (H .keeps);
         whole = arcs-whole cells l L;
@@ -111,7 +111,7 @@ module _ (cells upper lower first : List ℕ) (run : Run) (P : Passed cells (run
   call-outcome stack n buffer r c o S = subst (λ (x : Outcome). OutcomeIs x r c o) (outcome-is stack n buffer) S
 
 -- what the table check and the query tell
-pub passed-by : (cells : List ℕ) (task : ℕ) (upper lower first : List ℕ) → Asks cells task upper lower → first ≡ checked cells .first → Passed cells task upper lower first
+pub admitted-by : (cells : List ℕ) (task : ℕ) (upper lower first : List ℕ) → Asks cells task upper lower → first ≡ checked cells .first → Admitted cells task upper lower first
 unfolding checked
-passed-by cells task upper lower first Q e =
+admitted-by cells task upper lower first Q e =
     record { asks = Q .asks; task-is = Q .task-is; loads = Q .loads; runs-is = Q .runs-is; index = e ∙ ap (λ (o : Option Table). checkedAs (layoutOf (countsIn cells)) o .first) (Q .loads) }

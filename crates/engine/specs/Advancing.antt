@@ -15,7 +15,7 @@ abbrev pub OutcomeIs : Outcome → Called → List ℕ → List ℕ → Type 0
 OutcomeIs x r e o = (r ≡ x .called) × (e ≡ x .stack) × (o ≡ x .output)
 
 -- none of 20, 11 and 10 is given, and `first` is the table's first-arc index
-pub record Passed (cells : List ℕ) (task : ℕ) (upper lower first : List ℕ) : Type 0 where
+pub record Admitted (cells : List ℕ) (task : ℕ) (upper lower first : List ℕ) : Type 0 where
   pub asks : Task
   pub task-is : taskOf task ≡ some asks
   pub loads : loaded cells ≡ some (tableIn cells)

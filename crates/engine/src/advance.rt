@@ -9,7 +9,7 @@ ghost use mathlib.Core.Path.{_≡_};
 ghost use Rattle.format.specs.Loaded.{countsIn};
 ghost use Rattle.table.specs.Calls.{layoutOf};
 ghost use Rattle.machine.specs.Reading.{outcome};
-ghost use Rattle.engine.specs.Advancing.{OutcomeIs, Passed};
+ghost use Rattle.engine.specs.Advancing.{OutcomeIs, Admitted};
 
 // 21, then the steps, where 20, 11 and 10 are not given.
 fn resume(
@@ -23,7 +23,7 @@ fn resume(
     allowance: u32,
     output: &mut [u8],
 ) -> Called
-    requires { ⌜ Passed (now table) (run .task) (now upper) (now lower) (now first) ⌝ }
+    requires { ⌜ Admitted (now table) (run .task) (now upper) (now lower) (now first) ⌝ }
     requires { ⌜ at ≡ layoutOf (countsIn (now table)) ⌝ }
     ensures { λ r. ⌜ OutcomeIs (outcome (now (table .entry)) (now (upper .entry)) (now (lower .entry)) run (now (stack .entry)) allowance (now (output .entry))) r (now (stack .exit)) (now (output .exit)) ⌝ }
 {

@@ -1,5 +1,7 @@
-// What a table, its cells and its text are, as definitions with their laws. The only code tells the number of a refusal.
+// What a table, its cells and its text are, as definitions with their laws. The only code tells the number of a refusal and widens a
+// cell.
 ghost use mathlib.Core.Path.{_≡_};
+ghost use Prim.Native.Nat.{_<_};
 ghost use Rattle.format.specs.Refusal.{inputNumber, stateNumber, numberOf};
 
 // Why an input is turned down, document 01's 1 to 12.
@@ -71,4 +73,18 @@ pub fn number(refusal: Refusal) -> u8
         Refusal::Input(cause) => input_number(cause),
         Refusal::State(cause) => state_number(cause),
     }
+}
+
+// A cell as an index.
+pub fn wide(cell: u16) -> usize
+    ensures { λ r. ⌜ (r ≡ cell) × (r < 65536) ⌝ }
+{
+    cell as usize
+}
+
+// A cell as a count.
+pub fn longer(cell: u16) -> u32
+    ensures { λ r. ⌜ r ≡ cell ⌝ }
+{
+    cell as u32
 }

@@ -14,13 +14,6 @@ pub struct Cycle {
     pub length: u32,
 }
 
-// A cell as an index.
-fn wide(x: u16) -> usize
-    ensures { λ r. ⌜ r ≡ x ⌝ }
-{
-    x as usize
-}
-
 // A letter passes nothing that is read.
 fn side_idle(read: bool, letter: u16) -> bool
     ensures { λ r. ⌜ r ≡ sideIdle read letter ⌝ }
@@ -38,7 +31,7 @@ fn leads(arcs: &[u16], n: usize, upper: bool, lower: bool, alive: &[u8]) -> bool
 {
     if side_idle(upper, arcs[4 * n + 1]) {
         if side_idle(lower, arcs[4 * n + 2]) {
-            let target = wide(arcs[4 * n + 3]);
+            let target = format::wide(arcs[4 * n + 3]);
             return alive[target] == 1;
         }
     }
@@ -51,8 +44,8 @@ fn next(arcs: &[u16], first: &[u16], q: usize, upper: bool, lower: bool, alive: 
     requires { ⌜ q < length (now alive) ⌝ }
     ensures { λ r. ⌜ Next (now (arcs .entry)) upper lower (now (alive .entry)) q r ⌝ }
 {
-    let end = wide(first[q + 1]);
-    let mut n = wide(first[q]);
+    let end = format::wide(first[q + 1]);
+    let mut n = format::wide(first[q]);
     while n < end {
         if leads(arcs, n, upper, lower, alive) {
             return arcs[4 * n + 3];
@@ -137,13 +130,13 @@ fn walk(arcs: &[u16], first: &[u16], upper: bool, lower: bool, alive: &[u8], sta
     let mut s = start;
     let mut at: u16 = 0;
     while at == 0 {
-        order[wide(n)] = s;
+        order[format::wide(n)] = s;
         n += 1;
-        place[wide(s)] = n;
-        s = next(arcs, first, wide(s), upper, lower, alive);
-        at = place[wide(s)];
+        place[format::wide(s)] = n;
+        s = next(arcs, first, format::wide(s), upper, lower, alive);
+        at = place[format::wide(s)];
     }
-    part(&order, wide(at) - 1, wide(n))
+    part(&order, format::wide(at) - 1, format::wide(n))
 }
 
 // The states of an idle cycle among the arcs of a table, where all states live at first.

@@ -1,5 +1,8 @@
 // The types of a search for readings. What they mean is in specs/.
 
+// At most 33,024 frames of a stack are used.
+pub const MOST_FRAMES: u32 = 33024;
+
 // The caller's record of a search: its task, how many initial states are started, how many frames are in use.
 #[repr(C)]
 pub struct Run {

@@ -33,12 +33,6 @@ pub enum Read {
     Fault(InputCause),
 }
 
-fn wide(x: u16) -> usize
-    ensures { λ r. ⌜ (r ≡ x) × (r < 65536) ⌝ }
-{
-    x as usize
-}
-
 fn letter(b: u8) -> u16
     ensures { λ r. ⌜ r ≡ b ⌝ }
 {
@@ -50,15 +44,15 @@ fn kind_due(cells: &[u16], lines: usize) -> u8
     requires { ⌜ 4 ≤ length (now cells) ⌝ }
     ensures { λ r. ⌜ r ≡ kindAfter (countsIn (now (cells .entry))) lines ⌝ }
 {
-    let initials = wide(cells[1]);
+    let initials = format::wide(cells[1]);
     if lines <= initials {
         return 2;
     }
-    let terminals = initials + wide(cells[2]);
+    let terminals = initials + format::wide(cells[2]);
     if lines <= terminals {
         return 3;
     }
-    if lines <= terminals + wide(cells[3]) {
+    if lines <= terminals + format::wide(cells[3]) {
         return 4;
     }
     5
@@ -101,7 +95,7 @@ fn item_fault(
         if count != 7 {
             return Judged::Broken(InputCause::Misplaced);
         }
-        let from = 4 + wide(cells[1]) + wide(cells[2]);
+        let from = 4 + format::wide(cells[1]) + format::wide(cells[2]);
         return arc_item(&cells[from..filled], cells[0], bytes, top);
     }
     if count != 3 {
@@ -112,10 +106,10 @@ fn item_fault(
         return judge::initial_fault(&cells[4..filled], cells[0], number, top);
     }
     if kind == 3 {
-        let from = 4 + wide(cells[1]);
+        let from = 4 + format::wide(cells[1]);
         return judge::terminal_fault(&cells[from..filled], cells[0], number);
     }
-    if wide(number) == lines {
+    if format::wide(number) == lines {
         Judged::Kept
     } else {
         Judged::Broken(InputCause::LineCount)

@@ -29,7 +29,7 @@ use Rattle.frames.specs.declared.Frame.{Frame}
 use Rattle.frames.specs.declared.Fit.the-variants.{Fits, Fails}
 use Rattle.frames.specs.Frames.{frameOf}
 use Rattle.frames.specs.Sides.{fitOf, arcOf, passedOf, followBy}
-use Rattle.step.specs.Setting.{queryBy, tableBy, machineBy, held, Ready, InBounds}
+use Rattle.step.specs.Setting.{queryBy, tableBy, machineBy, held, Prepared, InBounds}
 use Rattle.place.specs.Place.{nextBy, bottomBy, linkBy, Linkable}
 use Rattle.step.proofs.Moves.{pred-suc, follow-is}
 use Rattle.step.proofs.Bounds.{rules, first-length, first-at, bounds-of}
@@ -96,7 +96,7 @@ module _ (s : Setup) (first arcs upper lower : List ℕ) (g f : Frame) where
       → eqb y (f .low) ≡ linkBy s first arcs upper lower g f
   link-low x y t l e h = holds-first tried (led && fits) _ (lt-ltb _ _ t) (holds-first led fits _ (eq-eqb _ _ l) (low-decides made x y (f .up) (f .low) e h))
 
-module _ (s : Setup) (first initials terminals arcs upper lower : List ℕ) (R : Ready s first initials terminals arcs) where
+module _ (s : Setup) (first initials terminals arcs upper lower : List ℕ) (R : Prepared s first initials terminals arcs) where
   abbrev t : Table
   t = tableBy s initials terminals arcs
 

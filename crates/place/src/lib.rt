@@ -14,7 +14,7 @@ ghost use Rattle.machine.specs.Frames.{framesOf, chainHolds, placeHolds};
 ghost use Rattle.machine.specs.Stack.{framesIn, lookAt, store};
 ghost use Rattle.machine.specs.Reading.{heldOf};
 ghost use Rattle.frames.specs.Frames.{frameOf};
-ghost use Rattle.step.specs.Setting.{machineBy, Ready};
+ghost use Rattle.step.specs.Setting.{machineBy, Prepared};
 ghost use Rattle.place.specs.Place.{nextBy, bottomBy, linkBy, Linkable};
 
 // A next arc inside its state's arcs; one past the last is allowed.
@@ -23,10 +23,10 @@ fn next_holds(first: &[u16], state: u32, next: u32) -> bool
     ensures { λ r. ⌜ r ≡ nextBy (now (first .entry)) state next ⌝ }
 {
     let at = state as usize;
-    if next < step::longer(first[at]) {
+    if next < format::longer(first[at]) {
         return false;
     }
-    next <= step::longer(first[at + 1])
+    next <= format::longer(first[at + 1])
 }
 
 // The bottom frame is the last started state with nothing passed.
@@ -35,7 +35,7 @@ fn bottom_holds(initials: &[u16], started: u32, f: Frame) -> bool
     ensures { λ r. ⌜ r ≡ bottomBy (now (initials .entry)) started f ⌝ }
 {
     let i = started as usize - 1;
-    if f.state != step::longer(initials[i]) {
+    if f.state != format::longer(initials[i]) {
         return false;
     }
     if 0 != f.up {
@@ -62,7 +62,7 @@ fn link_holds(
 {
     let state = g.state as usize;
     let next = g.next;
-    if next <= step::longer(first[state]) {
+    if next <= format::longer(first[state]) {
         return false;
     }
     let n = next as usize - 1;
@@ -70,7 +70,7 @@ fn link_holds(
         Fit::Fails => false,
         Fit::Fits(up, low) => {
             let f = cells::look(stack, i);
-            if f.state != step::longer(arcs[4 * n + 3]) {
+            if f.state != format::longer(arcs[4 * n + 3]) {
                 return false;
             }
             if up != f.up {
@@ -93,7 +93,7 @@ fn frames_hold(
     depth: usize,
     stack: &[u32],
 ) -> bool
-    requires { ⌜ ((terminals : List ℕ) × Ready setup (now first) (now initials) terminals (now arcs)) ⌝ }
+    requires { ⌜ ((terminals : List ℕ) × Prepared setup (now first) (now initials) terminals (now arcs)) ⌝ }
     requires { ⌜ (0 < started) × (started ≤ length (now initials)) ⌝ }
     requires { ⌜ (0 < depth) × (depth ≤ framesIn (now stack)) × (depth ≤ 33024) ⌝ }
     ensures { λ r. ⌜ r ≡ chainHolds (machineBy setup (now (initials .entry)) [] (now (arcs .entry)) (now (upper .entry)) (now (lower .entry))) started (framesOf store (now (stack .entry)) (depth - 1)) (lookAt (now (stack .entry)) (depth - 1)) ⌝ }
@@ -132,7 +132,7 @@ pub fn place_holds(
     run: Run,
     stack: &[u32],
 ) -> bool
-    requires { ⌜ ((terminals : List ℕ) × Ready setup (now first) (now initials) terminals (now arcs)) ⌝ }
+    requires { ⌜ ((terminals : List ℕ) × Prepared setup (now first) (now initials) terminals (now arcs)) ⌝ }
     ensures { λ r. ⌜ r ≡ placeHolds (machineBy setup (now (initials .entry)) [] (now (arcs .entry)) (now (upper .entry)) (now (lower .entry))) store (heldOf run (now (stack .entry))) ⌝ }
 {
     let n = run.started;
@@ -140,7 +140,7 @@ pub fn place_holds(
     if initials.len() < n as usize {
         return false;
     }
-    if 33024 < depth {
+    if machine::MOST_FRAMES < depth {
         return false;
     }
     if cells::frames_in(stack) < depth as usize {

@@ -15,7 +15,7 @@ ghost use Rattle.machine.specs.Call.{advance, call};
 ghost use Rattle.machine.specs.Reading.{heldOf};
 ghost use Rattle.machine.specs.Stack.{roomIn, store};
 ghost use Rattle.machine.specs.Place.{Good};
-ghost use Rattle.step.specs.Setting.{machineBy, Ready};
+ghost use Rattle.step.specs.Setting.{machineBy, Prepared};
 ghost use Rattle.search.specs.Searching.{calledWith, SearchIs};
 
 // Depth 0 with no initial state left is the end.
@@ -50,7 +50,7 @@ pub fn refused(steps: u32, refusal: Refusal, run: Run) -> Called
 }
 
 // The steps of a call from a place in a search. The end is looked for before the allowance, the allowance before the next step.
-fn advance(
+fn take_steps(
     setup: Setup,
     first: &[u16],
     initials: &[u16],
@@ -63,7 +63,7 @@ fn advance(
     allowance: u32,
     output: &mut [u8],
 ) -> Called
-    requires { ⌜ Ready setup (now first) (now initials) (now terminals) (now arcs) ⌝ }
+    requires { ⌜ Prepared setup (now first) (now initials) (now terminals) (now arcs) ⌝ }
     requires { ⌜ Good (machineBy setup (now initials) (now terminals) (now arcs) (now upper) (now lower)) store (roomIn (now stack)) (heldOf run (now stack)) ⌝ }
     ensures { λ r. ⌜ SearchIs (run .task) (now (output .entry)) (advance (machineBy setup (now (initials .entry)) (now (terminals .entry)) (now (arcs .entry)) (now (upper .entry)) (now (lower .entry))) store (length (now (output .entry))) allowance (heldOf run (now (stack .entry)))) r (now (stack .exit)) (now (output .exit)) ⌝ }
 {
@@ -114,13 +114,13 @@ pub fn call(
     allowance: u32,
     output: &mut [u8],
 ) -> Called
-    requires { ⌜ Ready setup (now first) (now initials) (now terminals) (now arcs) ⌝ }
+    requires { ⌜ Prepared setup (now first) (now initials) (now terminals) (now arcs) ⌝ }
     ensures { λ r. ⌜ SearchIs (run .task) (now (output .entry)) (call (machineBy setup (now (initials .entry)) (now (terminals .entry)) (now (arcs .entry)) (now (upper .entry)) (now (lower .entry))) store allowance (length (now (output .entry))) (heldOf run (now (stack .entry)))) r (now (stack .exit)) (now (output .exit)) ⌝ }
 {
     if !place::place_holds(setup, first, initials, arcs, upper, lower, run, stack) {
         return refused(0, Refusal::State(StateCause::Place), run);
     }
-    advance(
+    take_steps(
         setup,
         first,
         initials,

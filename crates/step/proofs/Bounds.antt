@@ -24,7 +24,7 @@ use Rattle.machine.proofs.Transducer.{at-mem}
 use Rattle.frames.specs.declared.Setup.{Setup}
 use Rattle.frames.specs.Sides.{arcOf, doneBy, writtenOf}
 use Rattle.frames.specs.Output.{letterIn, letterAt, lettersUpTo, Tried, sideBy, lettersBy}
-use Rattle.step.specs.Setting.{queryBy, tableBy, machineBy, held, Ready, InBounds, Top}
+use Rattle.step.specs.Setting.{queryBy, tableBy, machineBy, held, Prepared, InBounds, Top}
 use Rattle.step.proofs.Moves.{reads-up, reads-low}
 
 -- The counts and words by the flags.
@@ -51,7 +51,7 @@ writes-by true false h arcs m = written-letter (getD arcs (4 * m + 2) 0)
 writes-by false true h arcs m = ap (λ (l : List ℕ). l ++ []) (written-letter (getD arcs (4 * m + 1) 0)) ∙ append-nil (letterIn (getD arcs (4 * m + 1) 0))
 writes-by false false h arcs m = absurd (let z : _≡_ {A = ℕ} 0 1 = cc in omega arith)
 
-module _ (s : Setup) (first initials terminals arcs upper lower : List ℕ) (R : Ready s first initials terminals arcs) where
+module _ (s : Setup) (first initials terminals arcs upper lower : List ℕ) (R : Prepared s first initials terminals arcs) where
   abbrev t : Table
   t = tableBy s initials terminals arcs
 

@@ -34,7 +34,7 @@ use Rattle.step.specs.declared.Turn.the-variants.{Moved, Finds, Stopped}
 use Rattle.frames.specs.Frames.{frameBy}
 use Rattle.frames.specs.Sides.{passedOf, doneBy, writtenOf}
 use Rattle.frames.specs.Output.{Tried, sideBy, lettersBy}
-use Rattle.step.specs.Setting.{queryBy, tableBy, machineBy, held, Ready}
+use Rattle.step.specs.Setting.{queryBy, tableBy, machineBy, held, Prepared}
 use Rattle.step.specs.Stepping.{moveAs, verdictOf, triedBelow, enteredAt, afterPush, pushedCells, pushedOutput, Pushable, runBy, TurnIs}
 use Rattle.step.proofs.Moves.{begins-is, tried-length, entered-length}
 use Rattle.step.proofs.Steps.{effectAs, step-as, push-good, turned-is, enters-are, PathIs, Found, accepts-are}
@@ -58,7 +58,7 @@ turnAs task m d (Accepts k) = Finds (runBy task m d) k
 pub finds-ap : {a b : Run} (k : ℕ) → a ≡ b → Finds a k ≡ Finds b k
 finds-ap k e = ap (λ (r : Run). Finds r k) e
 
-module _ (s : Setup) (first initials terminals arcs upper lower : List ℕ) (R : Ready s first initials terminals arcs) where
+module _ (s : Setup) (first initials terminals arcs upper lower : List ℕ) (R : Prepared s first initials terminals arcs) where
   abbrev t : Table
   t = tableBy s initials terminals arcs
 

@@ -38,7 +38,7 @@ abbrev pub held : ℕ → ℕ → List ℕ → Held (List ℕ)
 held n d c = record { started = n; depth = d; cells = c }
 
 -- the table keeps the rules, its arcs are whole, `first` is its first-arc index, and the task reads a side
-pub record Ready (s : Setup) (first initials terminals arcs : List ℕ) : Type 0 where
+pub record Prepared (s : Setup) (first initials terminals arcs : List ℕ) : Type 0 where
   pub keeps : keepsRules (tableBy s initials terminals arcs) ≡ true
   pub whole : Whole arcs
   pub index : first ≡ firstIndex (s .states) (arcsAs arcs)

@@ -20,7 +20,7 @@ ghost use Rattle.machine.specs.Reading.{heldOf};
 ghost use Rattle.machine.specs.Place.{Good};
 ghost use Rattle.frames.specs.Sides.{passedOf, doneBy, writtenOf};
 ghost use Rattle.frames.specs.Frames.{frameBy};
-ghost use Rattle.step.specs.Setting.{machineBy, held, Ready, Top};
+ghost use Rattle.step.specs.Setting.{machineBy, held, Prepared, Top};
 ghost use Rattle.step.specs.Stepping.{moveAs, verdictOf, verdictBy, refusesBy, findsBy, Pushable, countedCells, pushedCells, pushedOutput, runBy, TurnIs};
 
 // What a step is to do: a frame dropped, an arc tried that does not fit, or a frame pushed, with the run's numbers after it.
@@ -48,20 +48,6 @@ pub enum Turn {
     Moved(Run),
     Finds(Run, u32),
     Stopped(StateCause),
-}
-
-// A cell as an index.
-fn wide(x: u16) -> usize
-    ensures { λ r. ⌜ r ≡ x ⌝ }
-{
-    x as usize
-}
-
-// A cell as a count.
-pub fn longer(x: u16) -> u32
-    ensures { λ r. ⌜ r ≡ x ⌝ }
-{
-    x as u32
 }
 
 // The depth after a push. Every frame below stays, also one with no arcs left: its letter is still needed for the output.
@@ -101,7 +87,7 @@ fn choose(
     let f = cells::look(stack, depth as usize - 1);
     let state = f.state as usize;
     let next = f.next as usize;
-    let end = wide(first[state + 1]);
+    let end = format::wide(first[state + 1]);
     if end <= next {
         return Move::Drops;
     }
@@ -121,7 +107,7 @@ fn choose(
 fn has_room(stack: &[u32], depth: u32) -> bool
     ensures { λ r. ⌜ r ≡ ltb depth (roomIn (now (stack .entry))) ⌝ }
 {
-    if 33024 <= depth {
+    if machine::MOST_FRAMES <= depth {
         return false;
     }
     (depth as usize) < cells::frames_in(stack)
@@ -199,8 +185,8 @@ fn enter(first: &[u16], top: u32, state: u16, up: u32, low: u32, stack: &mut [u3
 {
     let i = state as usize;
     let f = Frame {
-        state: longer(state),
-        next: longer(first[i]),
+        state: format::longer(state),
+        next: format::longer(first[i]),
         up,
         low,
     };
@@ -277,7 +263,7 @@ pub fn step(
     stack: &mut [u32],
     output: &mut [u8],
 ) -> Turn
-    requires { ⌜ Ready setup (now first) (now initials) (now terminals) (now arcs) ⌝ }
+    requires { ⌜ Prepared setup (now first) (now initials) (now terminals) (now arcs) ⌝ }
     requires { ⌜ Good (machineBy setup (now initials) (now terminals) (now arcs) (now upper) (now lower)) store (roomIn (now stack)) (heldOf run (now stack)) ⌝ }
     requires { ⌜ (run .depth ≡ 0 → run .started < length (now initials)) ⌝ }
     ensures { λ r. ⌜ TurnIs (run .task) (step (machineBy setup (now (initials .entry)) (now (terminals .entry)) (now (arcs .entry)) (now (upper .entry)) (now (lower .entry))) store (length (now (output .entry))) (heldOf run (now (stack .entry)))) (now (stack .entry)) (now (output .entry)) r (now (stack .exit)) (now (output .exit)) ⌝ }

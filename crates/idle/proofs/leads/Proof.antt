@@ -57,10 +57,10 @@ wide-requires : tie.Need-wide-requires
 wide-requires c κs = search needs
 
 shared-slice-read-result : tie.Need-shared-slice-read-result
-shared-slice-read-result c = omega (arith, c .before .wide .ensures, c .before .before .before .before .before .before .before .before .before .before .before .pre)
+shared-slice-read-result c = omega (arith, c .before .wide .ensures .0, c .before .before .before .before .before .before .before .before .before .before .before .pre)
 
 returns : tie.Need-returns
-returns c = ap (λ (x : ℕ). eqb (getD (now (c .before .before .before .before .before .before .before .before .before .before .before .args .alive)) x 0) 1) (c .before .wide .ensures) ∙ both-then (sideIdle (c .before .before .before .before .before .before .before .before .before .before .before .args .upper) (getD (now (c .before .before .before .before .before .before .before .before .before .before .before .args .arcs)) (4 * c .before .before .before .before .before .before .before .before .before .before .before .args .n + 1) 0)) (sideIdle (c .before .before .before .before .before .before .before .before .before .before .before .args .lower) (getD (now (c .before .before .before .before .before .before .before .before .before .before .before .args .arcs)) (4 * c .before .before .before .before .before .before .before .before .before .before .before .args .n + 2) 0)) (eqb (getD (now (c .before .before .before .before .before .before .before .before .before .before .before .args .alive)) (getD (now (c .before .before .before .before .before .before .before .before .before .before .before .args .arcs)) (4 * c .before .before .before .before .before .before .before .before .before .before .before .args .n + 3) 0) 0) 1) (sym (c .before .before .before .before .before .before .before .side-idle .ensures) ∙ c .before .before .before .before .before .before .if1 .taken) (sym (c .before .before .before .before .side-idle2 .ensures) ∙ c .before .before .before .if2 .taken)
+returns c = ap (λ (x : ℕ). eqb (getD (now (c .before .before .before .before .before .before .before .before .before .before .before .args .alive)) x 0) 1) (c .before .wide .ensures .0) ∙ both-then (sideIdle (c .before .before .before .before .before .before .before .before .before .before .before .args .upper) (getD (now (c .before .before .before .before .before .before .before .before .before .before .before .args .arcs)) (4 * c .before .before .before .before .before .before .before .before .before .before .before .args .n + 1) 0)) (sideIdle (c .before .before .before .before .before .before .before .before .before .before .before .args .lower) (getD (now (c .before .before .before .before .before .before .before .before .before .before .before .args .arcs)) (4 * c .before .before .before .before .before .before .before .before .before .before .before .args .n + 2) 0)) (eqb (getD (now (c .before .before .before .before .before .before .before .before .before .before .before .args .alive)) (getD (now (c .before .before .before .before .before .before .before .before .before .before .before .args .arcs)) (4 * c .before .before .before .before .before .before .before .before .before .before .before .args .n + 3) 0) 0) 1) (sym (c .before .before .before .before .before .before .before .side-idle .ensures) ∙ c .before .before .before .before .before .before .if1 .taken) (sym (c .before .before .before .before .side-idle2 .ensures) ∙ c .before .before .before .if2 .taken)
 
 returns-2 : tie.Need-returns-2
 returns-2 c = second-fails (sideIdle (c .before .before .before .before .before .before .before .before .args .upper) (getD (now (c .before .before .before .before .before .before .before .before .args .arcs)) (4 * c .before .before .before .before .before .before .before .before .args .n + 1) 0)) (sideIdle (c .before .before .before .before .before .before .before .before .args .lower) (getD (now (c .before .before .before .before .before .before .before .before .args .arcs)) (4 * c .before .before .before .before .before .before .before .before .args .n + 2) 0)) (eqb (getD (now (c .before .before .before .before .before .before .before .before .args .alive)) (getD (now (c .before .before .before .before .before .before .before .before .args .arcs)) (4 * c .before .before .before .before .before .before .before .before .args .n + 3) 0) 0) 1) (sym (c .before .side-idle2 .ensures) ∙ c .if2 .left)

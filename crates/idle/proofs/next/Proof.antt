@@ -38,7 +38,7 @@ wide-requires-2 : tie.Need-wide-requires-2 Inv-loop μ-loop
 wide-requires-2 c κs = search needs
 
 loop-holds : tie.Need-loop-holds Inv-loop μ-loop
-loop-holds c = (omega (arith, c .wide2 .ensures), omega (arith, c .before .before .wide .ensures), λ i h k. absurd (omega (arith, c .wide2 .ensures)))
+loop-holds c = (omega (arith, c .wide2 .ensures .0), omega (arith, c .before .before .wide .ensures .0), λ i h k. absurd (omega (arith, c .wide2 .ensures .0)))
 
 leads-requires : tie.Need-leads-requires Inv-loop μ-loop
 leads-requires c κs = let i = c .before .before .before .before .before .before .before .before .before .pre .0 .numbered (c .before .before .before .before .before .before .before .before .before .args .q) (c .before .loop .n) (c .before .before .before .before .before .before .before .before .before .pre .1) (omega (arith, c .before .loop .inv .0)) (omega (arith, c .before .loop .inv .1)) in (i .0, c .before .before .before .before .before .before .before .before .before .pre .0 .target-in _ (i .0))

@@ -8,7 +8,7 @@ use Rattle.search.proofs.call.Tie as tie
 use Rattle.search.proofs.call.Reads as reads
 use Rattle.search.proofs.call.Lts as lts
 use Rattle.place.proofs.place_holds.Reads as place-holds-reads
-use Rattle.search.proofs.advance.Reads as advance-reads
+use Rattle.search.proofs.take_steps.Reads as take-steps-reads
 use Rattle.search.proofs.refused.Reads as refused-reads
 
 place-holds-requires : tie.Need-place-holds-requires
@@ -23,8 +23,8 @@ same-length c = search needs
 returns : tie.Need-returns
 returns c = let a = c .before .before .before .before .before .before .before .before .before .before .before .before .args in place-refused (a .setup) (now (a .initials)) (now (a .terminals)) (now (a .arcs)) (now (a .upper)) (now (a .lower)) (a .run) (now (a .stack)) (a .allowance) (now (a .output)) (sym (c .before .before .place-holds .ensures) ∙ not-true _ (c .before .if1 .taken)) _ (c .refused .ensures)
 
-advance-requires : tie.Need-advance-requires
-advance-requires c κs = let a = c .before .before .before .before .before .before .before .before .before .before .before .before .before .args in (c .before .before .before .before .before .before .before .before .before .before .before .before .before .pre, place-good (a .setup) (now (a .initials)) (now (a .terminals)) (now (a .arcs)) (now (a .upper)) (now (a .lower)) (a .run) (now (a .stack)) (a .allowance) (now (a .output)) (sym (c .before .before .before .place-holds .ensures) ∙ not-false _ (c .before .before .if1 .left)))
+take-steps-requires : tie.Need-take-steps-requires
+take-steps-requires c κs = let a = c .before .before .before .before .before .before .before .before .before .before .before .before .before .args in (c .before .before .before .before .before .before .before .before .before .before .before .before .before .pre, place-good (a .setup) (now (a .initials)) (now (a .terminals)) (now (a .arcs)) (now (a .upper)) (now (a .lower)) (a .run) (now (a .stack)) (a .allowance) (now (a .output)) (sym (c .before .before .before .place-holds .ensures) ∙ not-false _ (c .before .before .if1 .left)))
 
 same-length-2 : tie.Need-same-length-2
 same-length-2 c = search needs
@@ -33,7 +33,7 @@ same-length-3 : tie.Need-same-length-3
 same-length-3 c = search needs
 
 returns-2 : tie.Need-returns-2
-returns-2 c = let a = c .before .before .before .before .before .before .before .before .before .before .before .before .before .before .before .before .before .before .args in place-searched (a .setup) (now (a .initials)) (now (a .terminals)) (now (a .arcs)) (now (a .upper)) (now (a .lower)) (a .run) (now (a .stack)) (a .allowance) (now (a .output)) (sym (c .before .before .before .before .before .before .before .before .place-holds .ensures) ∙ not-false _ (c .before .before .before .before .before .before .before .if1 .left)) _ _ _ (c .before .before .before .before .advance .ensures)
+returns-2 c = let a = c .before .before .before .before .before .before .before .before .before .before .before .before .before .before .before .before .before .before .args in place-searched (a .setup) (now (a .initials)) (now (a .terminals)) (now (a .arcs)) (now (a .upper)) (now (a .lower)) (a .run) (now (a .stack)) (a .allowance) (now (a .output)) (sym (c .before .before .before .before .before .before .before .before .place-holds .ensures) ∙ not-false _ (c .before .before .before .before .before .before .before .if1 .left)) _ _ _ (c .before .before .before .before .take-steps .ensures)
 
 pub call-spec : {M : Type 1} → statement M
 call-spec =
@@ -43,7 +43,7 @@ call-spec =
     refused-requires
     same-length
     returns
-    advance-requires
+    take-steps-requires
     same-length-2
     same-length-3
     returns-2)

@@ -1,7 +1,7 @@
 use borrow.Author.Needs.{needs}
 use native.Mathlib.Omega.{arith}
 use denote.Ref.{now}
-use Rattle.engine.proofs.Resuming.{within, ready, call-outcome}
+use Rattle.engine.proofs.Resuming.{within, prepared, call-outcome}
 use Rattle.engine.proofs.advance.resume.Statement.{statement}
 use Rattle.engine.proofs.advance.resume.Tie as tie
 
@@ -48,7 +48,7 @@ part-call-end-3 : tie.Need-part-call-end-3
 part-call-end-3 c = let a = c .before .before .before .before .before .before .before .before .before .before .args in let w = within (now (a .table)) (now (a .upper)) (now (a .lower)) (now (a .first)) (a .run) (c .before .before .before .before .before .before .before .before .before .before .pre .0) (a .at) (c .before .before .before .before .before .before .before .before .before .before .pre .1) (c .before .before .before .reads-upper .result) (c .before .before .reads-lower .result) (c .before .before .before .reads-upper .ensures) (c .before .before .reads-lower .ensures) in omega (arith, w .initials-first, w .terminals-first, w .arcs-first, w .whole, c .before .before .before .before .before .before .before .before .before .before .good .0 .0, c .before .before .before .before .before .before .before .before .before .before .good .0 .1)
 
 call-requires : tie.Need-call-requires
-call-requires c κs = let a = c .before .before .before .before .before .before .before .before .before .before .before .before .before .args in ready (now (a .table)) (now (a .upper)) (now (a .lower)) (now (a .first)) (a .run) (c .before .before .before .before .before .before .before .before .before .before .before .before .before .pre .0) (a .at) (c .before .before .before .before .before .before .before .before .before .before .before .before .before .pre .1) (c .before .before .before .before .before .before .reads-upper .result) (c .before .before .before .before .before .reads-lower .result) (c .before .before .before .before .before .before .reads-upper .ensures) (c .before .before .before .before .before .reads-lower .ensures)
+call-requires c κs = let a = c .before .before .before .before .before .before .before .before .before .before .before .before .before .args in prepared (now (a .table)) (now (a .upper)) (now (a .lower)) (now (a .first)) (a .run) (c .before .before .before .before .before .before .before .before .before .before .before .before .before .pre .0) (a .at) (c .before .before .before .before .before .before .before .before .before .before .before .before .before .pre .1) (c .before .before .before .before .before .before .reads-upper .result) (c .before .before .before .before .before .reads-lower .result) (c .before .before .before .before .before .before .reads-upper .ensures) (c .before .before .before .before .before .reads-lower .ensures)
 
 same-length : tie.Need-same-length
 same-length c = search needs

@@ -8,10 +8,10 @@ use borrow.Author.Tests.{not-true, not-false}
 use Rattle.machine.specs.Reading.{heldOf}
 use Rattle.step.specs.Setting.{queryBy, tableBy}
 use Rattle.search.proofs.Looping.{Going, going-first, going-more, more, over-true, over-false, over-answer, paused-answer, found-answer, stopped-answer}
-use Rattle.search.proofs.advance.Statement.{statement}
-use Rattle.search.proofs.advance.Tie as tie
-use Rattle.search.proofs.advance.Reads as reads
-use Rattle.search.proofs.advance.Lts as lts
+use Rattle.search.proofs.take_steps.Statement.{statement}
+use Rattle.search.proofs.take_steps.Tie as tie
+use Rattle.search.proofs.take_steps.Reads as reads
+use Rattle.search.proofs.take_steps.Lts as lts
 use Rattle.search.proofs.called.Reads as called-reads
 use Rattle.search.proofs.found.Reads as found-reads
 use Rattle.search.proofs.is_over.Reads as is-over-reads
@@ -103,8 +103,8 @@ same-length-8 c = ap length (c .before .before .before .loop .inv .untouched)
 returns-4 : tie.Need-returns-4 Inv-loop μ-loop
 returns-4 c = let a = c .before .before .before .before .before .before .before .before .before .before .before .before .args in let z = over-true (c .before .before .before .loop .at .depth) (c .before .before .before .loop .at .started) (length (now (a .initials))) (sym (c .before .before .is-over .ensures) ∙ not-false _ (c .before .if1 .left)) in over-answer (tableBy (a .setup) (now (a .initials)) (now (a .terminals)) (now (a .arcs))) (queryBy (a .setup) (now (a .upper)) (now (a .lower))) (a .run .task) (now (a .output)) (a .allowance) (heldOf (a .run) (now (a .stack))) (now (a .stack)) (c .before .before .before .loop .stack) (c .before .before .before .loop .output) (c .before .before .before .loop .at) (c .before .before .before .loop .steps) (c .before .before .before .loop .inv) (z .0) (z .1) _ (c .called2 .ensures)
 
-pub advance-spec : {M : Type 1} → statement M
-advance-spec =
+pub take-steps-spec : {M : Type 1} → statement M
+take-steps-spec =
     tie.close
     (tie.spec
     Inv-loop
