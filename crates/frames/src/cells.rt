@@ -1,7 +1,7 @@
 // The frames of a stack, four cells each. Only these functions know the cells of a frame.
 use crate::Frame;
 ghost use mathlib.Core.Path.{_≡_};
-ghost use Prim.Native.Nat.{_+_, _*_, _<_, _/_};
+ghost use Prim.Native.Nat.{_<_};
 ghost use Rattle.machine.specs.Step.{triedOf};
 ghost use Rattle.machine.specs.Stack.{framesIn, lookAt, putAt};
 ghost use Rattle.frames.specs.Frames.{frameOf, frameAs};

@@ -1,4 +1,4 @@
-// The types of a search for readings. What they mean is in specs/.
+// The types of a search for readings, and the most frames of its stack. What they mean is in specs/.
 
 // At most 33,024 frames of a stack are used.
 pub const MOST_FRAMES: u32 = 33024;

@@ -1,7 +1,7 @@
 -- A step of the code, way by way: what it answers and leaves is what the machine's step says.
-use Prim.Native.Nat.{ℕ, zero, suc, pred, _+_, _-_, _<_, _≤_}
+use Prim.Native.Nat.{ℕ, zero, suc, pred, _-_, _<_, _≤_}
 use native.Mathlib.Omega.{arith}
-use mathlib.Core.Path.{_≡_, refl, sym, ap, ap₂, subst, _∙_}
+use mathlib.Core.Path.{_≡_, refl, sym, ap, subst, _∙_}
 use mathlib.Core.Bool.{Bool, true, _&&_}
 use mathlib.Core.List.{List, [], _∷_, _++_}
 use lib.Dec.{ltb}
@@ -17,7 +17,7 @@ use Rattle.machine.specs.Frames as F
 use Rattle.machine.specs.Frames.{Held, framesOf, walkTo, pathOf, entering}
 use Rattle.machine.specs.Step as S
 use Rattle.machine.specs.Step.{Stepped, moves, finds, refuses, triedOf, move, pushed, step}
-use Rattle.machine.specs.Transducer.{Passed, member, machine}
+use Rattle.machine.specs.Transducer.{Passed, member}
 use Rattle.machine.specs.Stack.{roomIn, lookAt, putAt, store}
 use Rattle.machine.proofs.Frames.{accepts-top}
 use Rattle.machine.specs.Place.{Placed, Good}

@@ -5,7 +5,7 @@ use format::StateCause;
 use parser::Read;
 ghost use mathlib.Core.Path.{_≡_};
 ghost use mathlib.Core.List.{_++_};
-ghost use Prim.Native.Nat.{_≤_, _+_};
+ghost use Prim.Native.Nat.{_≤_};
 ghost use lib.ListN.{length, take, drop};
 ghost use Rattle.table.specs.Calls.{readAnswer, readCells};
 

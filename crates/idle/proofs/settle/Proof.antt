@@ -1,5 +1,5 @@
 -- The loop: each round keeps the states on cycles; what falls is the count of states that are alive, and whether there is another round.
-use Prim.Native.Nat.{ℕ, _-_}
+use Prim.Native.Nat.{ℕ}
 use mathlib.Core.Path.{sym, subst}
 use denote.Ref.{now}
 use Rattle.idle.proofs.Rounds.{Rounds, rounds-begin, rounds-go-on, rounds-end, left, left-less}

@@ -1,5 +1,4 @@
 -- A side that is read and one that is written.
-use Prim.Native.Nat.{_-_}
 use Rattle.idle.proofs.Rounds.{letter-read, letter-written}
 use Rattle.idle.proofs.side_idle.Statement.{statement}
 use Rattle.idle.proofs.side_idle.Tie as tie

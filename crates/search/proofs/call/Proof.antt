@@ -5,11 +5,6 @@ use borrow.Author.Tests.{not-true, not-false}
 use Rattle.search.proofs.Placed.{place-refused, place-good, place-searched}
 use Rattle.search.proofs.call.Statement.{statement}
 use Rattle.search.proofs.call.Tie as tie
-use Rattle.search.proofs.call.Reads as reads
-use Rattle.search.proofs.call.Lts as lts
-use Rattle.place.proofs.place_holds.Reads as place-holds-reads
-use Rattle.search.proofs.take_steps.Reads as take-steps-reads
-use Rattle.search.proofs.refused.Reads as refused-reads
 
 place-holds-requires : tie.Need-place-holds-requires
 place-holds-requires c κs = (_, c .before .before .before .before .before .before .before .before .before .pre)

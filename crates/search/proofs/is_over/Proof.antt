@@ -4,8 +4,6 @@ use denote.Ref.{now}
 use Rattle.search.proofs.Looping.{over-not, over-zero}
 use Rattle.search.proofs.is_over.Statement.{statement}
 use Rattle.search.proofs.is_over.Tie as tie
-use Rattle.search.proofs.is_over.Reads as reads
-use Rattle.search.proofs.is_over.Lts as lts
 
 returns : tie.Need-returns
 returns c = over-not (c .before .before .args .run .depth) (c .before .before .args .run .started) (length (now (c .before .before .args .initials))) (c .if1 .taken)

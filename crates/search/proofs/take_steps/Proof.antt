@@ -10,13 +10,6 @@ use Rattle.step.specs.Setting.{queryBy, tableBy}
 use Rattle.search.proofs.Looping.{Going, going-first, going-more, more, over-true, over-false, over-answer, paused-answer, found-answer, stopped-answer}
 use Rattle.search.proofs.take_steps.Statement.{statement}
 use Rattle.search.proofs.take_steps.Tie as tie
-use Rattle.search.proofs.take_steps.Reads as reads
-use Rattle.search.proofs.take_steps.Lts as lts
-use Rattle.search.proofs.called.Reads as called-reads
-use Rattle.search.proofs.found.Reads as found-reads
-use Rattle.search.proofs.is_over.Reads as is-over-reads
-use Rattle.search.proofs.refused.Reads as refused-reads
-use Rattle.step.proofs.step.Reads as step-reads
 
 abbrev Inv-loop : tie.InvT-loop
 Inv-loop setup first initials terminals arcs upper lower stack₀ allowance output₀ at₀ steps₀ stack output at steps =

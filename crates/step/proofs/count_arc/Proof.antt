@@ -6,7 +6,6 @@ use denote.Ref.{now}
 use Rattle.step.proofs.Moves.{tried-none, tried-one, pred-suc, refused-counts, made-counts}
 use Rattle.step.proofs.count_arc.Statement.{statement}
 use Rattle.step.proofs.count_arc.Tie as tie
-use Rattle.step.proofs.refuses.Reads as refuses-reads
 
 refuses-requires : tie.Need-refuses-requires
 refuses-requires c κs = search needs

@@ -1,14 +1,9 @@
 use borrow.Author.Needs.{needs}
-use Prim.Native.Nat.{_/_}
-use lib.ListN.{length}
 use denote.Ref.{now}
 use Rattle.machine.specs.Stack.{framesIn}
 use Rattle.step.proofs.Pushes.{no-room, some-room}
 use Rattle.step.proofs.has_room.Statement.{statement}
 use Rattle.step.proofs.has_room.Tie as tie
-use Rattle.step.proofs.has_room.Reads as reads
-use Rattle.step.proofs.has_room.Lts as lts
-use Rattle.frames.proofs.cells.frames_in.Reads as frames-in-reads
 
 returns : tie.Need-returns
 returns c = no-room (c .before .before .args .depth) (framesIn (now (c .before .before .args .stack))) (c .if1 .taken)

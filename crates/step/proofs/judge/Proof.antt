@@ -11,11 +11,6 @@ use Rattle.frames.specs.Sides.{passedOf, doneBy, writtenOf}
 use Rattle.step.proofs.Pushes.{full, entering, too-long, finding}
 use Rattle.step.proofs.judge.Statement.{statement}
 use Rattle.step.proofs.judge.Tie as tie
-use Rattle.step.proofs.judge.Reads as reads
-use Rattle.step.proofs.judge.Lts as lts
-use Rattle.frames.proofs.sides.accepts.Reads as accepts-reads
-use Rattle.frames.proofs.sides.written.Reads as written-reads
-use Rattle.step.proofs.has_room.Reads as has-room-reads
 
 has-room-requires : tie.Need-has-room-requires
 has-room-requires c κs = search needs

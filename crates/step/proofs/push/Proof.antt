@@ -1,7 +1,7 @@
 use borrow.Author.Needs.{needs}
 use mathlib.Core.Path.{_≡_, refl, sym, _∙_}
 use mathlib.Core.Logic.{⊎-elim}
-use lib.ListN.{getD, length}
+use lib.ListN.{getD}
 use denote.Ref.{now}
 use borrow.Author.Tests.{not-true, not-false}
 use Rattle.frames.specs.Frames.{frameBy}
@@ -9,15 +9,6 @@ use Rattle.step.specs.Stepping.{pushedCells}
 use Rattle.step.proofs.Pushes.{enter-ready, made-cells, kept-cells, cells-length, write-ready, found, not-found}
 use Rattle.step.proofs.push.Statement.{statement}
 use Rattle.step.proofs.push.Tie as tie
-use Rattle.step.proofs.push.Reads as reads
-use Rattle.step.proofs.push.Lts as lts
-use Rattle.frames.proofs.output.write.Reads as write-reads
-use Rattle.frames.proofs.sides.written.Reads as written-reads
-use Rattle.step.proofs.count_arc.Reads as count-arc-reads
-use Rattle.step.proofs.enter.Reads as enter-reads
-use Rattle.step.proofs.finds.Reads as finds-reads
-use Rattle.step.proofs.judge.Reads as judge-reads
-use Rattle.step.proofs.refuses.Reads as refuses-reads
 
 -- the cells where the ways meet
 joined : (c : tie.Joined1) → c .if1 .stack ≡ pushedCells (c .before .before .before .before .before .before .judge .result) (now (c .before .before .before .before .before .before .before .before .before .before .before .before .before .before .before .args .stack)) (c .before .before .before .before .before .before .before .before .before .before .before .before .before .before .before .args .depth) (c .before .before .before .before .before .before .before .before .before .before .before .before .before .before .before .args .top) (frameBy (c .before .before .before .before .before .before .before .before .before .before .before .before .before .before .before .args .state) (getD (now (c .before .before .before .before .before .before .before .before .before .before .before .before .before .before .before .args .first)) (c .before .before .before .before .before .before .before .before .before .before .before .before .before .before .before .args .state) 0) (c .before .before .before .before .before .before .before .before .before .before .before .before .before .before .before .args .up) (c .before .before .before .before .before .before .before .before .before .before .before .before .before .before .before .args .low))

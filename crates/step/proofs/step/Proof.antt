@@ -1,16 +1,13 @@
 use borrow.Author.Needs.{needs}
 use native.Mathlib.Omega.{arith}
-use Prim.Native.Nat.{ℕ, _+_, _-_}
-use mathlib.Core.Path.{_≡_, sym, ap, subst, _∙_}
-use mathlib.Core.List.{List}
+use Prim.Native.Nat.{_-_}
+use mathlib.Core.Path.{sym, ap, subst, _∙_}
 use lib.ListN.{length}
 use denote.Ref.{now}
 use Rattle.machine.specs.Step.{step}
 use Rattle.machine.specs.Stack.{store}
 use Rattle.machine.specs.Reading.{heldOf}
-use Rattle.step.specs.declared.Turn.{Turn}
-use Rattle.step.specs.declared.Turn.the-variants.{Moved, Finds, Stopped}
-use Rattle.step.specs.declared.Verdict.{Verdict}
+use Rattle.step.specs.declared.Turn.the-variants.{Moved}
 use Rattle.step.specs.Setting.{machineBy}
 use Rattle.step.specs.Stepping.{TurnIs}
 use Rattle.machine.specs.declared.Run.{Run}
@@ -18,12 +15,6 @@ use Rattle.step.proofs.Bounds.{top-of}
 use Rattle.step.proofs.Turns.{finds-ap, drop-turn, skip-turn, drop-deep, skip-deep, skip-next, after-some, pushable, push-turn, turnAs}
 use Rattle.step.proofs.step.Statement.{statement}
 use Rattle.step.proofs.step.Tie as tie
-use Rattle.step.proofs.step.Reads as reads
-use Rattle.step.proofs.step.Lts as lts
-use Rattle.frames.proofs.cells.count_tried.Reads as count-tried-reads
-use Rattle.step.proofs.at.Reads as at-reads
-use Rattle.step.proofs.choose.Reads as choose-reads
-use Rattle.step.proofs.push.Reads as push-reads
 
 choose-requires : tie.Need-choose-requires
 choose-requires c κs = let a = c .before .before .before .before .before .before .before .before .before .args in let p = c .before .before .before .before .before .before .before .before .before .pre in (top-of (a .setup) (now (a .first)) (now (a .initials)) (now (a .terminals)) (now (a .arcs)) (now (a .upper)) (now (a .lower)) (p .0) (a .run .started) (a .run .depth) (now (a .stack)) (p .1 .0) (p .1 .1), p .0 .reads-some)

@@ -1,6 +1,6 @@
 -- A walk of the MIR, by hand. The borrow of the run is opened, the record is copied out of it and passed to `begin` with the slices as
 -- they came, and the borrow is closed at the record that `begin` returned. All that the proof knows of `begin` is that it meets its contract.
-use mathlib.Core.Path.{_≡_, refl, ap}
+use mathlib.Core.Path.{refl, ap}
 use Prim.Native.Nat.{ℕ, _<_, _^_}
 use mathlib.Core.List.{[], _∷_, List}
 use lib.ListN.{length}
@@ -18,7 +18,7 @@ use contract.Lifetimes.{Lfts, Shares, AllOutlive}
 use contract.Monad.{Fun, fact}
 use contract.Running.{givenOf}
 use types.Kit.{Given, Item, ‵, raw, some, later, _⊛_, ⋆, _$_, _∵_, !, qed, move, keep, drop, use1, use2, split, join, pick, rewrite, fsplit, fsplit3, fjoin, suffices, frame, await, done}
-use types.Run.{look, look-raw, init, store-raw, forget, stop, hop, fld, from, load, addr, of-opd, and-then, no-more, assigns, land, returns, enter, alloc1, alloc0, params1, pass1, pass0, free1, free0}
+use types.Run.{look, look-raw, init, store-raw, forget, stop, hop, fld, from, load, of-opd, and-then, no-more, assigns, land, returns, enter, alloc1, alloc0, params1, pass1, pass0, free1, free0}
 use types.Part.{whole, sub, look-in}
 use sound.WpLaws.{FmC}
 use denote.RattleType.{owns}

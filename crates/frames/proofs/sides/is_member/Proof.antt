@@ -1,7 +1,7 @@
-use Prim.Native.Nat.{ℕ, _+_, _≤_, _-_}
+use Prim.Native.Nat.{_≤_, _-_}
 use native.Mathlib.Omega.{arith}
 use mathlib.Core.Path.{_≡_, refl, sym, ap, _∙_}
-use mathlib.Core.Bool.{Bool, true, _||_, or-true, or-false}
+use mathlib.Core.Bool.{Bool, _||_, or-true, or-false}
 use mathlib.Core.Logic.{⊎-elim}
 use lib.ListN.{length, take}
 use lib.Seq.{take-all}
