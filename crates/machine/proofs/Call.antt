@@ -2,7 +2,6 @@
 use Prim.Native.Nat.{ℕ, zero, suc, pred, _≤_, _<_}
 use native.Mathlib.Omega.{arith}
 use mathlib.Core.Path.{_≡_, refl, sym, ap, subst, _∙_}
-use mathlib.Core.Logic.{_⊎_, inl, inr}
 use mathlib.Core.Bool.{Bool, true, false, cond}
 use mathlib.Core.Option.{none, some}
 use mathlib.Core.List.{List, [], _∷_, _++_, append-assoc, cons≢nil, tail}
@@ -15,12 +14,13 @@ use Rattle.format.specs.declared.StateCause.the-variants.{Place, StackFull, Out
 use Rattle.machine.specs.Machine.{Machine, Path, accepts, output, Bounded}
 use Rattle.machine.specs.Frames.{Frame, Store, framesOf, Held, viewOf, pathOf, walkOf, walkTo, untried, placeHolds}
 use Rattle.machine.specs.Step.{Move, over, drops, begins, skips, pushes, Stepped, ends, moves, finds, refuses, move, effect, offered, arrived, pushed, made, step}
-use Rattle.machine.specs.Call.{Reply, found, paused, ended, refused, Told, still, tell, spent, advance, entered, call, Steps, here, moved, finding}
+use Rattle.machine.specs.Call.{Reply, found, paused, ended, refused, Told, still, tell, spent, advance, entered, call, Stops, at-end, at-reading, at-allowance, at-refusal}
 use Rattle.machine.specs.Tour.{Entry, reading, readings, readingIf}
 use Rattle.machine.proofs.Frames.{SameIs, StoreLaws, frames-length, depth-law, placed-place, short-place}
 use Rattle.machine.specs.Place.{Placed, Good}
 use Rattle.machine.proofs.Tour.{Unrolls}
 use Rattle.machine.proofs.Step.{startedBy, framesBy, restBy, StepLaw, Open, move-placed, step-law, trail-open}
+use Rattle.machine.proofs.Stops.{FullOnly, step-full, advance-stops}
 use Rattle.machine.proofs.Held.{RoomFor, Possible, possible, view-after, move-good}
 
 -- Replies.
@@ -70,73 +70,17 @@ readings-append M [] b = refl
 readings-append M (e ∷ a) b = rw (readings-append M a b, ← append-assoc)
 
 module _ (M : Machine) (S : Store (Frame (M .D))) where
-  -- The steps told are steps made, and no more than allowed.
+  -- a call that is refused in a step: the next one is refused so
+  stops-refused : {l n : ℕ} {h : Held (S .Cells)} {r : Told (S .Cells)} → Stops M S l n h r → (c : Refusal) → r .reply ≡ refused c → step M S l (r .after) ≡ refuses c
+  stops-refused (at-end s k e) c z = absurd (let y : _≡_ {A = ℕ} 0 1 = cc in omega arith)
+  stops-refused (at-reading o s k e) c z = absurd (let y : _≡_ {A = ℕ} 0 1 = cc in omega arith)
+  stops-refused (at-allowance s e) c z = absurd (let y : _≡_ {A = ℕ} 0 1 = cc in omega arith)
+  stops-refused (at-refusal b s k e) c z = let w : b ≡ c = cc in e ∙ ap refuses w
 
-  -- a call of n allowed steps from h
-  pub record Counted (l n : ℕ) (h : Held (S .Cells)) (r : Told (S .Cells)) : Type 0 where
-    pub steps-made : Steps M S l (r .steps) h (r .after)
-    pub within : r .steps ≤ n
-    pub pausing : r .reply ≡ paused → r .steps ≡ n
-
-  -- a call that is refused: the step from where it left the run and the cells is refused, before the allowance is used, or it was no place
-  -- in a search
-  abbrev pub StepRefused : ℕ → ℕ → Told (S .Cells) → Type 0
-  StepRefused l n r = (c : Refusal) → r .reply ≡ refused c → (step M S l (r .after) ≡ refuses c) × (r .steps < n)
-
-  abbrev pub CallRefused : ℕ → ℕ → Held (S .Cells) → Told (S .Cells) → Type 0
-  CallRefused l n h r = (c : Refusal) → r .reply ≡ refused c → ((step M S l (r .after) ≡ refuses c) × (r .steps < n)) ⊎ ((c ≡ State Place) × (r .steps ≡ 0) × (r .after ≡ h))
-
-  still-counted : (l n : ℕ) (h : Held (S .Cells)) (a : Reply) → (a ≡ paused → 0 ≡ n) → Counted l n h (still a h)
-  still-counted l n h a e = record { steps-made = here; within = omega arith; pausing = e }
-
-  tell-counted : (l n : ℕ) (h : Held (S .Cells)) (s : Stepped (S .Cells)) → step M S l h ≡ s → (k : Held (S .Cells) → Told (S .Cells)) → ((d : Held (S .Cells)) → Counted l n d (k d))
-      → Counted l (suc n) h (tell h s k)
-  tell-counted l n h ends e k C = still-counted l (suc n) h ended (λ z. cc)
-  tell-counted l n h (moves d) e k C =
-      let R : Counted l n d (k d) = C d in
-      record { steps-made = moved e (R .steps-made); within = omega (arith, R .within); pausing = λ z. ap suc (R .pausing z) }
-  tell-counted l n h (finds d o) e k C = record { steps-made = finding o e; within = omega arith; pausing = λ z. cc }
-  tell-counted l n h (refuses r) e k C = still-counted l (suc n) h (refused r) (λ z. cc)
-
-  advance-counted : (l n : ℕ) (h : Held (S .Cells)) → Counted l n h (advance M S l n h)
-  unfolding advance
-  advance-counted l zero h = still-counted l 0 h (spent (move M S h)) (λ z. refl)
-  advance-counted l (suc n) h = tell-counted l n h (step M S l h) refl (λ d. advance M S l n d) (λ d. advance-counted l n d)
-
-  tell-refused : (l n : ℕ) (h : Held (S .Cells)) (s : Stepped (S .Cells)) → step M S l h ≡ s → (k : Held (S .Cells) → Told (S .Cells)) → ((d : Held (S .Cells)) → StepRefused l n (k d))
-      → StepRefused l (suc n) (tell h s k)
-  tell-refused l n h ends e k C c z = absurd (let y : _≡_ {A = ℕ} 0 1 = cc in omega arith)
-  tell-refused l n h (moves d) e k C c z = let R = C d c z in (R .0, omega (arith, R .1))
-  tell-refused l n h (finds d o) e k C c z = absurd (let y : _≡_ {A = ℕ} 0 1 = cc in omega arith)
-  tell-refused l n h (refuses r) e k C c z = let w : r ≡ c = cc in (e ∙ ap refuses w, omega arith)
-
-  spent-refused : (m : Move (Frame (M .D))) (c : Refusal) → spent m ≡ refused c → ⊥
-  spent-refused over c z = let y : _≡_ {A = ℕ} 0 1 = cc in omega arith
-  spent-refused drops c z = let y : _≡_ {A = ℕ} 0 1 = cc in omega arith
-  spent-refused (begins f) c z = let y : _≡_ {A = ℕ} 0 1 = cc in omega arith
-  spent-refused (skips f) c z = let y : _≡_ {A = ℕ} 0 1 = cc in omega arith
-  spent-refused (pushes f g) c z = let y : _≡_ {A = ℕ} 0 1 = cc in omega arith
-
-  advance-refused : (l n : ℕ) (h : Held (S .Cells)) → StepRefused l n (advance M S l n h)
-  unfolding advance
-  advance-refused l zero h c z = absurd (spent-refused (move M S h) c z)
-  advance-refused l (suc n) h c z = tell-refused l n h (step M S l h) refl (λ d. advance M S l n d) (λ d. advance-refused l n d) c z
-
-  pub call-refused : (n l : ℕ) (h : Held (S .Cells)) → CallRefused l n h (call M S n l h)
+  -- a call from a place in a search is its steps
+  pub in-place-call : (n l : ℕ) (h : Held (S .Cells)) → placeHolds M S h ≡ true → call M S n l h ≡ advance M S l n h
   unfolding call
-  call-refused n l h = go (placeHolds M S h)
-    where
-      go : (b : Bool) → CallRefused l n h (entered M S b n l h)
-      go false c z = let w : State Place ≡ c = cc in inr (sym w, refl, refl)
-      go true c z = inl (advance-refused l n h c z)
-
-  pub call-counted : (n l : ℕ) (h : Held (S .Cells)) → Counted l n h (call M S n l h)
-  unfolding call
-  call-counted n l h = go (placeHolds M S h)
-    where
-      go : (b : Bool) → Counted l n h (entered M S b n l h)
-      go false = still-counted l n h (refused (State Place)) (λ z. cc)
-      go true = advance-counted l n h
+  in-place-call n l h e = ap (λ (v : Bool). entered M S v n l h) e
 
   -- 21 where there is no place in a search
   pub no-place-call : (n l : ℕ) (h : Held (S .Cells)) → placeHolds M S h ≡ false → call M S n l h ≡ still (refused (State Place)) h
@@ -147,40 +91,11 @@ module _ (M : Machine) (S : Store (Frame (M .D))) where
   pub short-call : SameIs M → (n l : ℕ) (h : Held (S .Cells)) → S .room (h .cells) < h .depth → call M S n l h ≡ still (refused (State Place)) h
   short-call I n l h k = no-place-call n l h (short-place M I S h k)
 
-  -- a step gives 22 and 23 alone
-  module _ (c : Refusal) where
-    abbrev FullOnly : Stepped (S .Cells) → Type 0
-    FullOnly s = s ≡ refuses c → (c ≡ State StackFull) ⊎ (c ≡ State OutputFull)
-
-    offered-full : (b : Bool) (o : List ℕ) (d : Held (S .Cells)) → FullOnly (offered M S b o d)
-    offered-full true o d z = inr cc
-    offered-full false o d z = absurd (let y : _≡_ {A = ℕ} 0 1 = cc in omega arith)
-
-    arrived-full : (b : Bool) (l : ℕ) (d : Held (S .Cells)) → FullOnly (arrived M S b l d)
-    arrived-full true l d z = offered-full (ltb l (length (output M (pathOf M S d)))) (output M (pathOf M S d)) d z
-    arrived-full false l d z = absurd (let y : _≡_ {A = ℕ} 0 1 = cc in omega arith)
-
-    pushed-full : (b : Bool) (l : ℕ) (d : Held (S .Cells)) → FullOnly (pushed M S b l d)
-    pushed-full true l d z = arrived-full (accepts M (pathOf M S d)) l d z
-    pushed-full false l d z = inl cc
-
-    made-full : (l : ℕ) (h : Held (S .Cells)) (m : Move (Frame (M .D))) → FullOnly (made M S l h m)
-    made-full l h over z = absurd (let y : _≡_ {A = ℕ} 0 1 = cc in omega arith)
-    made-full l h drops z = absurd (let y : _≡_ {A = ℕ} 0 1 = cc in omega arith)
-    made-full l h (begins g) z = pushed-full (ltb (h .depth) (S .room (h .cells))) l (effect M S (begins g) h) z
-    made-full l h (skips f) z = absurd (let y : _≡_ {A = ℕ} 0 1 = cc in omega arith)
-    made-full l h (pushes f g) z = pushed-full (ltb (h .depth) (S .room (h .cells))) l (effect M S (pushes f g) h) z
-
-    step-full : (l : ℕ) (h : Held (S .Cells)) → FullOnly (step M S l h)
-    unfolding step
-    step-full l h z = made-full l h (move M S h) z
-
   -- from a place in a search a call gives 22 and 23 alone
-  pub place-call : (n l : ℕ) (h : Held (S .Cells)) → placeHolds M S h ≡ true → (c : Refusal) → call M S n l h .reply ≡ refused c → (c ≡ State StackFull) ⊎ (c ≡ State OutputFull)
-  unfolding call
+  pub place-call : (n l : ℕ) (h : Held (S .Cells)) → placeHolds M S h ≡ true → (c : Refusal) → call M S n l h .reply ≡ refused c → FullOnly M S c
   place-call n l h e c z =
-      let r : advance M S l n h .reply ≡ refused c = ap (λ (v : Bool). entered M S v n l h .reply) (sym e) ∙ z in
-      step-full c l (advance M S l n h .after) (advance-refused l n h c r .0)
+      let r : advance M S l n h .reply ≡ refused c = ap (λ (v : Told (S .Cells)). v .reply) (sym (in-place-call n l h e)) ∙ z in
+      step-full M S l (advance M S l n h .after) c (stops-refused (advance-stops M S l n h) c r)
 
   abbrev pub rest : (Path → List Entry) → Held (S .Cells) → List Entry
   rest g h = restBy M g (h .started) (viewOf M S h)

@@ -1,16 +1,49 @@
 -- The starred cases hold, by computing.
+use mathlib.Core.Path.{_≡_, refl}
+use mathlib.Core.List.{List, [], _∷_}
+use Prim.Native.Nat.{ℕ}
 use lib.Dec.{T}
+use Rattle.hex.specs.Hex.{valueOf, joined, decoded}
+use Rattle.format.specs.Line.{linesOf, malformed, bytesOf}
+use Rattle.format.specs.Parse.{accepted, itemFaults, bytesFaults, lineFaults, onward, parseFrom, parsed}
 use Rattle.format.specs.Rules.{each, countsHold, headerFaults, initialFaults, terminalFaults, arcFaults, keepsRules}
 use Rattle.format.specs.Loaded.{arcsCells, cellsOf, arcsIn, tableIn, loaded}
+use Rattle.machine.specs.declared.StartAnswer.the-variants.{Ready}
 use Rattle.machine.specs.Frames.{placeHolds}
 use Rattle.machine.specs.Step.{move, step}
 use Rattle.machine.specs.Call.{advance, call}
 use Rattle.machine.specs.Idle.{hasIdleCycle}
 use Rattle.machine.specs.Asked.{asked}
-use Rattle.machine.specs.Start.{started}
+use Rattle.machine.specs.Start.{started, firstRun}
 use Rattle.machine.specs.Reading.{outcome}
-use Rattle.machine.specs.Cases.{rows, rowsHold}
+use Rattle.machine.specs.Demand.{Lent, Handed, LastEnds}
+use Rattle.machine.specs.Cases.{rows, rowsHold, tableK, textK, big, lentAll}
+use Rattle.machine.proofs.Handed.{handed-there}
 
 pub cases-hold : T (rowsHold rows)
 unfolding rows started outcome asked loaded tableIn arcsIn cellsOf arcsCells keepsRules headerFaults countsHold initialFaults terminalFaults arcFaults each hasIdleCycle call placeHolds advance step move
 cases-hold = tt
+
+-- Table K's text, and the table of the rows.
+pub text-k : parsed textK ≡ accepted (tableK [])
+unfolding parsed parseFrom onward lineFaults bytesFaults itemFaults linesOf malformed bytesOf decoded joined valueOf headerFaults countsHold initialFaults terminalFaults arcFaults each
+text-k = refl
+
+-- The first row's start and calls, to the end: demand 3's premises hold of them together.
+
+abbrev pub cellsK : List ℕ
+cellsK = cellsOf (tableK [])
+
+abbrev pub lentK : List Lent
+lentK = lentAll cellsK (1 ∷ 2 ∷ []) [] (firstRun 2) [] (big ∷ big ∷ big ∷ [])
+
+pub ready-k : started cellsK 2 (1 ∷ 2 ∷ []) [] [] .answer ≡ Ready
+unfolding started asked loaded tableIn arcsIn cellsOf arcsCells keepsRules headerFaults countsHold initialFaults terminalFaults arcFaults each hasIdleCycle
+ready-k = refl
+
+pub handed-k : Handed (1 ∷ 2 ∷ []) [] cellsK (firstRun 2) [] lentK
+handed-k = handed-there cellsK (1 ∷ 2 ∷ []) [] (big ∷ big ∷ big ∷ []) (firstRun 2) [] refl
+
+pub ends-k : LastEnds (1 ∷ 2 ∷ []) [] (firstRun 2) lentK
+unfolding outcome asked loaded tableIn arcsIn cellsOf arcsCells keepsRules headerFaults countsHold initialFaults terminalFaults arcFaults each call placeHolds advance step move
+ends-k = refl

@@ -3,7 +3,7 @@ use Prim.Native.Nat.{ℕ, _+_, _*_, _≤_, _<_, min}
 use native.Mathlib.Omega.{arith}
 use native.Mathlib.Nat.{sub-zero}
 use mathlib.Core.Path.{_≡_, refl, sym, ap, ap₂, subst, _∙_}
-use mathlib.Core.Logic.{_⊎_, inl, inr, ⊎-elim}
+use mathlib.Core.Logic.{_⊎_, inl, inr}
 use mathlib.Core.Bool.{Bool, true, false, cond}
 use mathlib.Core.List.{List, [], _∷_, _++_, append-assoc}
 use lib.ListN.{length, take, length-append}
@@ -18,21 +18,21 @@ use Rattle.machine.specs.declared.Run.{Run}
 use Rattle.machine.specs.Query.{Query}
 use Rattle.machine.specs.Machine.{Machine, Bounded}
 use Rattle.machine.specs.Frames.{Frame, framesOf}
-use Rattle.machine.specs.Call.{Reply, Told, call, Steps}
+use Rattle.machine.specs.Call.{Reply, Told, call}
 use Rattle.machine.specs.Tour.{Entry, after, tour, tourFrom, readings, treeSize}
 use Rattle.machine.specs.Transducer.{Passed, lettersToRead, machine}
 use Rattle.machine.specs.Stack.{framesIn, roomIn, store}
 use Rattle.machine.specs.Answer.{refused, kindOf, stepsOf, outputTold}
 use Rattle.machine.specs.Asked.{Asked, runs, asked}
 use Rattle.machine.specs.Start.{firstRun}
-use Rattle.machine.specs.Reading.{Outcome, kindBy, stepsBy, heldOf, answerAs, outcomeAs, outcomeOf, outcome}
+use Rattle.machine.specs.Reading.{Outcome, kindBy, stepsBy, heldOf, answerAs, outcomeAs, outcomeOf, outcome, CallBy}
 use Rattle.machine.specs.Demand.{Lent, usedOf, callOn, stepsOn, runAfter, usedAfter, Handed, received, stepsTold, CallTells, Tells, Demand3, LastEnds}
 use Rattle.machine.proofs.Frames.{depth-law}
 use Rattle.machine.specs.Place.{Placed}
 use Rattle.machine.proofs.Tour.{unrolls, tree-law}
 use Rattle.machine.proofs.Step.{restBy}
-use Rattle.machine.proofs.Call.{EndLaw, stack-full, output-full, CallRefusal, too-short, in-step, RefusedBy, readings-append, short-call, call-counted, call-refused, Counted, OneLaw, one-law}
-use Rattle.machine.proofs.Reading.{steps-is, told-is, end-is, paused-to, refused-as}
+use Rattle.machine.proofs.Call.{EndLaw, stack-full, output-full, CallRefusal, too-short, in-step, RefusedBy, readings-append, short-call, OneLaw, one-law}
+use Rattle.machine.proofs.Reading.{steps-is, told-is, end-is, refused-as, call-by, by-call, never-full}
 use Rattle.machine.proofs.Asked.{same-asked}
 use Rattle.machine.proofs.Stack.{store-laws, same-is, frames-take}
 
@@ -104,9 +104,6 @@ module _ (t : Table) (q : Query) (B : Bounded (machine t q)) (F : (lettersToRead
         one-law M store (after M) B store-laws (unrolls M B) (same-is t q) (x .allowance) (length (x .buffer)) (heldOf r (x .stack)) (A .frames) (A .placed) (A .as-deep)
         (λ h. A .held (x .stack) (omega arith) (J (omega arith)))
 
-    K : Counted M store (length (x .buffer)) (x .allowance) (heldOf r (x .stack)) T
-    K = call-counted M store (x .allowance) (length (x .buffer)) (heldOf r (x .stack))
-
     -- the used cells hold the used frames
     kept : (b : Bool) → length (frames′ b) ≡ T .after .depth → (c : List ℕ) → T .after .depth ≤ framesIn c
         → usedOf (T .after .depth) c ≡ cond b (usedOf (T .after .depth) (T .after .cells)) used → framesOf store c (T .after .depth) ≡ frames′ b
@@ -165,28 +162,21 @@ module _ (t : Table) (q : Query) (B : Bounded (machine t q)) (F : (lettersToRead
         short-from h =
             ap (λ (c : Told (List ℕ)). kindOf (answerAs (c .reply) (c .steps))) (short-call M store (same-is t q) (x .allowance) (length (x .buffer)) (heldOf r (x .stack)) (omega arith))
 
-        early : (m : ℕ) → kindOf (answerAs (T .reply) (T .steps)) ≡ refused m → (m ≡ 21) ⊎ (stepsOf (answerAs (T .reply) (T .steps)) < x .allowance)
-        early m z =
-            let A = refused-as (T .reply) (T .steps) m z in
-            ⊎-elim (λ s. inr (subst (λ (k : ℕ). k < x .allowance) (sym (steps-is (T .reply) (T .steps))) (s .1))) (λ s. inl (sym (A .2) ∙ ap numberOf (s .0)))
-            (call-refused M store (x .allowance) (length (x .buffer)) (heldOf r (x .stack)) (A .0) (A .1))
-
         deep : r .depth ≤ M .limit
         deep = omega (arith, depth-law M B (r .started) (A .frames) (A .placed), A .as-deep)
 
         tells-law : (n : ℕ) → n + length es ≡ treeSize M → CallTells t q n r x o
         tells-law n e =
             let S : stepsOf (answerAs (T .reply) (T .steps)) ≡ T .steps = steps-is (T .reply) (T .steps) in
+            let C : CallBy t q r (x .stack) (x .allowance) (x .buffer) o = call-by t q r (x .stack) (x .allowance) (x .buffer) in
             let E = end-is (T .reply) (T .steps) left ending in
             record {
-              steps-made = subst (λ (k : ℕ). Steps M store (length (x .buffer)) k (heldOf r (x .stack)) (T .after)) (sym S) (K .steps-made);
-              within = subst (λ (k : ℕ). k ≤ x .allowance) (sym S) (K .within);
-              paused-is = λ z. S ∙ K .pausing (paused-to (T .reply) (T .steps) z);
-              refused-early = early;
+              by-steps = C;
               ended-is = (λ z. omega (arith, ap length (E .0 z), sizes), λ z. E .1 (none-left left (omega (arith, sizes))));
               short-is = (λ z. let h : roomIn (x .stack) < r .depth = facts 21 z .short refl in omega (arith, shallow), short-from);
               refusals = λ m z. facts m z .one-of;
               never-short = λ h. (λ z. let k : roomIn (x .stack) < r .depth = facts 21 z .short refl in omega (arith, deep), λ z. let k : roomIn (x .stack) < M .limit = facts 22 z .full refl in omega arith);
+              never-full = never-full t q r (x .stack) (x .allowance) (x .buffer) C;
             }
 
   module _ (cells upper lower : List ℕ) where
@@ -249,6 +239,10 @@ module _ (t : Table) (q : Query) (B : Bounded (machine t q)) (F : (lettersToRead
 
         S : SessionLaw (tour M) 0 (firstRun task) xs
         S = session xs (tour M) (firstRun task) [] 0 a begin J (omega (arith, tree-law M))
+
+-- what CallTells says of a call has one solution
+pub call-tells-one : (t : Table) (q : Query) (n : ℕ) (r : Run) (x : Lent) (o v : Outcome) → CallTells t q n r x o → CallTells t q n r x v → o ≡ v
+call-tells-one t q n r x o v A B = by-call t q r (x .stack) (x .allowance) (x .buffer) (A .by-steps) ∙ sym (by-call t q r (x .stack) (x .allowance) (x .buffer) (B .by-steps))
 
 -- where the steps told are the tree's size, the readings received are all of them
 pub whole-list : (upper lower : List ℕ) (t : Table) (q : Query) (r : Run) (xs : List Lent) → Demand3 upper lower t q r xs

@@ -1,38 +1,43 @@
 -- The theorems that carry the mission, stated together. What each one means is in specs/; how it is shown is in the files that it names.
 use Prim.Native.Nat.{ℕ, _+_, _*_, _<_, _≤_}
 use native.Mathlib.Nat.{zero-add}
-use mathlib.Core.Path.{_≡_, refl, sym, subst, _∙_}
+use native.Mathlib.Omega.{arith}
+use mathlib.Core.Path.{_≡_, refl, sym, ap, subst, _∙_}
 use mathlib.Core.Logic.{_↔_}
 use mathlib.Core.Bool.{true, false}
 use mathlib.Core.Option.{some}
-use mathlib.Core.List.{List, [], List·Memᴰ}
+use mathlib.Core.List.{List, [], _∷_, List·Memᴰ}
 use lib.ListN.{length, take, drop}
 use lib.Dec.{T}
 use Rattle.format.specs.Table.{Arc, Table}
 use Rattle.format.specs.Rules.{keepsRules}
 use Rattle.format.specs.Loaded.{loaded}
+use Rattle.format.specs.Parse.{accepted, parsed}
 use Rattle.format.specs.declared.Refusal.the-variants.{State}
 use Rattle.format.specs.declared.StateCause.the-variants.{Place}
 use Rattle.format.proofs.Ruled.{Ruled, ruled}
 use Rattle.machine.specs.declared.Run.{Run}
-use Rattle.machine.specs.declared.Answer.the-variants.{Refused}
+use Rattle.machine.specs.declared.Answer.the-variants.{Found, Refused}
 use Rattle.machine.specs.declared.StartAnswer.the-variants.{Ready}
 use Rattle.machine.specs.declared.Started.{Started}
 use Rattle.machine.specs.Query.{Task, Query}
 use Rattle.machine.specs.Machine.{Machine, Path, size, final, datum, output, ArcOf, Allowed, Bounded}
 use Rattle.machine.specs.Tour.{pathsIn, trail, after, tour, readings, allowedPaths, treeSize}
 use Rattle.machine.specs.Place.{InSearch}
+use Rattle.machine.specs.Frames.{Frame, Store, Held}
+use Rattle.machine.specs.Call.{Told, Steps, Stops}
 use Rattle.machine.specs.Order.{accepting, outputs, ListsAllowed, Lists}
 use Rattle.machine.specs.Transducer.{arcAt, Passed, lettersToRead, writtenBy, machine}
 use Rattle.machine.specs.Idle.{IdleWalk, NoIdleCycle, CycleStates, hasIdleCycle}
+use Rattle.machine.specs.Stack.{framesIn}
 use Rattle.machine.specs.Answer.{found, refused, startNumber}
 use Rattle.machine.specs.Asked.{runs, asked}
 use Rattle.machine.specs.Start.{firstRun, started, StartIs}
-use Rattle.machine.specs.Reading.{kindBy, outcome, RefusedLeaves}
-use Rattle.machine.specs.Demand.{Lent, Handed, received, stepsTold, LastEnds, Demand3}
-use Rattle.machine.specs.Report.{_∘_, Word, α, upperAlone, lowerAlone, Output, Cell, arcsOf, kernel, Noetherian, Solves}
+use Rattle.machine.specs.Reading.{Outcome, kindBy, outcome, CallBy, RefusedLeaves}
+use Rattle.machine.specs.Demand.{Lent, CallTells, Ample, AmpleCalls, Handed, received, stepsTold, unended, LastEnds, Demand3}
+use Rattle.machine.specs.Report.{LocallyFinite, _∘_, Word, α, upperAlone, lowerAlone, Output, Cell, arcsOf, kernel, Noetherian, Finite, Solves}
 use Rattle.machine.specs.Agree.{inputOf, outputOf, TraceFor, Same}
-use Rattle.machine.specs.Cases.{rows, rowsHold}
+use Rattle.machine.specs.Cases.{Ask, lentAll, AsksAmple, tableK, textK, rows, rowsHold}
 use Rattle.machine.proofs.Tour as tours
 use Rattle.machine.proofs.Order as order
 use Rattle.machine.proofs.Transducer as transducer
@@ -42,10 +47,16 @@ use Rattle.machine.proofs.Asked as asks
 use Rattle.machine.proofs.Start as starts
 use Rattle.machine.proofs.Reading as calls
 use Rattle.machine.proofs.Demand as demand
+use Rattle.machine.proofs.Stops as stops
+use Rattle.machine.proofs.Live as live
+use Rattle.machine.proofs.Handed as handed
+use Rattle.machine.proofs.Full as full
 use Rattle.machine.proofs.Traces as traces
 use Rattle.machine.proofs.Agree as agree
 use Rattle.machine.proofs.Noether as noether
+use Rattle.machine.proofs.Finite as finite
 use Rattle.machine.proofs.Cases as cases
+use Rattle.machine.proofs.Refuted as refuted
 
 -- THE TOUR of any machine.
 
@@ -80,6 +91,13 @@ module _ (M : Machine) (B : Bounded M) where
 pub label-is : (k : Task) (a : Arc) (d e : Word × Word) → α k a d e ↔ _∘_ (α k (upperAlone a)) (α k (lowerAlone a)) d e
 label-is = traces.label-is
 
+-- They are locally finite, for any arc and task. Not every relation is: that of all words with all is not.
+pub label-finite : (k : Task) (a : Arc) → LocallyFinite (α k a)
+label-finite = finite.label-finite
+
+pub all-infinite : LocallyFinite {A = Word} {B = Word} (λ v w. Unit {0}) → ⊥
+all-infinite = finite.all-infinite
+
 -- IDLE CYCLES, for any table that keeps the rules and any task.
 
 module _ (t : Table) (rules : keepsRules t ≡ true) (k : Task) where
@@ -90,6 +108,11 @@ module _ (t : Table) (rules : keepsRules t ≡ true) (k : Task) where
   -- "Report 6487 calls a machine without infinite paths noetherian; here the two agree."
   pub noetherian-is : NoIdleCycle t k ↔ Noetherian (kernel t k)
   noetherian-is = (noether.noetherian t k (ruled t rules), noether.no-idle-cycle t k (ruled t rules))
+
+  -- "Readings of a word from a finite Eilenberg machine": report 6486's finite machine is locally finite and noetherian, and it is that exactly
+  -- where there is no idle cycle.
+  pub finite-is : NoIdleCycle t k ↔ Finite (kernel t k)
+  finite-is = (λ none. record { locally-finite = λ a m. finite.label-finite k a; noetherian = noetherian-is .0 none }, λ F. noetherian-is .1 (F .noetherian))
 
 -- THE BOUND: a path that the words allow has fewer than (letters to read + 1) × states arcs.
 
@@ -205,6 +228,10 @@ pub ended-whole : (upper lower : List ℕ) (t : Table) (q : Query) (r : Run) (xs
 ended-whole upper lower t q r xs D e =
     whole-list upper lower t q r xs D (sym (zero-add (stepsTold upper lower r xs)) ∙ demand.ended-steps upper lower t q xs 0 r (D .tells) e)
 
+-- What Demand 3 says of one call has one solution.
+pub call-tells-one : (t : Table) (q : Query) (n : ℕ) (r : Run) (x : Lent) (o v : Outcome) → CallTells t q n r x o → CallTells t q n r x v → o ≡ v
+call-tells-one = demand.call-tells-one
+
 -- FROM THE START TO THE END: what was received is the outputs of the accepting paths, which are report 6486's accepting traces (DEMAND 2), each
 -- once and in order.
 module _ (cells : List ℕ) (task : ℕ) (upper lower : List ℕ) (s : Started) (S : StartIs cells task upper lower s) where
@@ -231,6 +258,83 @@ module _ (cells : List ℕ) (task : ℕ) (upper lower : List ℕ) (s : Started) 
     λ e. let E = start-to-end e in (E .0, E .1, E .2, E .4),
     λ w. starts.ready-where cells task upper lower s S (w .0) (w .1) (w .2) (idles.none-there (w .0) (w .1 .task) (w .3)),
   )
+
+-- THE END COMES, after a start without a refusal: of calls with room enough, no more than the tree's size do not answer Ended; so the last of a
+-- longer list does, and all readings were received. Calls between them that are refused, have less room or are allowed no step change nothing of
+-- that: a refused call can be repeated with a longer stack. And there are such lists: any number of calls, with any allowances, stacks and
+-- buffers, can be handed on as demand 3 says.
+
+module _ (cells upper lower : List ℕ) where
+  pub handed-there : (asks : List Ask) (r : Run) → r .depth ≡ 0 → Handed upper lower cells r [] (lentAll cells upper lower r [] asks)
+  handed-there asks r e = handed.handed-there cells upper lower asks r [] (omega arith)
+
+  module _ (task : ℕ) (s : Started) (S : StartIs cells task upper lower s) where
+    -- what is claimed of a table and a query
+    pub record EndComes (t : Table) (q : Query) : Type 0 where
+      pub asked-is : asked cells task upper lower ≡ runs t q
+      -- m of the calls have room enough: those that do not answer Ended are no more than the tree's size and the others
+      pub few : (xs : List Lent) → Handed upper lower cells (s .run) [] xs → (m : ℕ) → AmpleCalls t q m xs → m + unended upper lower (s .run) xs ≤ length xs + treeSize (machine t q)
+      pub ends : (xs : List Lent) → Handed upper lower cells (s .run) [] xs → (m : ℕ) → AmpleCalls t q m xs → treeSize (machine t q) < m
+          → LastEnds upper lower (s .run) xs × (received upper lower (s .run) xs ≡ readings (machine t q) (tour (machine t q)))
+      -- room enough by numbers alone, and lists of calls that have it
+      pub by-size : (x : Lent) → (lettersToRead q + 1) * t .states ≤ framesIn (x .stack) → 0 < x .allowance → (lettersToRead q + 1) * t .states ≤ length (x .buffer) → Ample t q x
+      pub asks-end : (ks : List Ask) → AsksAmple ((lettersToRead q + 1) * t .states) ks → treeSize (machine t q) < length ks
+          → LastEnds upper lower (s .run) (lentAll cells upper lower (s .run) [] ks)
+          × (received upper lower (s .run) (lentAll cells upper lower (s .run) [] ks) ≡ readings (machine t q) (tour (machine t q)))
+
+    pub end-comes : s .answer ≡ Ready → (t : Table) × (q : Query) × EndComes t q
+    unfolding demand-three
+    end-comes e = (t, q, record { asked-is = R .is; few = few; ends = ends; by-size = live.ample-by-size t q B; asks-end = asks-end })
+      where
+        R : starts.ReadyFacts (asked cells task upper lower) task s
+        R = starts.ready-facts cells task upper lower s S e
+
+        t : Table
+        t = R .table
+
+        q : Query
+        q = R .query
+
+        F : asks.AskedFacts t q task upper lower
+        F = asks.asked-facts cells task upper lower t q (R .is)
+
+        B : Bounded (machine t q)
+        B = bound t (F .keeps-rules) q (idles.none-found t (q .task) (ruled t (F .keeps-rules)) (R .no-cycle))
+
+        D : (xs : List Lent) → Handed upper lower cells (s .run) [] xs → Demand3 upper lower t q (s .run) xs
+        D = demand-three cells task upper lower s S e .3
+
+        few : (xs : List Lent) → Handed upper lower cells (s .run) [] xs → (m : ℕ) → AmpleCalls t q m xs → m + unended upper lower (s .run) xs ≤ length xs + treeSize (machine t q)
+        few xs H m A = live.few-unended t q upper lower (s .run) xs (D xs H) m A
+
+        ends : (xs : List Lent) → Handed upper lower cells (s .run) [] xs → (m : ℕ) → AmpleCalls t q m xs → treeSize (machine t q) < m
+            → LastEnds upper lower (s .run) xs × (received upper lower (s .run) xs ≡ readings (machine t q) (tour (machine t q)))
+        ends xs H m A k = let L = live.comes-to-end t q upper lower (s .run) xs (D xs H) m A k in (L, ended-whole upper lower t q (s .run) xs (D xs H) L)
+
+        asks-end : (ks : List Ask) → AsksAmple ((lettersToRead q + 1) * t .states) ks → treeSize (machine t q) < length ks
+            → LastEnds upper lower (s .run) (lentAll cells upper lower (s .run) [] ks)
+            × (received upper lower (s .run) (lentAll cells upper lower (s .run) [] ks) ≡ readings (machine t q) (tour (machine t q)))
+        asks-end ks A =
+            ends (lentAll cells upper lower (s .run) [] ks) (handed-there ks (s .run) (ap (λ (r : Run). r .depth) (R .run-is))) (length ks) (handed.asks-ample t q B cells upper lower ks (s .run) [] A)
+
+-- An instance: table K, synthesis of 01 02, three calls. The start is ready, the calls are handed on as demand 3 says, and the last answers Ended.
+pub instance-k : (started cases.cellsK 2 (1 ∷ 2 ∷ []) [] [] .answer ≡ Ready) × Handed (1 ∷ 2 ∷ []) [] cases.cellsK (firstRun 2) [] cases.lentK × LastEnds (1 ∷ 2 ∷ []) [] (firstRun 2) cases.lentK
+instance-k = (cases.ready-k, cases.handed-k, cases.ends-k)
+
+-- A CALL IS ITS STEPS, FOR ANY RUN, STACK, ALLOWANCE AND BUFFER: where 20, 11 and 10 are not given, the outcome is the one that the step rule tells
+-- (`CallBy`, of `Steps` and `Stops`), with every field of the run, every cell of the stack and of the buffer.
+
+pub call-is : (cells upper lower : List ℕ) (run : Run) (stack : List ℕ) (n : ℕ) (buffer : List ℕ) (t : Table) (q : Query) → asked cells (run .task) upper lower ≡ runs t q → (o : Outcome)
+    → CallBy t q run stack n buffer o ↔ (o ≡ outcome cells upper lower run stack n buffer)
+call-is = calls.call-is
+
+-- steps lead to one place, and stop in one way; for any machine and any store
+module _ (M : Machine) (C : Store (Frame (M .D))) (l : ℕ) where
+  pub steps-one : (k : ℕ) (h d e : Held (C .Cells)) → Steps M C l k h d → Steps M C l k h e → d ≡ e
+  steps-one k h d e a b = stops.steps-one M C l a b
+
+  pub stops-one : (n : ℕ) (h : Held (C .Cells)) (a b : Told (C .Cells)) → Stops M C l n h a → Stops M C l n h b → a ≡ b
+  stops-one n h a b x y = stops.stops-one M C l x y
 
 -- "EVERY CALL GETS THE START'S TABLE": of the cells, the loaded table alone counts; what stands behind it does not.
 
@@ -268,7 +372,27 @@ pub refused-leaves : (cells upper lower : List ℕ) (run : Run) (stack : List �
     → kindBy (outcome cells upper lower run stack n buffer) ≡ refused m → RefusedLeaves (asked cells (run .task) upper lower) run stack buffer (outcome cells upper lower run stack n buffer)
 refused-leaves = calls.refused-leaves
 
--- THE STARRED CASES, one theorem over the table of rows.
+-- AFTER 23 a buffer of as many letters as frames are in use is enough for the refused step: the next call finds the reading with its first step.
+
+pub after-23 : (cells upper lower : List ℕ) (run : Run) (stack : List ℕ) (n : ℕ) (buffer : List ℕ) (t : Table) (q : Query) → asked cells (run .task) upper lower ≡ runs t q
+    → kindBy (outcome cells upper lower run stack n buffer) ≡ refused 23
+    → (b : List ℕ) (m : ℕ) → outcome cells upper lower run stack n buffer .called .run .depth ≤ length b → 0 < m
+    → (k : ℕ) × (outcome cells upper lower (outcome cells upper lower run stack n buffer .called .run) (outcome cells upper lower run stack n buffer .stack) m b .called .answer ≡ Found 1 k)
+after-23 = full.after-23
+
+-- THE SCHOOL WILL NOT TAKE "one that refuses all words": refusing each call for its buffer, with nothing changed, is not what demand 3 says of the
+-- first call on table K; nor is a refused call that clears the run's task what `refused-leaves` says of any.
+
+pub refuses-all : (n : ℕ) → CallTells (tableK []) refuted.queryK n (firstRun 2) refuted.firstK (refuted.refusesAll (firstRun 2) refuted.firstK) → ⊥
+refuses-all = refuted.refuses-all
+
+pub clears-task : (t : Table) (q : Query) (run : Run) (stack buffer : List ℕ) (o : Outcome) → (run .task ≡ 0 → ⊥) → RefusedLeaves (runs t q) run stack buffer (refuted.taskCleared o) → ⊥
+clears-task = refuted.clears-task
+
+-- THE STARRED CASES, one theorem over the table of rows; and "Table K" as document 01 prints it is the table of the rows.
 
 pub cases-hold : T (rowsHold rows)
 cases-hold = cases.cases-hold
+
+pub text-k : parsed textK ≡ accepted (tableK [])
+text-k = cases.text-k

@@ -8,8 +8,10 @@ use mathlib.Core.List.{List, _∷_, tail}
 use lib.ListN.{length}
 use lib.Dec.{ltb}
 use borrow.Author.Tests.{ltb-true, ltb-false}
-use Rattle.machine.specs.Machine.{Machine, accepts, output}
-use Rattle.machine.specs.Frames.{Frame, Store, framesOf, Held, viewOf, pathOf, untried}
+use Rattle.format.specs.declared.Refusal.the-variants.{State}
+use Rattle.format.specs.declared.StateCause.the-variants.{OutputFull}
+use Rattle.machine.specs.Machine.{Machine, Path, accepts, output, Allowed}
+use Rattle.machine.specs.Frames.{Frame, Store, framesOf, Held, walkOf, viewOf, pathOf, untried}
 use Rattle.machine.specs.Step.{Move, over, drops, begins, skips, pushes, Stepped, ends, moves, finds, refuses, tryArc, moveTop, moveStart, moveBy, move, effect, offered, arrived, pushed, made, step}
 use Rattle.machine.proofs.Frames.{StoreLaws, frames-put}
 use Rattle.machine.specs.Place.{Placed, Good}
@@ -120,20 +122,25 @@ module _ (M : Machine) (S : Store (Frame (M .D))) where
           room = room-after (move M S h) h ∙ G .room;
         }
 
-    -- what a step leads to; where it finds, the new path accepts and its output is told and fits
+    -- what a step leads to; where it finds, the new path accepts and its output is told and fits; where it gives 23, it does not fit
     abbrev pub GoodStep : ℕ → ℕ → Stepped (S .Cells) → Type 0
     GoodStep N l ends = Unit {0}
     GoodStep N l (moves d) = Good M S N d
     GoodStep N l (finds d o) = Good M S N d × (accepts M (pathOf M S d) ≡ true) × (output M (pathOf M S d) ≡ o) × (length o ≤ l)
-    GoodStep N l (refuses r) = Unit {0}
+    GoodStep N l (refuses r) = r ≡ State OutputFull → (p : Path) × Allowed M p × (accepts M p ≡ true) × (l < length (output M p))
 
-    module _ (N l : ℕ) (d : Held (S .Cells)) where
+    -- the path of a run with a frame in use is one that the words allow
+    pub allowed-at : (n d : ℕ) (c : S .Cells) → 0 < d → Placed M n (framesOf S c d) → Allowed M (walkOf n (framesOf S c d))
+    allowed-at n zero c k P = absurd (omega arith)
+    allowed-at n (suc d) c k P = P .allowed
+
+    module _ (N l : ℕ) (d : Held (S .Cells)) (up : 0 < d .depth) where
       pushed-good : (b : Bool) → (b ≡ true → Good M S N d) → GoodStep N l (pushed M S b l d)
-      pushed-good false G = tt
+      pushed-good false G = λ e. absurd (let y : _≡_ {A = ℕ} 0 1 = cc in omega arith)
       pushed-good true G = by-accept (accepts M (pathOf M S d)) refl
         where
           by-length : accepts M (pathOf M S d) ≡ true → (v : Bool) → ltb l (length (output M (pathOf M S d))) ≡ v → GoodStep N l (offered M S v (output M (pathOf M S d)) d)
-          by-length a true e = tt
+          by-length a true e = λ z. (pathOf M S d, allowed-at (d .started) (d .depth) (d .cells) up (G refl .placed), a, ltb-true _ _ e)
           by-length a false e = (G refl, a, refl, ltb-false _ _ e)
 
           by-accept : (v : Bool) → accepts M (pathOf M S d) ≡ v → GoodStep N l (arrived M S v l d)
@@ -143,9 +150,9 @@ module _ (M : Machine) (S : Store (Frame (M .D))) where
     made-good : (N l : ℕ) (h : Held (S .Cells)) → S .room (h .cells) ≡ N → (m : Move (Frame (M .D))) → (RoomFor N (h .depth) m → Good M S N (effect M S m h)) → GoodStep N l (made M S l h m)
     made-good N l h e over G = tt
     made-good N l h e drops G = G tt
-    made-good N l h e (begins f) G = pushed-good N l (effect M S (begins f) h) (ltb (h .depth) (S .room (h .cells))) (λ z. G (subst (λ (k : ℕ). h .depth < k) e (ltb-true _ _ z)))
+    made-good N l h e (begins f) G = pushed-good N l (effect M S (begins f) h) (omega arith) (ltb (h .depth) (S .room (h .cells))) (λ z. G (subst (λ (k : ℕ). h .depth < k) e (ltb-true _ _ z)))
     made-good N l h e (skips f) G = G tt
-    made-good N l h e (pushes f g) G = pushed-good N l (effect M S (pushes f g) h) (ltb (h .depth) (S .room (h .cells))) (λ z. G (subst (λ (k : ℕ). h .depth < k) e (ltb-true _ _ z)))
+    made-good N l h e (pushes f g) G = pushed-good N l (effect M S (pushes f g) h) (omega arith) (ltb (h .depth) (S .room (h .cells))) (λ z. G (subst (λ (k : ℕ). h .depth < k) e (ltb-true _ _ z)))
 
     pub step-good : (N l : ℕ) (h : Held (S .Cells)) → Good M S N h → GoodStep N l (step M S l h)
     unfolding step

@@ -4,8 +4,9 @@ pub mod Tour
 pub mod Step
 pub mod Held
 pub mod Order
-pub mod Call
 pub mod Turn
+pub mod Stops
+pub mod Call
 pub mod Pigeon
 pub mod Transducer
 pub mod Range
@@ -16,8 +17,13 @@ pub mod Asked
 pub mod Start
 pub mod Reading
 pub mod Demand
+pub mod Live
+pub mod Handed
+pub mod Full
 pub mod Traces
 pub mod Agree
 pub mod Noether
+pub mod Finite
 pub mod Cases
+pub mod Refuted
 pub mod Headlines

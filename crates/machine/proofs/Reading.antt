@@ -16,20 +16,22 @@ use Rattle.format.specs.Refusal.{numberOf}
 use Rattle.machine.specs.declared.Run.{Run}
 use Rattle.machine.specs.declared.Answer.the-variants.{Refused}
 use Rattle.machine.specs.Query.{Query}
-use Rattle.machine.specs.Frames.{Held, placeHolds}
-use Rattle.machine.specs.Place.{InSearch}
-use Rattle.machine.specs.Step.{refuses, step}
-use Rattle.machine.specs.Call.{Reply, Told, call, Steps}
+use Rattle.machine.specs.Machine.{Path, accepts, output, Allowed}
+use Rattle.machine.specs.Frames.{placeHolds}
+use Rattle.machine.specs.Place.{Good, InSearch}
+use Rattle.machine.specs.Call.{Reply, entered, call}
 use Rattle.machine.specs.Call as R
 use Rattle.machine.specs.Tour.{Entry}
 use Rattle.machine.specs.Transducer.{machine}
 use Rattle.machine.specs.Stack.{roomIn, store}
 use Rattle.machine.specs.Answer.{found, paused, ended, refused, kindOf, stepsOf, outputTold}
 use Rattle.machine.specs.Asked.{Asked, turned, runs, asked}
-use Rattle.machine.specs.Reading.{Outcome, kindBy, heldOf, answerAs, outputAs, outcomeAs, outcomeOf, outcome, Unchanged, BeforeStep, RefusedLeaves}
+use Rattle.machine.specs.Reading.{Outcome, kindBy, heldOf, answerAs, outputAs, outcomeAs, outcomeOf, outcome, RefusedLeaves, CallBy, no-place, goes-on}
 use Rattle.machine.proofs.Frames.{place-placed, placed-place}
-use Rattle.machine.proofs.Call.{EndLaw, outs, call-counted, call-refused, no-place-call, place-call}
-use Rattle.machine.proofs.Stack.{same-is}
+use Rattle.machine.proofs.Call.{EndLaw, outs, no-place-call, in-place-call, place-call}
+use Rattle.machine.proofs.Stops.{step-full, steps-good, advance-stops, stops-advance}
+use Rattle.machine.proofs.Held.{GoodStep, step-good}
+use Rattle.machine.proofs.Stack.{same-is, store-laws}
 use Rattle.machine.proofs.Asked.{TurnedBy, turned-by, same-asked}
 
 -- Replies as answers.
@@ -52,53 +54,11 @@ end-is R.paused n es E = (λ e. absurd (let z : _≡_ {A = ℕ} 0 1 = cc in omeg
 end-is R.ended n es E = (λ e. E, λ e. refl)
 end-is (R.refused r) n es E = (λ e. absurd (let z : _≡_ {A = ℕ} 0 1 = cc in omega arith), λ e. absurd (E e))
 
-pub paused-to : (a : Reply) (n : ℕ) → kindOf (answerAs a n) ≡ paused → a ≡ R.paused
-paused-to (R.found o) n e = absurd (let z : _≡_ {A = ℕ} 0 1 = cc in omega arith)
-paused-to R.paused n e = refl
-paused-to R.ended n e = absurd (let z : _≡_ {A = ℕ} 0 1 = cc in omega arith)
-paused-to (R.refused r) n e = absurd (let z : _≡_ {A = ℕ} 0 1 = cc in omega arith)
-
 pub refused-as : (a : Reply) (n m : ℕ) → kindOf (answerAs a n) ≡ refused m → (c : Refusal) × (a ≡ R.refused c) × (numberOf c ≡ m)
 refused-as (R.found o) n m e = absurd (let z : _≡_ {A = ℕ} 0 1 = cc in omega arith)
 refused-as R.paused n m e = absurd (let z : _≡_ {A = ℕ} 0 1 = cc in omega arith)
 refused-as R.ended n m e = absurd (let z : _≡_ {A = ℕ} 0 1 = cc in omega arith)
 refused-as (R.refused r) n m e = (r, refl, cc)
-
--- What a refused call leaves.
-
-module _ (t : Table) (q : Query) (run : Run) (stack : List ℕ) (n : ℕ) (buffer : List ℕ) where
-  abbrev T : Told (List ℕ)
-  T = call (machine t q) store n (length buffer) (heldOf run stack)
-
-  runs-leaves : (m : ℕ) → kindOf (answerAs (T .reply) (T .steps)) ≡ refused m → RefusedLeaves (runs t q) run stack buffer (outcomeAs (run .task) buffer T)
-  runs-leaves m e = (ap (λ (a : Reply). outputAs a buffer) (A .1), ⊎-elim (λ s. inr (before (s .0))) (λ s. inl (unchanged (s .1) (s .2))) (call-refused (machine t q) store n (length buffer) (heldOf run stack) (A .0) (A .1)))
-    where
-      A : (c : Refusal) × (T .reply ≡ R.refused c) × (numberOf c ≡ m)
-      A = refused-as (T .reply) (T .steps) m e
-
-      told : stepsOf (answerAs (T .reply) (T .steps)) ≡ T .steps
-      told = steps-is (T .reply) (T .steps)
-
-      before : step (machine t q) store (length buffer) (T .after) ≡ refuses (A .0) → BeforeStep (machine t q) store (length buffer) (heldOf run stack) (T .after) (answerAs (T .reply) (T .steps))
-      before s =
-          record {
-            refusal = A .0;
-            told = ap (λ (a : Reply). answerAs a (T .steps)) (A .1) ∙ ap (λ (k : ℕ). Refused k (A .0)) (sym told);
-            steps-made = subst (λ (k : ℕ). Steps (machine t q) store (length buffer) k (heldOf run stack) (T .after)) (sym told) (call-counted (machine t q) store n (length buffer) (heldOf run stack) .steps-made);
-            refused-there = s;
-          }
-
-      unchanged : T .steps ≡ 0 → T .after ≡ heldOf run stack → Unchanged run stack (outcomeAs (run .task) buffer T)
-      unchanged z h = (ap (λ (d : Held (List ℕ)). record { task = run .task; started = d .started; depth = d .depth }) h, ap (λ (d : Held (List ℕ)). d .cells) h, told ∙ z)
-
-pub refused-leaves : (cells upper lower : List ℕ) (run : Run) (stack : List ℕ) (n : ℕ) (buffer : List ℕ) (m : ℕ)
-    → kindBy (outcome cells upper lower run stack n buffer) ≡ refused m → RefusedLeaves (asked cells (run .task) upper lower) run stack buffer (outcome cells upper lower run stack n buffer)
-unfolding outcome
-refused-leaves cells upper lower run stack n buffer m e = go (asked cells (run .task) upper lower) e
-  where
-    go : (w : Asked) → kindBy (outcomeOf w run stack n buffer) ≡ refused m → RefusedLeaves w run stack buffer (outcomeOf w run stack n buffer)
-    go (turned r) e = (refl, (refl, refl, refl))
-    go (runs t q) e = runs-leaves t q run stack n buffer m e
 
 -- 21 is given exactly where the run and the stack are not a place in a search.
 
@@ -113,7 +73,7 @@ module _ (t : Table) (q : Query) (run : Run) (stack : List ℕ) where
       let h : run .depth ≤ roomIn stack = P .0 in
       record { in-stack = omega arith; in-limit = omega arith; placed = P .1 }
 
-  search-place : InSearch t q run stack → placeHolds (machine t q) store (heldOf run stack) ≡ true
+  pub search-place : InSearch t q run stack → placeHolds (machine t q) store (heldOf run stack) ≡ true
   search-place I = placed-place (machine t q) (same-is t q) store (heldOf run stack) (omega (arith, I .in-stack, I .in-limit)) (I .placed)
 
   module _ (n : ℕ) (buffer : List ℕ) where
@@ -134,6 +94,20 @@ module _ (t : Table) (q : Query) (run : Run) (stack : List ℕ) where
         go true p = absurd (h (in-search p))
         go false p = ap (outcomeAs (run .task) buffer) (no-place-call (machine t q) store n (length buffer) (heldOf run stack) p)
 
+    -- the outcome is the one solution of CallBy
+    pub call-by : CallBy t q run stack n buffer o
+    unfolding call
+    call-by = go (placeHolds (machine t q) store (heldOf run stack)) refl
+      where
+        go : (b : Bool) → placeHolds (machine t q) store (heldOf run stack) ≡ b → CallBy t q run stack n buffer (outcomeAs (run .task) buffer (entered (machine t q) store b n (length buffer) (heldOf run stack)))
+        go true p = goes-on (in-search p) (advance-stops (machine t q) store (length buffer) n (heldOf run stack))
+        go false p = no-place (λ I. let z : true ≡ false = sym (search-place I) ∙ p in let y : _≡_ {A = ℕ} 0 1 = cc in omega arith)
+
+    pub by-call : {v : Outcome} → CallBy t q run stack n buffer v → v ≡ o
+    by-call (no-place f) = sym (unplaced f)
+    by-call (goes-on I s) =
+        ap (outcomeAs (run .task) buffer) (stops-advance (machine t q) store (length buffer) s ∙ sym (in-place-call (machine t q) store n (length buffer) (heldOf run stack) (search-place I)))
+
 module _ (cells upper lower : List ℕ) (run : Run) (stack : List ℕ) (n : ℕ) (buffer : List ℕ) where
   pub twenty-one : (kindBy (outcome cells upper lower run stack n buffer) ≡ refused 21)
       ↔ ((t : Table) × (q : Query) × (asked cells (run .task) upper lower ≡ runs t q) × (InSearch t q run stack → ⊥))
@@ -153,6 +127,52 @@ module _ (cells upper lower : List ℕ) (run : Run) (stack : List ℕ) (n : ℕ)
   twenty-one-leaves e =
       let w = twenty-one .0 e in
       ap (λ (z : Asked). outcomeOf z run stack n buffer) (w .2) ∙ unplaced (w .0) (w .1) run stack n buffer (w .3)
+
+-- What a refused call leaves.
+
+leaves-by : (t : Table) (q : Query) (run : Run) (stack : List ℕ) (n : ℕ) (buffer : List ℕ) (m : ℕ) {o : Outcome} → CallBy t q run stack n buffer o → kindBy o ≡ refused m
+    → RefusedLeaves (runs t q) run stack buffer o
+leaves-by t q run stack n buffer m (no-place f) e = (refl, refl, inl (f, (refl, refl, refl)))
+leaves-by t q run stack n buffer m (goes-on I (R.at-end s k z)) e = absurd (let y : _≡_ {A = ℕ} 0 1 = cc in omega arith)
+leaves-by t q run stack n buffer m (goes-on I (R.at-reading w s k z)) e = absurd (let y : _≡_ {A = ℕ} 0 1 = cc in omega arith)
+leaves-by t q run stack n buffer m (goes-on I (R.at-allowance s z)) e = absurd (let y : _≡_ {A = ℕ} 0 1 = cc in omega arith)
+leaves-by t q run stack n buffer m (goes-on I (R.at-refusal c s k z)) e = (refl, refl, inr (record { refusal = c; told = refl; steps-made = s; refused-there = z }))
+
+pub refused-leaves : (cells upper lower : List ℕ) (run : Run) (stack : List ℕ) (n : ℕ) (buffer : List ℕ) (m : ℕ)
+    → kindBy (outcome cells upper lower run stack n buffer) ≡ refused m → RefusedLeaves (asked cells (run .task) upper lower) run stack buffer (outcome cells upper lower run stack n buffer)
+unfolding outcome
+refused-leaves cells upper lower run stack n buffer m e = go (asked cells (run .task) upper lower) e
+  where
+    go : (w : Asked) → kindBy (outcomeOf w run stack n buffer) ≡ refused m → RefusedLeaves w run stack buffer (outcomeOf w run stack n buffer)
+    go (turned r) e = (refl, (refl, refl, refl))
+    go (runs t q) e = leaves-by t q run stack n buffer m (call-by t q run stack n buffer) e
+
+-- 23 is given only where some reading is longer than the buffer
+pub never-full : (t : Table) (q : Query) (run : Run) (stack : List ℕ) (n : ℕ) (buffer : List ℕ) {o : Outcome} → CallBy t q run stack n buffer o
+    → ((p : Path) → Allowed (machine t q) p → accepts (machine t q) p ≡ true → length (output (machine t q) p) ≤ length buffer) → kindBy o ≡ refused 23 → ⊥
+never-full t q run stack n buffer (no-place f) B e = let z : _≡_ {A = ℕ} 21 23 = cc in omega arith
+never-full t q run stack n buffer (goes-on I (R.at-end s k z)) B e = let y : _≡_ {A = ℕ} 0 1 = cc in omega arith
+never-full t q run stack n buffer (goes-on I (R.at-reading w s k z)) B e = let y : _≡_ {A = ℕ} 0 1 = cc in omega arith
+never-full t q run stack n buffer (goes-on I (R.at-allowance s z)) B e = let y : _≡_ {A = ℕ} 0 1 = cc in omega arith
+never-full t q run stack n buffer (goes-on I (R.at-refusal {d = d} c s k z)) B e =
+    let m : numberOf c ≡ 23 = cc in
+    ⊎-elim (λ x. let y : _≡_ {A = ℕ} 22 23 = ap numberOf (sym x) ∙ m in omega arith) (λ x. let W = subst (GoodStep (machine t q) store store-laws (roomIn stack) (length buffer)) z (step-good (machine t q) store store-laws (roomIn stack) (length buffer) d G) x in omega (arith, W .3, B (W .0) (W .1) (W .2)))
+    (step-full (machine t q) store (length buffer) d c z)
+  where
+    G : Good (machine t q) store (roomIn stack) d
+    G = steps-good (machine t q) store (length buffer) store-laws (roomIn stack) s (record { placed = I .placed; deep = omega (arith, I .in-stack, I .in-limit); room = refl })
+
+-- a call on what is asked, for any run, stack, allowance and buffer, is the one that CallBy tells
+pub call-is : (cells upper lower : List ℕ) (run : Run) (stack : List ℕ) (n : ℕ) (buffer : List ℕ) (t : Table) (q : Query) → asked cells (run .task) upper lower ≡ runs t q → (o : Outcome)
+    → CallBy t q run stack n buffer o ↔ (o ≡ outcome cells upper lower run stack n buffer)
+unfolding outcome
+call-is cells upper lower run stack n buffer t q a o = (
+  λ c. by-call t q run stack n buffer c ∙ same,
+  λ e. subst (λ (v : Outcome). CallBy t q run stack n buffer v) (sym (e ∙ sym same)) (call-by t q run stack n buffer),
+)
+  where
+    same : outcomeOf (runs t q) run stack n buffer ≡ outcomeOf (asked cells (run .task) upper lower) run stack n buffer
+    same = ap (λ (w : Asked). outcomeOf w run stack n buffer) (sym a)
 
 -- of the cells, the loaded table alone counts
 pub same-outcome : (c d : List ℕ) → loaded c ≡ loaded d → (upper lower : List ℕ) (run : Run) (stack : List ℕ) (n : ℕ) (buffer : List ℕ)

@@ -1,10 +1,11 @@
 -- Document 01, "One step": a call is steps under an allowance. "It goes on until the end, until a push makes an accepting path, until
 -- the allowance is used, or until a refusal; the end is looked for before the allowance, the allowance before the next step and its
 -- refusals."
-use Prim.Native.Nat.{ℕ, zero, suc}
+use Prim.Native.Nat.{ℕ, zero, suc, _≤_, _<_}
 use mathlib.Core.Bool.{Bool, true, false}
 use mathlib.Core.List.{List}
 use mathlib.Core.Path.{_≡_}
+use lib.ListN.{length}
 use Rattle.format.specs.declared.Refusal.{Refusal}
 use Rattle.format.specs.declared.Refusal.the-variants.{State}
 use Rattle.format.specs.declared.StateCause.the-variants.{Place}
@@ -62,8 +63,25 @@ module _ (M : Machine) (S : Store (Frame (M .D))) where
   unfoldable pub call : ℕ → ℕ → Held (S .Cells) → Told (S .Cells)
   call n l h = entered (placeHolds M S h) n l h
 
-  -- n steps of the step rule lead from h to d
+  -- What a call does, without the loop: the steps it makes, and where it stops.
+
+  -- k steps of the step rule, none of which finds, lead from h to d
   pub data Steps (l : ℕ) : ℕ → Held (S .Cells) → Held (S .Cells) → Type 0 where
     here : {h : Held (S .Cells)} → Steps l 0 h h
-    moved : {n : ℕ} {h e d : Held (S .Cells)} → step M S l h ≡ moves e → Steps l n e d → Steps l (suc n) h d
-    finding : {h d : Held (S .Cells)} (o : List ℕ) → step M S l h ≡ finds d o → Steps l 1 h d
+    moved : {k : ℕ} {h e d : Held (S .Cells)} → step M S l h ≡ moves e → Steps l k e d → Steps l (suc k) h d
+
+  -- "Depth 0 with no initial state left is the end."
+  abbrev pub AtEnd : Held (S .Cells) → Type 0
+  AtEnd h = (h .depth ≡ 0) × (length (M .initials) ≤ h .started)
+
+  -- from h, with n steps allowed and an output buffer of l letters: "It goes on until the end, until a push makes an accepting path, until the
+  -- allowance is used, or until a refusal". The four exclude each other (stops-one).
+  pub data Stops (l n : ℕ) (h : Held (S .Cells)) : Told (S .Cells) → Type 0 where
+    -- Ended: "the end is looked for before the allowance"
+    at-end : {k : ℕ} {d : Held (S .Cells)} → Steps l k h d → k ≤ n → AtEnd d → Stops l n h (record { reply = ended; steps = k; after = d })
+    -- Found, "even when its step was the last allowed"
+    at-reading : {k : ℕ} {e d : Held (S .Cells)} (o : List ℕ) → Steps l k h e → k < n → step M S l e ≡ finds d o → Stops l n h (record { reply = found o; steps = suc k; after = d })
+    -- Paused: the allowance is used, and it is not the end
+    at-allowance : {d : Held (S .Cells)} → Steps l n h d → (AtEnd d → ⊥) → Stops l n h (record { reply = paused; steps = n; after = d })
+    -- Refused: "the allowance before the next step and its refusals"; "Steps before a refused one stand"
+    at-refusal : {k : ℕ} {d : Held (S .Cells)} (c : Refusal) → Steps l k h d → k < n → step M S l d ≡ refuses c → Stops l n h (record { reply = refused c; steps = k; after = d })

@@ -1,6 +1,8 @@
 -- Document 01, "Cases on table K", the starred ones, as rows of one table. A row is right where the definitions of the start, of the call
 -- for a reading and of the search tree, run on a loaded table's cells, give what it says.
-use Prim.Native.Nat.{ℕ, _*_}
+use Prim.Native.Nat.{ℕ, _*_, _≤_, _<_}
+use Prim.Native.Char.{code}
+use Prim.Native.String.{String, [] as []ᶜ, _∷_ as _∷ᶜ_}
 use mathlib.Core.Bool.{Bool, true, false, _&&_}
 use mathlib.Core.Option.{Option, none, some}
 use mathlib.Core.List.{List, [], _∷_, _++_}
@@ -65,6 +67,17 @@ saidBy o = said (kindBy o) (stepsBy o) (o .output)
 -- a stack that holds the used frames, as far as they go in, and 7 in its other cells; a buffer of 9s
 abbrev pub lentFor : List ℕ → Ask → List ℕ → Lent
 lentFor cells a used = record { table = cells; stack = take (a .frames * 4) (used ++ replicate (a .frames * 4) 7); allowance = a .allowance; buffer = replicate (a .letters) 9 }
+
+-- what is lent to calls, one after another, each with the used frames as demand 3 hands them on (`handed-there`)
+abbrev pub lentAll : List ℕ → List ℕ → List ℕ → Run → List ℕ → List Ask → List Lent
+lentAll cells upper lower r used [] = []
+lentAll cells upper lower r used (a ∷ asks) =
+    let x = lentFor cells a used in x ∷ lentAll cells upper lower (runAfter upper lower r x) (usedAfter upper lower r used x) asks
+
+-- every ask has w frames and w letters or more, and a step allowed
+abbrev pub AsksAmple : ℕ → List Ask → Type 0
+AsksAmple w [] = Unit {0}
+AsksAmple w (a ∷ asks) = ((w ≤ a .frames) × (0 < a .allowance) × (w ≤ a .letters)) × AsksAmple w asks
 
 -- what calls tell, one after another, each with the run and the used frames as demand 3 hands them on
 abbrev pub callsGive : List ℕ → List ℕ → List ℕ → Run → List ℕ → List Ask → List Says
@@ -147,6 +160,16 @@ tableK more =
       arcs = more ++ (arc 0 1 1 1 ∷ arc 0 2 2 2 ∷ arc 1 2 2 2 ∷ arc 1 0 3 0 ∷ arc 2 0 3 0 ∷ []);
     }
 
+-- the characters of a text, by their numbers in ASCII
+abbrev charsIn : String → List ℕ
+charsIn []ᶜ = []
+charsIn (c ∷ᶜ s) = code c ∷ charsIn s
+
+-- "Table K", as document 01 prints it (`text-k`)
+abbrev pub textK : List ℕ
+textK =
+    charsIn "010003000100020005\n020000\n030001\n030002\n04000001010001\n04000002020002\n04000102020002\n04000100030000\n04000200030000\n050009\n"
+
 -- a row on table K
 abbrev row : ℕ → List ℕ → List ℕ → Course → Row
 row k u l c = record { table = tableK []; task = k; upper = u; lower = l; course = c }
@@ -181,16 +204,27 @@ pair x y c =
       course = c;
     }
 
+-- two states: an idle arc from 0 to 1, and one back that reads 1; synthesis of 01 has a path of three arcs, and all (1 + 1) × 2 frames are used
+abbrev round : Course → Row
+round c =
+    record {
+      table = record { states = 2; initials = 0 ∷ []; terminals = 1 ∷ []; arcs = arc 0 0 5 1 ∷ arc 1 1 6 0 ∷ [] };
+      task = 2;
+      upper = 1 ∷ [];
+      lower = [];
+      course = c;
+    }
+
 -- one state, initial and terminal, without arcs; synthesis of the empty word
 abbrev bare : Course → Row
 bare c = record { table = record { states = 1; initials = 0 ∷ []; terminals = 0 ∷ []; arcs = [] }; task = 2; upper = []; lower = []; course = c }
 
 -- a call by its allowance, frames and letters
-abbrev ask : ℕ → ℕ → ℕ → Ask
+abbrev pub ask : ℕ → ℕ → ℕ → Ask
 ask n f l = record { allowance = n; frames = f; letters = l }
 
 -- a call with room enough
-abbrev big : Ask
+abbrev pub big : Ask
 big = ask 4294967295 64 64
 
 -- the starred cases, and a few more
@@ -234,6 +268,8 @@ rows =
     ∷ bare (goes (ask 0 1 0 ∷ ask 1 0 0 ∷ ask 1 1 0 ∷ ask 9 1 0 ∷ ask 0 0 0 ∷ []) (pauses 0 ∷ refuses 0 22 ∷ finds 1 [] ∷ ends 1 ∷ ends 0 ∷ []) 2)
     -- "then in a step 22, 23"
     ∷ row 2 (1 ∷ 2 ∷ []) [] (goes (ask 1000 2 0 ∷ ask 1000 3 0 ∷ ask 1000 3 1 ∷ ask 1000 3 2 ∷ []) (refuses 2 22 ∷ refuses 0 23 ∷ refuses 0 23 ∷ finds 1 (1 ∷ 2 ∷ []) ∷ []) 20)
+    -- "Never too short": (letters to read + 1) × states frames, and one less can be
+    ∷ round (goes (ask 1000 3 3 ∷ ask 1000 4 3 ∷ ask 1000 4 3 ∷ []) (refuses 3 22 ∷ finds 1 (5 ∷ 6 ∷ 5 ∷ []) ∷ ends 5 ∷ []) 9)
     -- "Word of 64 starts, 65 gives 10."
     ∷ row 2 (replicate 64 63) [] (goes (big ∷ []) (ends 4 ∷ []) 4)
     ∷ row 2 (replicate 65 63) [] (refusedWith 10)
@@ -250,6 +286,7 @@ rows =
     ∷ twice 2 [] (refusedWith 20)
     ∷ row 4 (1 ∷ []) (0 ∷ []) (refusedWith 11)
     ∷ row 2 (0 ∷ []) (1 ∷ []) (refusedWith 11)
+    ∷ row 3 (1 ∷ []) (0 ∷ []) (refusedWith 11)
     ∷ row 2 (0 ∷ []) [] (refusedWith 10)
     -- "Call: 20, 11, 10, 21": depth 1 with no start is no place in a search
     ∷ twice 4 (0 ∷ []) (called 0 1 big (refuses 0 20))

@@ -1,8 +1,8 @@
 -- Document 01, "Tour and demand 3": "a single claim about a start and the list of calls after it, of any length".
-use Prim.Native.Nat.{ℕ, _+_, _*_, _≤_, _<_}
+use Prim.Native.Nat.{ℕ, suc, _+_, _*_, _≤_, _<_}
 use mathlib.Core.Path.{_≡_}
 use mathlib.Core.Logic.{_↔_, _⊎_}
-use mathlib.Core.Bool.{cond}
+use mathlib.Core.Bool.{true, cond}
 use mathlib.Core.List.{List, [], _∷_, _++_}
 use lib.ListN.{length, take}
 use lib.Dec.{leb}
@@ -11,11 +11,11 @@ use Rattle.format.specs.Loaded.{loaded}
 use Rattle.machine.specs.declared.Run.{Run}
 use Rattle.machine.specs.Query.{Query}
 use Rattle.machine.specs.Tour.{tour, readings, treeSize}
-use Rattle.machine.specs.Call.{Steps}
+use Rattle.machine.specs.Machine.{Path, accepts, output, Allowed}
 use Rattle.machine.specs.Transducer.{lettersToRead, machine}
-use Rattle.machine.specs.Stack.{framesIn, store}
-use Rattle.machine.specs.Answer.{paused, ended, refused, outputTold}
-use Rattle.machine.specs.Reading.{Outcome, kindBy, stepsBy, heldOf, outcome}
+use Rattle.machine.specs.Stack.{framesIn}
+use Rattle.machine.specs.Answer.{Kind, found, paused, ended, refused, outputTold}
+use Rattle.machine.specs.Reading.{Outcome, kindBy, stepsBy, outcome, CallBy}
 
 -- what a caller lends to one call: the cells of the table, any stack, any allowance and any output buffer
 pub record Lent : Type 0 where
@@ -31,12 +31,9 @@ usedOf d stack = take (d * 4) stack
 module _ (t : Table) (q : Query) where
   -- one call's outcome o, where n steps were told before
   pub record CallTells (n : ℕ) (r : Run) (x : Lent) (o : Outcome) : Type 0 where
-    -- it makes and tells the steps of the step rule, no more than allowed; as many as allowed where it tells Paused, and fewer where a step
-    -- is refused
-    pub steps-made : Steps (machine t q) store (length (x .buffer)) (stepsBy o) (heldOf r (x .stack)) (heldOf (o .called .run) (o .stack))
-    pub within : stepsBy o ≤ x .allowance
-    pub paused-is : kindBy o ≡ paused → stepsBy o ≡ x .allowance
-    pub refused-early : (m : ℕ) → kindBy o ≡ refused m → (m ≡ 21) ⊎ (stepsBy o < x .allowance)
+    -- it is the call of the step rule: Found, Paused, Ended, 21, 22 and 23 exactly where that says, with the run, the stack and the buffer as it
+    -- leaves them
+    pub by-steps : CallBy t q r (x .stack) (x .allowance) (x .buffer) o
     -- Ended exactly when the steps told add up to the tree's size
     pub ended-is : (kindBy o ≡ ended) ↔ (n + stepsBy o ≡ treeSize (machine t q))
     -- "A shorter stack gives 21 whatever it holds", and nothing else does; no refusal but 21, 22 and 23
@@ -44,6 +41,27 @@ module _ (t : Table) (q : Query) where
     pub refusals : (m : ℕ) → kindBy o ≡ refused m → (m ≡ 21) ⊎ ((m ≡ 22) ⊎ (m ≡ 23))
     -- "Never too short": (letters to read + 1) × states frames
     pub never-short : (lettersToRead q + 1) * t .states ≤ framesIn (x .stack) → (kindBy o ≡ refused 21 → ⊥) × (kindBy o ≡ refused 22 → ⊥)
+    -- and 23 only where some reading is longer than the buffer
+    pub never-full : ((p : Path) → Allowed (machine t q) p → accepts (machine t q) p ≡ true → length (output (machine t q) p) ≤ length (x .buffer)) → kindBy o ≡ refused 23 → ⊥
+
+  -- a call with room enough: as many frames as are never too short, a step allowed, and a buffer that no reading is longer than
+  pub record Ample (x : Lent) : Type 0 where
+    pub frames : (lettersToRead q + 1) * t .states ≤ framesIn (x .stack)
+    pub steps : 0 < x .allowance
+    pub letters : (p : Path) → Allowed (machine t q) p → accepts (machine t q) p ≡ true → length (output (machine t q) p) ≤ length (x .buffer)
+
+  -- n of the calls have, whatever stands between them: calls with shorter stacks or buffers, that are refused, or are allowed no step
+  pub data AmpleCalls : ℕ → List Lent → Type 0 where
+    none : AmpleCalls 0 []
+    ample : {n : ℕ} {x : Lent} {xs : List Lent} → Ample x → AmpleCalls n xs → AmpleCalls (suc n) (x ∷ xs)
+    other : {n : ℕ} {x : Lent} {xs : List Lent} → AmpleCalls n xs → AmpleCalls n (x ∷ xs)
+
+-- 0 for Ended, 1 for any other
+abbrev pub oneUnlessEnded : Kind → ℕ
+oneUnlessEnded (found n) = 1
+oneUnlessEnded paused = 1
+oneUnlessEnded ended = 0
+oneUnlessEnded (refused n) = 1
 
 -- "Every call gets the start's .. words."
 module _ (upper lower : List ℕ) where
@@ -82,6 +100,11 @@ module _ (upper lower : List ℕ) where
   abbrev pub stepsTold : Run → List Lent → ℕ
   stepsTold r [] = 0
   stepsTold r (x ∷ xs) = stepsOn r x + stepsTold (runAfter r x) xs
+
+  -- how many calls do not answer Ended
+  abbrev pub unended : Run → List Lent → ℕ
+  unended r [] = 0
+  unended r (x ∷ xs) = oneUnlessEnded (kindBy (callOn r x)) + unended (runAfter r x) xs
 
   -- the last call answers Ended
   abbrev pub LastEnds : Run → List Lent → Type 0

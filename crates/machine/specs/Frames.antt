@@ -1,7 +1,7 @@
 -- Document 01, "One step": frames, where they are held, and refusal 21, which tells what is a place in a search.
 use Prim.Native.Nat.{ℕ, zero, suc, pred, _+_, _-_}
 use mathlib.Core.Bool.{Bool, true, _&&_}
-use mathlib.Core.List.{List, [], _∷_}
+use mathlib.Core.List.{List, [], _∷_, tail}
 use lib.ListN.{length, getD}
 use lib.Dec.{eqb, ltb, leb}
 use Rattle.machine.specs.Machine.{Machine, Path, start, more, tested}
@@ -35,10 +35,9 @@ abbrev pub walkTo : {D : Type 0} → ℕ → List (Frame D) → Path
 walkTo n [] = start (pred n)
 walkTo n (f ∷ fs) = more (walkTo n fs) (pred (f .next))
 
--- the path of the top frame
+-- the path of the top frame: that of a frame on those below it
 abbrev pub walkOf : {D : Type 0} → ℕ → List (Frame D) → Path
-walkOf n [] = start 0
-walkOf n (f ∷ fs) = walkTo n fs
+walkOf n fs = walkTo n (tail fs)
 
 module _ (M : Machine) where
   -- the used frames of a run

@@ -6,14 +6,19 @@ use mathlib.Core.Logic.{_⊎_}
 use mathlib.Core.List.{List, _++_}
 use lib.ListN.{length, drop}
 use Rattle.format.specs.declared.Refusal.{Refusal}
+use Rattle.format.specs.declared.Refusal.the-variants.{State}
+use Rattle.format.specs.declared.StateCause.the-variants.{Place}
+use Rattle.format.specs.Table.{Table}
 use Rattle.machine.specs.declared.Run.{Run}
 use Rattle.machine.specs.declared.Answer.{Answer}
 use Rattle.machine.specs.declared.Answer.the-variants.{Found, Paused, Ended, Refused}
 use Rattle.machine.specs.declared.Called.{Called}
+use Rattle.machine.specs.Query.{Query}
 use Rattle.machine.specs.Machine.{Machine}
 use Rattle.machine.specs.Frames.{Frame, Store, Held}
 use Rattle.machine.specs.Step.{refuses, step}
-use Rattle.machine.specs.Call.{Reply, found, paused, ended, refused, Told, call, Steps}
+use Rattle.machine.specs.Place.{InSearch}
+use Rattle.machine.specs.Call.{Reply, found, paused, ended, refused, Told, still, call, Steps, Stops}
 use Rattle.machine.specs.Transducer.{machine}
 use Rattle.machine.specs.Stack.{store}
 use Rattle.machine.specs.Answer.{Kind, kindOf, stepsOf}
@@ -69,12 +74,20 @@ outcomeOf (runs t q) run stack allowance buffer = outcomeAs (run .task) buffer (
 unfoldable pub outcome : List ℕ → List ℕ → List ℕ → Run → List ℕ → ℕ → List ℕ → Outcome
 outcome cells upper lower run stack allowance buffer = outcomeOf (asked cells (run .task) upper lower) run stack allowance buffer
 
+-- The same as a relation, from the step rule and without the loop: a call on a run, where 20, 11 and 10 are not given. It has one solution,
+-- the outcome (`call-is`).
+pub data CallBy (t : Table) (q : Query) (run : Run) (stack : List ℕ) (allowance : ℕ) (buffer : List ℕ) : Outcome → Type 0 where
+  -- 21, with all as it was, exactly where "The run or its used frames are not a place in a search"
+  no-place : (InSearch t q run stack → ⊥) → CallBy t q run stack allowance buffer (outcomeAs (run .task) buffer (still (refused (State Place)) (heldOf run stack)))
+  -- else its steps, as they stop
+  goes-on : {c : Told (List ℕ)} → InSearch t q run stack → Stops (machine t q) store (length buffer) allowance (heldOf run stack) c → CallBy t q run stack allowance buffer (outcomeAs (run .task) buffer c)
+
 -- "Steps before a refused one stand"; "every lent buffer holds what it held before the refused step, or before the call where no step was
 -- begun". What a refused call leaves:
 
--- no step was begun
-abbrev pub Unchanged : Run → List ℕ → Outcome → Type 0
-Unchanged run stack o = (o .called .run ≡ run) × (o .stack ≡ stack) × (stepsBy o ≡ 0)
+-- no step was begun: the number is told after 0 steps, and all is as it was
+abbrev pub Unchanged : Refusal → Run → List ℕ → Outcome → Type 0
+Unchanged c run stack o = (o .called .answer ≡ Refused 0 c) × (o .called .run ≡ run) × (o .stack ≡ stack)
 
 -- the steps told lead to the run and the stack that it leaves, and the step from there is the refused one
 pub record BeforeStep (M : Machine) (S : Store (Frame (M .D))) (l : ℕ) (h d : Held (S .Cells)) (a : Answer) : Type 0 where
@@ -83,9 +96,11 @@ pub record BeforeStep (M : Machine) (S : Store (Frame (M .D))) (l : ℕ) (h d : 
   pub steps-made : Steps M S l (stepsOf a) h d
   pub refused-there : step M S l d ≡ refuses refusal
 
--- what a call that is refused leaves, by what was asked
+-- what a call that is refused leaves, by what was asked: 20, 11 or 10; else 21, where it is no place in a search, or what a step is refused
+-- with
 abbrev pub RefusedLeaves : Asked → Run → List ℕ → List ℕ → Outcome → Type 0
-RefusedLeaves (turned r) run stack buffer o = (o .output ≡ buffer) × Unchanged run stack o
+RefusedLeaves (turned c) run stack buffer o = (o .output ≡ buffer) × Unchanged c run stack o
 RefusedLeaves (runs t q) run stack buffer o =
     (o .output ≡ buffer)
-    × (Unchanged run stack o ⊎ BeforeStep (machine t q) store (length buffer) (heldOf run stack) (heldOf (o .called .run) (o .stack)) (o .called .answer))
+    × (o .called .run .task ≡ run .task)
+    × (((InSearch t q run stack → ⊥) × Unchanged (State Place) run stack o) ⊎ BeforeStep (machine t q) store (length buffer) (heldOf run stack) (heldOf (o .called .run) (o .stack)) (o .called .answer))

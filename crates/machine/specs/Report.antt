@@ -1,6 +1,7 @@
 -- Report 6486, sections 1 and 2.2, on its own terms: of the rest of this crate it uses only the names of the tasks.
 use Prim.Native.Nat.{ℕ, zero, suc}
 use mathlib.Core.Path.{_≡_}
+use mathlib.Core.Logic.{_↔_}
 use mathlib.Core.Bool.{Bool, true, false}
 use mathlib.Core.List.{List, [], _∷_, _++_, List·Memᴰ}
 use Rattle.format.specs.Table.{Arc, Table}
@@ -25,6 +26,10 @@ _∘_ {B = B} ρ σ a c = (b : B) × ρ a b × σ b c
 -- product
 abbrev pub _⊗_ : {A B C D : Type 0} → Rel A B → Rel C D → Rel (A × C) (B × D)
 _⊗_ ρ σ x y = ρ (x .0) (y .0) × σ (x .1) (y .1)
+
+-- definition 1.1: a relation is locally finite where "for all data d .. the set ρ(d) is finite": a list has what d is related to, and nothing else
+abbrev pub LocallyFinite : {A B : Type 0} → Rel A B → Type 0
+LocallyFinite {A} {B} ρ = (a : A) → (l : List B) × ((b : B) → ρ a b ↔ List·Memᴰ b l)
 
 -- Section 1: the kernel of a machine is an automaton, here a table, labelled with relations on the data.
 
@@ -69,6 +74,11 @@ module _ (K : Kernel) where
   -- definition 1.1: "there is no infinite trace"
   abbrev pub Noetherian : Type 0
   Noetherian = (c : ℕ → Cell) → ((n : ℕ) → Edge (c n) (c (suc n))) → ⊥
+
+  -- definition 1.1: a machine is locally finite where every relation of its arcs is, and "called finite iff it is locally finite and noetherian"
+  pub record Finite : Type 0 where
+    pub locally-finite : (a : Arc) → List·Memᴰ a (K .table .arcs) → LocallyFinite (K .relation a)
+    pub noetherian : Noetherian
 
 -- the arcs of a trace, the last one first
 abbrev pub arcsOf : {K : Kernel} {c e : Cell K} → Trace K c e → List Arc

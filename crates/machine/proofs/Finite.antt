@@ -1,0 +1,93 @@
+-- Report 6486's machine is locally finite, since its relations are partial functions (remark 2.1 of the report).
+use Prim.Native.Nat.{ℕ, zero, suc, _+_, _≤_}
+use native.Mathlib.Omega.{arith}
+use mathlib.Core.Path.{_≡_, refl, sym, ap, ap₂}
+use mathlib.Core.Logic.{_↔_, ⊎-elim}
+use mathlib.Core.Bool.{Bool, true, false}
+use mathlib.Core.Option.{Option, none, some}
+use mathlib.Core.List.{List, [], _∷_, _++_, List·Memᴰ, List·Memᴰ·head, List·Memᴰ·not-nil, List·Memᴰ·cases-cons}
+use lib.ListN.{length, replicate, length-replicate}
+use lib.Dec.{eqb}
+use borrow.Author.Tests.{eqb-true, eqb-false}
+use Rattle.format.specs.Table.{Arc}
+use Rattle.machine.specs.Query.{Task, recognition, synthesis, analysis}
+use Rattle.machine.specs.Report.{Rel, identity, _⊗_, LocallyFinite, Word, L⁻¹, reading, writing, α}
+
+-- PARTIAL FUNCTIONS: a datum is related to what stands in an option, and to nothing else.
+
+abbrev Function : {A B : Type 0} → Rel A B → Type 0
+Function {A} {B} ρ = (a : A) → (o : Option B) × ((b : B) → ρ a b ↔ (o ≡ some b))
+
+function-finite : {A B : Type 0} (ρ : Rel A B) → Function ρ → LocallyFinite ρ
+function-finite {A} {B} ρ F a = go (F a .0) (F a .1)
+  where
+    go : (o : Option B) → ((b : B) → ρ a b ↔ (o ≡ some b)) → (l : List B) × ((b : B) → ρ a b ↔ List·Memᴰ b l)
+    go none f = ([], λ b. (λ r. absurd (let e : none ≡ some b = f b .0 r in let z : _≡_ {A = ℕ} 0 1 = cc in omega arith), λ m. absurd (List·Memᴰ·not-nil m)))
+    go (some c) f = (
+      c ∷ [],
+      λ b. (
+        λ r. List·Memᴰ·head (let e : some c ≡ some b = f b .0 r in let z : b ≡ c = cc in z),
+        λ m. ⊎-elim (λ e. f b .1 (ap some (sym e))) (λ n. absurd (List·Memᴰ·not-nil n)) (List·Memᴰ·cases-cons m),
+      ),
+    )
+
+identity-function : {A : Type 0} → Function {A = A} identity
+identity-function a = (some a, λ b. (λ e. ap some e, λ e. cc))
+
+-- both sides
+abbrev both : {A B : Type 0} → Option A → Option B → Option (A × B)
+both none q = none
+both (some a) none = none
+both (some a) (some b) = some (a, b)
+
+product-function : {A B C D : Type 0} (ρ : Rel A B) (σ : Rel C D) → Function ρ → Function σ → Function (ρ ⊗ σ)
+product-function {A} {B} {C} {D} ρ σ F G x = (both (F (x .0) .0) (G (x .1) .0), λ y. go (F (x .0) .0) (G (x .1) .0) (F (x .0) .1) (G (x .1) .1) y)
+  where
+    go : (p : Option B) (q : Option D) → ((b : B) → ρ (x .0) b ↔ (p ≡ some b)) → ((d : D) → σ (x .1) d ↔ (q ≡ some d)) → (y : B × D) → (ρ (x .0) (y .0) × σ (x .1) (y .1)) ↔ (both p q ≡ some y)
+    go none q f g y = (λ r. absurd (let e : none ≡ some (y .0) = f (y .0) .0 (r .0) in let z : _≡_ {A = ℕ} 0 1 = cc in omega arith), λ e. absurd (let z : _≡_ {A = ℕ} 0 1 = cc in omega arith))
+    go (some b) none f g y = (λ r. absurd (let e : none ≡ some (y .1) = g (y .1) .0 (r .1) in let z : _≡_ {A = ℕ} 0 1 = cc in omega arith), λ e. absurd (let z : _≡_ {A = ℕ} 0 1 = cc in omega arith))
+    go (some b) (some d) f g y = (
+      λ r.
+          let e : some b ≡ some (y .0) = f (y .0) .0 (r .0) in
+          let h : some d ≡ some (y .1) = g (y .1) .0 (r .1) in
+          let u : b ≡ y .0 = cc in
+          let v : d ≡ y .1 = cc in
+          ap₂ (λ (m : B) (n : D). some (m, n)) u v,
+      λ e. let z : _≡_ {A = B × D} (b, d) y = cc in (f (y .0) .1 (ap (λ (w : B × D). some (w .0)) z), g (y .1) .1 (ap (λ (w : B × D). some (w .1)) z)),
+    )
+
+-- THE RELATIONS of the three tasks.
+
+reading-function : (x : ℕ) → Function (reading x)
+reading-function zero v = identity-function v
+reading-function (suc σ) [] = (none, λ w. (λ e. absurd (let z : _≡_ {A = ℕ} 0 1 = cc in omega arith), λ e. absurd (let z : _≡_ {A = ℕ} 0 1 = cc in omega arith)))
+reading-function (suc σ) (x ∷ v) = go (eqb x (suc σ)) refl
+  where
+    go : (b : Bool) → eqb x (suc σ) ≡ b → (o : Option Word) × ((w : Word) → L⁻¹ (suc σ) (x ∷ v) w ↔ (o ≡ some w))
+    go true e = (some v, λ w. (λ z. cc, λ z. let h : x ≡ suc σ = eqb-true _ _ e in cc))
+    go false e = (none, λ w. (λ z. absurd (eqb-false _ _ e (let h : x ≡ suc σ = cc in h)), λ z. absurd (let y : _≡_ {A = ℕ} 0 1 = cc in omega arith)))
+
+writing-function : (x : ℕ) → Function (writing x)
+writing-function zero v = identity-function v
+writing-function (suc γ) v = (some (v ++ (suc γ ∷ [])), λ w. (λ e. ap some (sym e), λ e. cc))
+
+pub label-finite : (k : Task) (a : Arc) → LocallyFinite (α k a)
+label-finite recognition a = function-finite (α recognition a) (product-function (reading (a .upper)) (reading (a .lower)) (reading-function (a .upper)) (reading-function (a .lower)))
+label-finite synthesis a = function-finite (α synthesis a) (product-function (reading (a .upper)) (writing (a .lower)) (reading-function (a .upper)) (writing-function (a .lower)))
+label-finite analysis a = function-finite (α analysis a) (product-function (writing (a .upper)) (reading (a .lower)) (writing-function (a .upper)) (reading-function (a .lower)))
+
+-- NOT LOCALLY FINITE is the relation of all words with all: a word is longer than all of a list.
+
+abbrev total : List Word → ℕ
+total [] = 0
+total (w ∷ l) = length w + total l
+
+short : (w : Word) (l : List Word) → List·Memᴰ w l → length w ≤ total l
+short w [] m = absurd (List·Memᴰ·not-nil m)
+short w (v ∷ l) m = ⊎-elim (λ e. omega (arith, ap length e)) (λ n. omega (arith, short w l n)) (List·Memᴰ·cases-cons m)
+
+pub all-infinite : LocallyFinite {A = Word} {B = Word} (λ v w. Unit {0}) → ⊥
+all-infinite F =
+    let l = F [] .0 in
+    let w : Word = replicate (suc (total l)) 1 in
+    omega (arith, short w l (F [] .1 w .0 tt), length-replicate {A = ℕ} (suc (total l)) 1)
