@@ -3,7 +3,7 @@
  * From the repository's root:
  *
  *     rt staticlib capi
- *     gcc -std=c11 -Wall -Wextra -Iinclude examples/list.c target/staticlib/libcapi.a -o target/list && target/list
+ *     gcc -Iinclude examples/list.c target/staticlib/libcapi.a -o target/list && target/list
  */
 #include "readings.h"
 
@@ -20,7 +20,7 @@ static const char text[] = "010003000100020005\n" /* 3 states, 1 initial, 2 term
                            "04000200030000\n"
                            "050009\n"; /* nine lines stand before this one */
 
-enum { STATES = 3, LETTERS = 2, CELLS = 4 * (LETTERS + 1) * STATES };
+enum { STATES = 3, LETTERS = 2 };
 
 static int refused(const char *call, rd_answer answer) {
     fprintf(stderr, "%s: refusal %u\n", call, (unsigned)answer.number);
@@ -28,20 +28,21 @@ static int refused(const char *call, rd_answer answer) {
 }
 
 int main(void) {
-    const uint8_t upper[LETTERS] = {1, 2}, lower[1] = {0}; /* the lower word is empty; its pointer is not null */
-    uint16_t table[4612];
-    uint32_t stack[CELLS];
-    uint8_t output[64];
+    const uint8_t upper[LETTERS] = {1, 2};
+    uint16_t table[RD_TABLE_CELLS];
+    uint32_t stack[RD_STACK_CELLS(LETTERS, STATES)];
+    uint8_t output[RD_OUTPUT_LETTERS(LETTERS, STATES)];
     rd_run run;
 
-    rd_answer read = rd_table_read((const uint8_t *)text, sizeof text - 1, table, 4612);
-    if (read.kind != RD_DONE) return refused("rd_table_read", read);
+    rd_answer read = rd_table_read((const uint8_t *)text, sizeof text - 1, table, RD_TABLE_CELLS);
+    if (read.kind == RD_REFUSED) return refused("rd_table_read", read);
 
-    rd_answer answer = rd_start(table, read.length, RD_SYNTHESIS, upper, LETTERS, lower, 0, &run).answer;
-    if (answer.kind != RD_DONE) return refused("rd_start", answer);
+    rd_answer answer = rd_start(table, read.length, RD_SYNTHESIS, upper, LETTERS, RD_NO_LETTERS, 0, &run).answer;
+    if (answer.kind == RD_REFUSED) return refused("rd_start", answer);
 
     for (;;) {
-        answer = rd_next(table, read.length, upper, LETTERS, lower, 0, &run, stack, CELLS, 1000, output, sizeof output);
+        answer = rd_next(table, read.length, upper, LETTERS, RD_NO_LETTERS, 0, &run, stack, sizeof stack / sizeof *stack, 1000, output,
+                         sizeof output);
         if (answer.kind == RD_REFUSED) return refused("rd_next", answer);
         if (answer.kind == RD_ENDED) return 0;
         if (answer.kind == RD_PAUSED) continue;

@@ -9,6 +9,9 @@
  * buffers of one call must not overlap where one of them is written (those without const). All cells must be readable, and those
  * without const must be the caller's to write for the time of the call.
  *
+ * Threads. A call works on what it is lent and on nothing else, so calls may run on several threads at the same time. They may share
+ * what is const, such as a table; what a call writes must be lent to no other call until it returns.
+ *
  * Cells that are not told are untouched: a destination beyond the length told, the stack beyond what the steps use, the output beyond
  * the letters told, and with a refusal everything that is lent, but for what steps before the refused one have done to run and stack.
  */
@@ -18,63 +21,94 @@
 #include <stddef.h>
 #include <stdint.h>
 
+/* The version of this interface, as text and as 10,000 x major + 100 x minor + patch. */
+#define RD_VERSION "0.1.0"
+#define RD_VERSION_NUMBER 100
+
+/* Limits. */
+#define RD_MOST_STATES 256   /* states of a table */
+#define RD_MOST_ARCS 1024    /* arcs of a table */
+#define RD_MOST_LETTER 63    /* the highest letter; the lowest is 1 */
+#define RD_MOST_WORD 64      /* letters of a word */
+#define RD_MOST_FRAMES 33024 /* frames of a stack that are ever used */
+#define RD_TABLE_CELLS 4612  /* cells that hold every table */
+#define RD_TEXT_BYTES 18970  /* bytes that hold the text of every table */
+#define RD_FRAME_CELLS 4     /* cells of a frame: state, next arc, letters passed on the upper and on the lower side */
+#define RD_CYCLE_STATES 256  /* states of the longest idle cycle */
+
+/* What is enough for a search over a table of so many states, begun by rd_start: frames of the stack, their cells, letters of the
+ * output. The letters to read are those of every word that the task reads, together. A path that the words allow has fewer arcs than
+ * these frames, and an arc writes one letter at most, in recognition none. */
+#define RD_STACK_FRAMES(letters, states) (((letters) + 1) * (states))
+#define RD_STACK_CELLS(letters, states) (RD_FRAME_CELLS * RD_STACK_FRAMES(letters, states))
+#define RD_OUTPUT_LETTERS(letters, states) (RD_STACK_FRAMES(letters, states) - 1)
+
+/* A word of length 0, for the side that a task does not read: a pointer that is not null. */
+#ifdef __cplusplus
+#define RD_NO_LETTERS (reinterpret_cast<const uint8_t *>(""))
+#else
+#define RD_NO_LETTERS ((const uint8_t *)"")
+#endif
+
 #ifdef __cplusplus
 extern "C" {
 #endif
 
-/* What a call answers. A field that has no meaning for an answer is 0. */
-typedef struct {
-    uint32_t kind;   /* one of RD_DONE .. RD_REFUSED */
-    uint32_t number; /* the refusal's number, below; else 0 */
-    uint32_t steps;  /* rd_next: the steps made in this call, before a refusal too */
-    uint32_t length; /* what is told: cells, bytes, states or letters, as each function says */
-} rd_answer;
-
-/* What a start answers. With refusal 12 the cells hold, from their front, the states of one such cycle in walking order, none twice, as
- * many as answer.length tells, then zeros; else all 256 are 0. */
-typedef struct {
-    rd_answer answer;
-    uint16_t cycle[256];
-} rd_started;
-
-enum {
-    RD_DONE = 0,    /* rd_table_read, rd_table_write, rd_start: it was done */
-    RD_FOUND = 1,   /* rd_next: a reading stands at the front of the output */
-    RD_PAUSED = 2,  /* rd_next: the allowance is used; call again to go on */
-    RD_ENDED = 3,   /* rd_next: there are no more readings */
-    RD_REFUSED = 4  /* refused, see number */
+/* The kinds of an answer. */
+enum rd_kind {
+    RD_DONE = 0,   /* rd_table_read, rd_table_write, rd_start: it was done */
+    RD_FOUND = 1,  /* rd_next: a reading stands at the front of the output */
+    RD_PAUSED = 2, /* rd_next: the allowance is used; call again to go on */
+    RD_ENDED = 3,  /* rd_next: there are no more readings */
+    RD_REFUSED = 4 /* refused, see number */
 };
 
-/* What a search is to do. A word has 0 to 64 letters, each from 1 to 63. The word on a side that the task does not read is empty. */
-enum {
+/* What a search is to do. The word on a side that the task does not read is empty. */
+enum rd_task {
     RD_RECOGNITION = 1, /* reads the upper and the lower word; a reading is empty, and one is found for each path */
     RD_SYNTHESIS = 2,   /* reads the upper word; a reading is a lower word */
     RD_ANALYSIS = 3     /* reads the lower word; a reading is an upper word */
 };
 
-/* Numbers of the refusals.
- *
- *  1  a line of a text is empty, has an odd count of digits, another character than 0-9, A-F, or lacks its line feed
- *  2  a line has the wrong kind for its place or the wrong length, text stands after the end, or the end line is missing
- *  3  a header count is outside its limit: 1 to 256 states, 1 to states initial ones, at most states terminal ones, at most 1,024 arcs
- *  4  a state number is not below the count of states
- *  5  an arc letter is over 63
- *  6  an initial state is repeated, or terminal states do not rise
- *  7  an arc's source is below the one before
- *  8  an arc equals an earlier one
- *  9  the end line's number is not the count of lines before it
- * 10  a word has more than 64 letters, or a letter 0 or over 63
- * 11  unknown task, or a word of one or more letters on a side that the task does not read
- * 12  at a start: arcs that read nothing for this task go round in a cycle, so a search could be endless
- * 20  the loaded table breaks a rule (3 to 8), or is cut short
- * 21  the run or its used frames are not a place in a search
- * 22  the stack is full: the same run goes on with a longer one that begins with the same used frames
- * 23  the output is too short for the reading: the same run goes on with a longer one
- * 24  a destination is too short for what is to be written to it
- *
- * In what order they are given: a text: its first bad line, in it the lowest number, then 24; rd_table_write: 20, 24;
- * rd_start: 20, 11, 10, 12; rd_next: 20, 11, 10, 21, then in a step 22, 23.
- */
+/* Why a call is refused. In what order: a text: its first bad line, in it the lowest number, then 24; rd_table_write: 20, 24;
+ * rd_start: 20, 11, 10, 12; rd_next: 20, 11, 10, 21, then in a step 22, 23. */
+enum rd_refusal {
+    RD_REFUSAL_MALFORMED = 1,          /* a line is empty, has an odd count of digits, another character than 0-9, A-F,
+                                          or lacks its line feed */
+    RD_REFUSAL_MISPLACED = 2,          /* a line has the wrong kind for its place or the wrong length, text stands after
+                                          the end, or a line is missing */
+    RD_REFUSAL_COUNT_LIMIT = 3,        /* a header count is outside its limit: 1 to 256 states, 1 to states initial ones,
+                                          0 to states terminal ones, 0 to 1,024 arcs */
+    RD_REFUSAL_STATE_NUMBER = 4,       /* a state number is not below the count of states */
+    RD_REFUSAL_LETTER_LIMIT = 5,       /* an arc letter is over 63 */
+    RD_REFUSAL_STATE_ORDER = 6,        /* an initial state is repeated, or terminal states do not rise */
+    RD_REFUSAL_SOURCE_ORDER = 7,       /* an arc's source is below the one before */
+    RD_REFUSAL_ARC_REPEATED = 8,       /* an arc equals an earlier one */
+    RD_REFUSAL_LINE_COUNT = 9,         /* the end line's number is not the count of lines before it */
+    RD_REFUSAL_WORD_FAULT = 10,        /* a word has more than 64 letters, or a letter 0 or over 63 */
+    RD_REFUSAL_TASK_FAULT = 11,        /* unknown task, or a word of one or more letters on a side that the task does not read */
+    RD_REFUSAL_IDLE_CYCLE = 12,        /* arcs that read nothing for the task go round in a cycle: a search could be endless */
+    RD_REFUSAL_LOADED_TABLE = 20,      /* the loaded table breaks a rule (3 to 8), or is cut short */
+    RD_REFUSAL_PLACE = 21,             /* the run or its used frames are not a place in a search */
+    RD_REFUSAL_STACK_FULL = 22,        /* the stack is full; rd_next says how to go on */
+    RD_REFUSAL_OUTPUT_FULL = 23,       /* the output is too short for the reading; rd_next says how to go on */
+    RD_REFUSAL_DESTINATION_SHORT = 24  /* a destination is too short for what is to be written to it */
+};
+
+/* What a call answers. A field that has no meaning for an answer is 0. */
+typedef struct {
+    uint32_t kind;   /* an rd_kind */
+    uint32_t number; /* an rd_refusal where it is refused */
+    uint32_t steps;  /* rd_next: the steps made in this call, before a refusal too */
+    uint32_t length; /* what is told: cells, bytes, states or letters, as each function says */
+} rd_answer;
+
+/* What a start answers. With refusal 12 the cells hold, from their front, the states of one such cycle in walking order, none twice, as
+ * many as answer.length tells, then zeros; else all are 0. */
+typedef struct {
+    rd_answer answer;
+    uint16_t cycle[RD_CYCLE_STATES];
+} rd_started;
 
 /* A search: its task, how many initial states are started, how many frames of the stack are in use. The caller's record; rd_start sets
  * it and rd_next moves it on. A copy of it, with a copy of the used frames, is a place to come back to. */
@@ -85,12 +119,11 @@ typedef struct {
 } rd_run;
 
 /* Reads a table's text of n bytes into cells: four counts (states, initials, terminals, arcs), the initial states, the terminal states,
- * four cells an arc (source, upper letter, lower letter, target). 4,612 cells hold every table. length: cells of the table. Refusals:
- * 1 to 9, 24. */
+ * four cells an arc (source, upper letter, lower letter, target). length: cells of the table. Refusals: 1 to 9, 24. */
 rd_answer rd_table_read(const uint8_t *text, size_t n, uint16_t *table, size_t m);
 
-/* Writes the text of a loaded table of n cells; cells beyond the table's own are not looked at. 18,970 bytes hold every text. length:
- * bytes of the text. Refusals: 20, 24. */
+/* Writes the text of a loaded table of n cells; cells beyond the table's own are not looked at. length: bytes of the text. Refusals:
+ * 20, 24. */
 rd_answer rd_table_write(const uint16_t *table, size_t n, uint8_t *text, size_t m);
 
 /* Begins a search. The task may be any number. A start that passes sets the run to the task, 0 started and depth 0; one that is refused
@@ -99,24 +132,30 @@ rd_started rd_start(const uint16_t *table, size_t n, uint32_t task, const uint8_
                     rd_run *run);
 
 /* Goes on with a search, for at most allowance steps, to the next reading. Table and words are those of the start; run and stack are as
- * the call before left them. The stack has s cells, four a frame: state, next arc, letters passed on the upper and on the lower side; a
- * new stack may hold anything. (letters to read + 1) x states frames of four cells are never too short. length: letters of the output.
- * Refusals: 20, 11, 10, 21, 22, 23; steps made before a refused one stand, and no reading is lost by it. */
+ * the call before left them. The stack has s cells, RD_FRAME_CELLS a frame; a new stack may hold anything. length: letters of the
+ * output. Refusals: 20, 11, 10, 21, 22, 23; steps made before a refused one stand, and no reading is lost by it.
+ *
+ * After 22 the same run goes on with a longer stack that begins with the same used frames, the first run->depth ones. A stack of
+ * RD_STACK_FRAMES(letters to read, states) frames never gets 22.
+ *
+ * After 23 the same run goes on with a longer output. The path that was to be told has run->depth arcs, so run->depth letters are enough
+ * for it; an output of RD_OUTPUT_LETTERS(letters to read, states) letters never gets 23. */
 rd_answer rd_next(const uint16_t *table, size_t n, const uint8_t *upper, size_t u, const uint8_t *lower, size_t l, rd_run *run,
                   uint32_t *stack, size_t s, uint32_t allowance, uint8_t *output, size_t o);
 
 /* Use, with a text of n bytes and an upper word of u letters (examples/list.c is this as a program):
  *
- *     static uint16_t table[4612];
- *     static uint32_t stack[4 * 65 * 256];
- *     uint8_t none[1] = {0}, output[4096];
+ *     static uint16_t table[RD_TABLE_CELLS];
+ *     static uint32_t stack[RD_STACK_CELLS(RD_MOST_WORD, RD_MOST_STATES)];
+ *     static uint8_t output[RD_OUTPUT_LETTERS(RD_MOST_WORD, RD_MOST_STATES)];
  *     rd_run run;
- *     rd_answer t = rd_table_read(text, n, table, 4612);
- *     if (t.kind != RD_DONE) return t.number;
- *     rd_answer a = rd_start(table, t.length, RD_SYNTHESIS, upper, u, none, 0, &run).answer;
- *     if (a.kind != RD_DONE) return a.number;
+ *     rd_answer t = rd_table_read(text, n, table, RD_TABLE_CELLS);
+ *     if (t.kind == RD_REFUSED) return t.number;
+ *     rd_answer a = rd_start(table, t.length, RD_SYNTHESIS, upper, u, RD_NO_LETTERS, 0, &run).answer;
+ *     if (a.kind == RD_REFUSED) return a.number;
  *     do {
- *         a = rd_next(table, t.length, upper, u, none, 0, &run, stack, 4 * 65 * 256, 1000, output, 4096);
+ *         a = rd_next(table, t.length, upper, u, RD_NO_LETTERS, 0, &run, stack, sizeof stack / sizeof *stack, 1000, output,
+ *                     sizeof output);
  *         if (a.kind == RD_REFUSED) return a.number;
  *         if (a.kind == RD_FOUND) show(output, a.length);
  *     } while (a.kind != RD_ENDED);
