@@ -1,109 +1,42 @@
-//! What every call answers, and the record of a run, as the C interface lays them out.
+//! What a search is to do, and what a call for a reading answers.
+use crate::Refusal;
 
-/// The kinds of an answer.
-pub const DONE: u32 = 0;
-pub const FOUND: u32 = 1;
-pub const PAUSED: u32 = 2;
-pub const ENDED: u32 = 3;
-pub const REFUSED: u32 = 4;
-
-/// A field without meaning for its kind is 0.
-#[repr(C)]
-#[derive(Clone, Copy, Debug, Default, PartialEq, Eq)]
-pub struct Answer {
-    pub kind: u32,
-    /// The refusal's number.
-    pub number: u32,
-    /// The steps made in this call.
-    pub steps: u32,
-    /// Cells of a table, bytes of a text, states of a cycle or letters of a reading.
-    pub length: u32,
+/// What a search is to do. The word on a side that the task does not read is empty.
+#[derive(Clone, Copy, Debug, PartialEq, Eq, Hash)]
+pub enum Task {
+    /// Reads the upper and the lower word; a reading is empty, and one is found for each path.
+    Recognition = 1,
+    /// Reads the upper word; a reading is a lower word.
+    Synthesis = 2,
+    /// Reads the lower word; a reading is an upper word.
+    Analysis = 3,
 }
 
-/// The most states that a cycle can have.
-pub const CYCLE: usize = 256;
-
-/// What a start answers. With refusal 12 the states of a cycle, as many as the answer's length tells, then zeros; else all zeros.
-#[repr(C)]
+/// What a call for a reading answers, with the steps made in it.
 #[derive(Clone, Copy, Debug, PartialEq, Eq)]
-pub struct Started {
-    pub answer: Answer,
-    pub cycle: [u16; CYCLE],
-}
-
-/// The caller's record of a search. A run of zeros belongs to no search.
-#[repr(C)]
-#[derive(Clone, Copy, Debug, Default, PartialEq, Eq)]
-pub struct Run {
-    pub task: u32,
-    pub started: u32,
-    pub depth: u32,
-}
-
-impl Run {
-    /// A search of a task at its start.
-    pub fn of(task: u32) -> Run {
-        Run {
-            task,
-            ..Run::default()
-        }
-    }
-}
-
-impl Started {
-    /// An answer without a cycle.
-    pub fn bare(answer: Answer) -> Started {
-        Started {
-            answer,
-            cycle: [0; CYCLE],
-        }
-    }
-}
-
-impl Answer {
-    pub fn done(length: usize) -> Answer {
-        Answer {
-            kind: DONE,
-            length: length as u32,
-            ..Answer::default()
-        }
-    }
-
-    pub fn found(steps: u32, length: usize) -> Answer {
-        Answer {
-            kind: FOUND,
-            steps,
-            length: length as u32,
-            ..Answer::default()
-        }
-    }
-
-    pub fn paused(steps: u32) -> Answer {
-        Answer {
-            kind: PAUSED,
-            steps,
-            ..Answer::default()
-        }
-    }
-
-    pub fn ended(steps: u32) -> Answer {
-        Answer {
-            kind: ENDED,
-            steps,
-            ..Answer::default()
-        }
-    }
-
-    pub fn refused(number: u32, steps: u32) -> Answer {
-        Answer {
-            kind: REFUSED,
-            number,
-            steps,
-            ..Answer::default()
-        }
-    }
-
-    pub fn is_refused(&self) -> bool {
-        self.kind == REFUSED
-    }
+pub enum Answer {
+    /// A reading stands at the front of the output.
+    Found {
+        /// Steps made in this call.
+        steps: u32,
+        /// Letters of the reading.
+        length: usize,
+    },
+    /// The allowance is used; the next call goes on.
+    Paused {
+        /// Steps made in this call: the allowance.
+        steps: u32,
+    },
+    /// There are no more readings.
+    Ended {
+        /// Steps made in this call.
+        steps: u32,
+    },
+    /// The call, or its next step, was refused and changed nothing.
+    Refused {
+        /// Steps made in this call before the refused one; they stand.
+        steps: u32,
+        /// Why it was refused.
+        refusal: Refusal,
+    },
 }

@@ -1,90 +1,64 @@
-//! A table of states and arcs, and its loaded form, a list of cells.
-use crate::rules;
+//! Tables that keep the rules.
+use crate::lending;
+use crate::limits::{TABLE_CELLS, TEXT_BYTES};
+use crate::{Refusal, Search, StartRefused, Task};
 
-#[derive(Clone, Copy, Debug, PartialEq, Eq, PartialOrd, Ord)]
-pub struct Arc {
-    pub source: u16,
-    pub upper: u16,
-    pub lower: u16,
-    pub target: u16,
-}
-
-#[derive(Clone, Debug, Default, PartialEq, Eq)]
+/// A loaded table, which keeps the rules.
+#[derive(Clone, Debug, PartialEq, Eq, Hash)]
 pub struct Table {
-    pub states: u16,
-    pub initials: Vec<u16>,
-    pub terminals: Vec<u16>,
-    pub arcs: Vec<Arc>,
-}
-
-impl Arc {
-    pub fn new(source: u16, upper: u16, lower: u16, target: u16) -> Arc {
-        Arc {
-            source,
-            upper,
-            lower,
-            target,
-        }
-    }
+    cells: Vec<u16>,
 }
 
 impl Table {
-    /// The four counts, the initial states, the terminal states, then four cells an arc.
-    pub fn cells(&self) -> Vec<u16> {
-        let mut cells = vec![
-            self.states,
-            self.initials.len() as u16,
-            self.terminals.len() as u16,
-            self.arcs.len() as u16,
-        ];
-        cells.extend(&self.initials);
-        cells.extend(&self.terminals);
-        for arc in &self.arcs {
-            cells.extend([arc.source, arc.upper, arc.lower, arc.target]);
-        }
-        cells
+    /// The table of a text.
+    pub fn read(text: impl AsRef<[u8]>) -> Result<Table, Refusal> {
+        let mut cells = vec![0; TABLE_CELLS];
+        let length = lending::table_read(text.as_ref(), &mut cells).done()?;
+        cells.truncate(length);
+        Ok(Table { cells })
     }
 
-    /// The table at the front of some cells; none where they are too few or it breaks a rule (20).
-    pub fn loaded(cells: &[u16]) -> Option<Table> {
-        let mut rest = cells.iter().copied();
-        let mut cell = || rest.next();
-        let (states, initials, terminals, arcs) = (cell()?, cell()?, cell()?, cell()?);
-        let mut fault = rules::counts(states, initials, terminals, arcs);
-        let mut table = Table {
-            states,
-            ..Table::default()
-        };
-        for _ in 0..initials {
-            let state = cell()?;
-            fault = fault.or(rules::initial(states, &table.initials, state));
-            table.initials.push(state);
-        }
-        for _ in 0..terminals {
-            let state = cell()?;
-            fault = fault.or(rules::terminal(states, &table.terminals, state));
-            table.terminals.push(state);
-        }
-        for _ in 0..arcs {
-            let arc = Arc::new(cell()?, cell()?, cell()?, cell()?);
-            fault = fault.or_else(|| rules::arc(states, &table.arcs, arc));
-            table.arcs.push(arc);
-        }
-        fault.is_none().then_some(table)
+    /// The table at the front of some cells, as [`Table::cells`] has them.
+    pub fn from_cells(cells: &[u16]) -> Result<Table, Refusal> {
+        lending::table_write(cells, &mut [0; TEXT_BYTES]).done()?;
+        let count = |k: usize| usize::from(cells[k]);
+        let length = 4 + count(1) + count(2) + 4 * count(3);
+        Ok(Table {
+            cells: cells[..length].to_vec(),
+        })
     }
 
-    /// How many arcs have a source below a state: the number of its first arc.
-    pub fn first_arc(&self, state: u16) -> usize {
-        self.arcs.partition_point(|arc| arc.source < state)
+    /// Four counts (states, initials, terminals, arcs), the initial states, the terminal states, four cells an arc (source, upper
+    /// letter, lower letter, target).
+    pub fn cells(&self) -> &[u16] {
+        &self.cells
     }
 
-    /// The arcs of a state, by rising number.
-    pub fn arcs_of(&self, state: u16) -> &[Arc] {
-        let end = self.arcs.partition_point(|arc| arc.source <= state);
-        &self.arcs[self.first_arc(state)..end]
+    /// How many states it has.
+    pub fn states(&self) -> usize {
+        self.cells[0].into()
     }
 
-    pub fn is_terminal(&self, state: u16) -> bool {
-        self.terminals.contains(&state)
+    /// Its text.
+    pub fn text(&self) -> String {
+        let mut text = vec![0; TEXT_BYTES];
+        let written = lending::table_write(&self.cells, &mut text).done();
+        text.truncate(written.expect("a table that keeps the rules, and room for every text"));
+        String::from_utf8(text).expect("digits and line feeds")
+    }
+
+    /// The paths that read an upper and a lower word: an empty reading for each.
+    pub fn recognition(&self, upper: &[u8], lower: &[u8]) -> Result<Search<'_>, StartRefused> {
+        Search::start(self, Task::Recognition, upper, lower)
+    }
+
+    /// The lower words of an upper word.
+    pub fn synthesis(&self, upper: &[u8]) -> Result<Search<'_>, StartRefused> {
+        Search::start(self, Task::Synthesis, upper, &[])
+    }
+
+    /// The upper words of a lower word.
+    pub fn analysis(&self, lower: &[u8]) -> Result<Search<'_>, StartRefused> {
+        Search::start(self, Task::Analysis, &[], lower)
     }
 }

@@ -1,8 +1,8 @@
 //! The comparison notices what is told or touched beyond what document 01 says, be it one cell.
-use readings::answer::{Answer, DONE, ENDED, FOUND, PAUSED, Run, Started};
-use readings::compare::fixed;
-use readings::engine::Engine;
-use readings::twin::SOUND;
+use readings_check::answer::{Answer, DONE, ENDED, FOUND, PAUSED, Run, Started};
+use readings_check::compare::fixed;
+use readings_check::engine::Engine;
+use readings_check::twin::SOUND;
 
 /// What a call leaves.
 struct Left<'a> {

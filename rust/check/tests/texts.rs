@@ -1,7 +1,7 @@
 //! The proved library on texts of tables, good, damaged and arbitrary.
-use readings::answer::DONE;
-use readings::compare::{series, texts};
-use readings::ffi::Library;
+use readings_check::answer::DONE;
+use readings_check::compare::{series, texts};
+use readings_check::library::Library;
 
 #[test]
 fn round_trips_agree() {

@@ -3,8 +3,8 @@
 mod benchmark;
 
 use benchmark::{figures, lists, runs};
-use readings::ffi::Library;
-use readings::twin::{PLAIN, SOUND};
+use readings_check::library::Library;
+use readings_check::twin::{PLAIN, SOUND};
 use std::env;
 
 /// Interleaved repetitions, unless another number is given.

@@ -1,6 +1,6 @@
 //! The two lists: a letter tree of over 200 states each, and words joined from its own words by a fixed seed.
-use readings::random::Random;
-use readings::tree;
+use readings_check::random::Random;
+use readings_check::tree;
 use std::collections::BTreeSet;
 
 /// Words to be read, and their letters.

@@ -1,12 +1,12 @@
 //! Document 01's cases on table K, on the lister, the model, the twin and the proved library.
-use readings::answer::{Answer, Run, Started};
-use readings::engine::{Engine, Texts};
-use readings::ffi::Library;
-use readings::lister;
-use readings::model::Model;
-use readings::table::{Arc, Table};
-use readings::text::{self, K};
-use readings::twin::SOUND;
+use readings_check::answer::{Answer, Run, Started};
+use readings_check::engine::{Engine, Texts};
+use readings_check::library::Library;
+use readings_check::lister;
+use readings_check::model::Model;
+use readings_check::table::{Arc, Table};
+use readings_check::text::{self, K};
+use readings_check::twin::SOUND;
 
 fn k() -> Table {
     text::parse(K.as_bytes()).expect("table K")

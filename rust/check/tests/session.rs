@@ -2,15 +2,15 @@
 mod common;
 
 use common::program;
-use readings::draw;
-use readings::engine::Engine;
-use readings::lister;
-use readings::model::Model;
-use readings::random::Random;
-use readings::session::{LONGEST, session};
-use readings::table::{Arc, Table};
-use readings::text::{self, K};
-use readings::twin::SOUND;
+use readings_check::draw;
+use readings_check::engine::Engine;
+use readings_check::lister;
+use readings_check::model::Model;
+use readings_check::random::Random;
+use readings_check::session::{LONGEST, session};
+use readings_check::table::{Arc, Table};
+use readings_check::text::{self, K};
+use readings_check::twin::SOUND;
 
 /// The program prints what the session over an engine says, and this.
 fn agrees(engine: &impl Engine, input: &[u8], expected: Option<&str>) {

@@ -6,7 +6,9 @@ use std::thread;
 
 /// A path from the repository's root.
 pub fn from_root(path: &str) -> PathBuf {
-    Path::new(env!("CARGO_MANIFEST_DIR")).join("..").join(path)
+    Path::new(env!("CARGO_MANIFEST_DIR"))
+        .join("../..")
+        .join(path)
 }
 
 /// What the session program prints for an input. It always ends well.

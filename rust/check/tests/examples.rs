@@ -2,10 +2,10 @@
 mod common;
 
 use common::{from_root, program};
-use readings::model::Model;
-use readings::session::session;
-use readings::text;
-use readings::tree;
+use readings_check::model::Model;
+use readings_check::session::session;
+use readings_check::text;
+use readings_check::tree;
 use std::fs;
 use std::path::{Path, PathBuf};
 use std::process::Command;
@@ -58,7 +58,8 @@ fn the_german_tables_are_letter_trees() {
 fn the_c_program_lists_the_readings() {
     let list = Path::new(env!("CARGO_TARGET_TMPDIR")).join("list");
     let compiled = Command::new("cc")
-        .args(["-std=c11", "-Wall", "-Wextra", "-Werror", "-I"])
+        .args(["-std=c99", "-Wall", "-Wextra", "-Wpedantic", "-Wconversion"])
+        .args(["-Werror", "-I"])
         .arg(from_root("include"))
         .arg(from_root("examples/list.c"))
         .arg(from_root("target/staticlib/libcapi.a"))

@@ -1,12 +1,13 @@
 //! The largest tables, the deepest searches, and stacks at the limit of 33,024 frames.
-use readings::answer::{Answer, FOUND, Run};
-use readings::compare::call::{self, Call};
-use readings::compare::texts;
-use readings::ffi::Library;
-use readings::lister;
-use readings::table::{Arc, Table};
-use readings::text;
-use readings::twin::SOUND;
+use readings::limits::{TABLE_CELLS, TEXT_BYTES};
+use readings_check::answer::{Answer, FOUND, Run};
+use readings_check::compare::call::{self, Call};
+use readings_check::compare::texts;
+use readings_check::library::Library;
+use readings_check::lister;
+use readings_check::table::{Arc, Table};
+use readings_check::text;
+use readings_check::twin::SOUND;
 use std::thread;
 
 const MOST: usize = 33_024;
@@ -34,7 +35,7 @@ fn largest() -> Table {
 #[test]
 fn the_largest_table() {
     let (cells, source) = (largest().cells(), text::print(&largest()));
-    assert_eq!((cells.len(), source.len()), (4_612, 18_970));
+    assert_eq!((cells.len(), source.len()), (TABLE_CELLS, TEXT_BYTES));
     for length in [4_611, 4_612, 4_613] {
         let answer = texts::read(&Library, &source, length).unwrap();
         assert_eq!(answer.is_refused(), length < 4_612);

@@ -1,7 +1,7 @@
 //! A word run as a session runs it, both engines in turn.
 use super::lists::List;
-use readings::answer::{Answer, ENDED, FOUND, Run};
-use readings::engine::Engine;
+use readings_check::answer::{Answer, ENDED, FOUND, Run};
+use readings_check::engine::Engine;
 use std::hint::black_box;
 use std::time::{Duration, Instant};
 

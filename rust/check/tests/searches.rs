@@ -1,8 +1,8 @@
 //! The proved library on random searches, starts and damaged places, against the model and the lister.
-use readings::answer::{DONE, ENDED, FOUND, PAUSED};
-use readings::compare::fixed;
-use readings::compare::tally::Tally;
-use readings::ffi::Library;
+use readings_check::answer::{DONE, ENDED, FOUND, PAUSED};
+use readings_check::compare::fixed;
+use readings_check::compare::tally::Tally;
+use readings_check::library::Library;
 
 fn agreed(result: Result<Tally, String>) -> Tally {
     result.unwrap_or_else(|difference| panic!("{difference}"))

@@ -1,7 +1,7 @@
 //! The comparison that the library is put to finds nothing in the benchmark's twin, and finds each planted fault.
-use readings::compare::fixed;
-use readings::engine::Engine;
-use readings::twin::{PLAIN, SOUND, Twin, fault};
+use readings_check::compare::fixed;
+use readings_check::engine::Engine;
+use readings_check::twin::{PLAIN, SOUND, Twin, fault};
 
 /// A fault is noticed, and so is said of it.
 fn found(engine: &impl Engine, said: &str) {

@@ -1,0 +1,96 @@
+//! The package `readings` against the lister: whole searches, and outputs that are too short.
+use readings::lending::{self, Run};
+use readings::{Answer, Refusal, Search, Table, Task, limits};
+use readings_check::draw;
+use readings_check::lister;
+use readings_check::random::Random;
+
+/// A table, a task and words whose whole search is short, with its readings.
+struct Asked {
+    table: Table,
+    task: Task,
+    upper: Vec<u8>,
+    lower: Vec<u8>,
+    readings: Vec<Vec<u8>>,
+}
+
+fn draw(random: &mut Random) -> Option<Asked> {
+    let task = *random.pick(&[Task::Recognition, Task::Synthesis, Task::Analysis]);
+    let number = task as u32;
+    let table = draw::table(random, number, true);
+    let (upper, lower) = draw::words(random, &table, number);
+    let listing = lister::list(&table, number, &upper, &lower, 20_000);
+    let readings = listing.readings.into_iter().map(|r| r.letters).collect();
+    listing.whole.then(|| Asked {
+        table: Table::from_cells(&table.cells()).expect("a table that keeps the rules"),
+        task,
+        upper,
+        lower,
+        readings,
+    })
+}
+
+fn series(seed: u64, mut see: impl FnMut(Asked)) {
+    let cases = (0..2_000).filter_map(|case| draw(&mut Random::of_case(seed, case)));
+    let mut readings = 0;
+    for asked in cases {
+        readings += asked.readings.len();
+        see(asked);
+    }
+    assert!(readings > 5_000, "only {readings} readings");
+}
+
+#[test]
+fn a_search_lists_the_readings() {
+    series(0x5EA2C4, |asked| {
+        let search = Search::start(&asked.table, asked.task, &asked.upper, &asked.lower);
+        let listed: Vec<Vec<u8>> = search.expect("no idle cycle").collect();
+        assert_eq!(listed, asked.readings);
+    });
+}
+
+/// Every reading over an output that is empty until a call is refused, and then has as many letters as frames are in use.
+fn stretched(asked: &Asked) -> (Vec<Vec<u8>>, usize) {
+    let (cells, upper, lower) = (asked.table.cells(), &asked.upper, &asked.lower);
+    let frames = limits::stack_cells(upper.len() + lower.len(), asked.table.states());
+    let (mut run, mut stack) = (Run::of(asked.task as u32), vec![0; frames]);
+    let (mut readings, mut refused) = (Vec::new(), 0);
+    let (mut output, mut allowance) = (Vec::new(), u32::MAX);
+    loop {
+        let reply = lending::next(
+            cells,
+            upper,
+            lower,
+            &mut run,
+            &mut stack,
+            allowance,
+            &mut output,
+        );
+        match reply.answer() {
+            Answer::Found { length, .. } => {
+                readings.push(output[..length].to_vec());
+                (output, allowance) = (Vec::new(), u32::MAX);
+            }
+            Answer::Refused { refusal, .. } => {
+                assert_eq!((refusal, allowance), (Refusal::OutputFull, u32::MAX));
+                (output, allowance) = (vec![0; run.depth as usize], 1);
+                refused += 1;
+            }
+            Answer::Ended { .. } => return (readings, refused),
+            Answer::Paused { .. } => panic!("the refused step is the next one"),
+        }
+    }
+}
+
+#[test]
+fn after_23_as_many_letters_as_frames_are_enough() {
+    let mut refused = 0;
+    series(0x0023, |asked| {
+        let (readings, times) = stretched(&asked);
+        let written = readings.iter().filter(|letters| !letters.is_empty());
+        assert_eq!(times, written.count());
+        assert_eq!(readings, asked.readings);
+        refused += times;
+    });
+    assert!(refused > 1_000, "only {refused} refusals");
+}

@@ -1,0 +1,75 @@
+//! Why a call is refused.
+use std::error::Error;
+use std::fmt;
+
+/// The enum, with what each refusal means as its documentation and as its message.
+macro_rules! refusals {
+    ($($name:ident = $number:literal: $meaning:literal)*) => {
+        /// Why a call is refused. `refusal as u32` is its number.
+        #[non_exhaustive]
+        #[derive(Clone, Copy, Debug, PartialEq, Eq, Hash)]
+        pub enum Refusal {
+            $(#[doc = $meaning] $name = $number,)*
+        }
+
+        impl Refusal {
+            /// All refusals, by rising number.
+            pub const ALL: &[Refusal] = &[$(Refusal::$name),*];
+
+            /// The refusal of a number.
+            pub fn of(number: u32) -> Option<Refusal> {
+                match number {
+                    $($number => Some(Refusal::$name),)*
+                    _ => None,
+                }
+            }
+        }
+
+        impl fmt::Display for Refusal {
+            fn fmt(&self, f: &mut fmt::Formatter) -> fmt::Result {
+                f.write_str(match self {
+                    $(Refusal::$name => $meaning,)*
+                })
+            }
+        }
+    };
+}
+
+refusals! {
+    Malformed = 1: "a line is empty, has an odd count of digits, another character than 0-9, A-F, or lacks its line feed"
+    Misplaced = 2: "a line has the wrong kind for its place or the wrong length, text stands after the end, or a line is missing"
+    CountLimit = 3: "a header count is outside its limit"
+    StateNumber = 4: "a state number is not below the count of states"
+    LetterLimit = 5: "an arc letter is over 63"
+    StateOrder = 6: "an initial state is repeated, or terminal states do not rise"
+    SourceOrder = 7: "an arc's source is below the one before"
+    ArcRepeated = 8: "an arc equals an earlier one"
+    LineCount = 9: "the end line's number is not the count of lines before it"
+    WordFault = 10: "a word has more than 64 letters, or a letter 0 or over 63"
+    TaskFault = 11: "unknown task, or a word on a side that the task does not read"
+    IdleCycle = 12: "arcs that read nothing for the task go round in a cycle, so a search could be endless"
+    LoadedTable = 20: "the loaded table breaks a rule, or is cut short"
+    Place = 21: "the run or its used frames are not a place in a search"
+    StackFull = 22: "the stack is full; the same run goes on with a longer one that begins with the same used frames"
+    OutputFull = 23: "the output is too short for the reading; the same run goes on with a longer one"
+    DestinationShort = 24: "a destination is too short for what is to be written to it"
+}
+
+impl Error for Refusal {}
+
+/// Why a start is refused.
+#[derive(Clone, Debug, PartialEq, Eq)]
+pub struct StartRefused {
+    /// The refusal.
+    pub refusal: Refusal,
+    /// With [`Refusal::IdleCycle`] the states of one such cycle in walking order, none twice; else empty.
+    pub cycle: Vec<u16>,
+}
+
+impl fmt::Display for StartRefused {
+    fn fmt(&self, f: &mut fmt::Formatter) -> fmt::Result {
+        self.refusal.fmt(f)
+    }
+}
+
+impl Error for StartRefused {}

@@ -1,0 +1,152 @@
+//! The C header has the names, numbers, sizes and layouts of this package.
+use readings::lending::{Reply, Run, StartReply};
+use readings::{Answer, Refusal, Task, limits};
+use std::fs;
+use std::mem::{offset_of, size_of};
+use std::path::{Path, PathBuf};
+use std::process::Command;
+
+fn include() -> PathBuf {
+    Path::new(env!("CARGO_MANIFEST_DIR")).join("../include")
+}
+
+/// A C compiler finds that each expression has its value, or says which has not.
+fn check(name: &str, values: &[(String, usize)]) -> Result<(), String> {
+    let mut program = "#include \"readings.h\"\n".to_string();
+    for (expression, value) in values {
+        program += &format!("_Static_assert({expression} == {value}, \"{value}\");\n");
+    }
+    let path = Path::new(env!("CARGO_TARGET_TMPDIR")).join(name);
+    fs::write(&path, program).expect("a C program");
+    let checked = Command::new("cc")
+        .args(["-std=c11", "-Wall", "-Wextra", "-Wpedantic", "-Wconversion"])
+        .args(["-Werror", "-fsyntax-only", "-I"])
+        .arg(include())
+        .arg(path)
+        .output()
+        .expect("a C compiler");
+    let said = String::from_utf8_lossy(&checked.stderr).into_owned();
+    checked.status.success().then_some(()).ok_or(said)
+}
+
+fn named(values: &[(&str, usize)]) -> Vec<(String, usize)> {
+    let owned = values
+        .iter()
+        .map(|(name, value)| (name.to_string(), *value));
+    owned.collect()
+}
+
+/// `StackFull` as `STACK_FULL`.
+fn capitals(name: &str) -> String {
+    let mut capitals = String::new();
+    for c in name.chars() {
+        if c.is_uppercase() && !capitals.is_empty() {
+            capitals.push('_');
+        }
+        capitals.push(c.to_ascii_uppercase());
+    }
+    capitals
+}
+
+#[test]
+fn refusals_and_tasks() {
+    let refusals = Refusal::ALL.iter().map(|refusal| {
+        let name = capitals(&format!("{refusal:?}"));
+        (format!("RD_REFUSAL_{name}"), *refusal as usize)
+    });
+    check("refusals.c", &refusals.collect::<Vec<_>>()).unwrap();
+    let tasks = [Task::Recognition, Task::Synthesis, Task::Analysis].map(|task| {
+        let name = capitals(&format!("{task:?}"));
+        (format!("RD_{name}"), task as usize)
+    });
+    check("tasks.c", &tasks).unwrap();
+}
+
+#[test]
+fn kinds() {
+    let kinds = [
+        ("RD_DONE", 0),
+        ("RD_FOUND", 1),
+        ("RD_PAUSED", 2),
+        ("RD_ENDED", 3),
+        ("RD_REFUSED", 4),
+    ];
+    check("kinds.c", &named(&kinds)).unwrap();
+    let reply = |kind| Reply {
+        kind,
+        number: if kind == 4 { 22 } else { 0 },
+        steps: 7,
+        length: 5,
+    };
+    let (steps, length, refusal) = (7, 5, Refusal::StackFull);
+    assert_eq!(reply(0).done(), Ok(5));
+    assert_eq!(reply(1).answer(), Answer::Found { steps, length });
+    assert_eq!(reply(2).answer(), Answer::Paused { steps });
+    assert_eq!(reply(3).answer(), Answer::Ended { steps });
+    assert_eq!(reply(4).answer(), Answer::Refused { steps, refusal });
+    assert_eq!(reply(4).done(), Err(refusal));
+}
+
+#[test]
+fn limits_and_sizes() {
+    let limits = [
+        ("RD_MOST_STATES", limits::MOST_STATES),
+        ("RD_MOST_ARCS", limits::MOST_ARCS),
+        ("RD_MOST_LETTER", limits::MOST_LETTER.into()),
+        ("RD_MOST_WORD", limits::MOST_WORD),
+        ("RD_MOST_FRAMES", limits::MOST_FRAMES),
+        ("RD_TABLE_CELLS", limits::TABLE_CELLS),
+        ("RD_TEXT_BYTES", limits::TEXT_BYTES),
+        ("RD_FRAME_CELLS", limits::FRAME_CELLS),
+        ("RD_CYCLE_STATES", limits::CYCLE_STATES),
+        ("RD_STACK_FRAMES(1 + 1, 2 + 1)", limits::stack_frames(2, 3)),
+        ("RD_STACK_FRAMES(128, 256)", limits::MOST_FRAMES),
+        ("RD_STACK_CELLS(1 + 1, 2 + 1)", limits::stack_cells(2, 3)),
+        (
+            "RD_OUTPUT_LETTERS(1 + 1, 2 + 1)",
+            limits::output_letters(2, 3),
+        ),
+        (
+            "2 * RD_OUTPUT_LETTERS(2, 3)",
+            2 * limits::output_letters(2, 3),
+        ),
+    ];
+    check("limits.c", &named(&limits)).unwrap();
+    let said = check("wrong.c", &named(&[("RD_MOST_STATES", 255)])).unwrap_err();
+    assert!(said.contains("RD_MOST_STATES == 255"), "{said}");
+}
+
+#[test]
+fn layouts() {
+    let layouts = [
+        ("sizeof(rd_answer)", size_of::<Reply>()),
+        ("offsetof(rd_answer, kind)", offset_of!(Reply, kind)),
+        ("offsetof(rd_answer, number)", offset_of!(Reply, number)),
+        ("offsetof(rd_answer, steps)", offset_of!(Reply, steps)),
+        ("offsetof(rd_answer, length)", offset_of!(Reply, length)),
+        ("sizeof(rd_started)", size_of::<StartReply>()),
+        (
+            "offsetof(rd_started, answer)",
+            offset_of!(StartReply, answer),
+        ),
+        ("offsetof(rd_started, cycle)", offset_of!(StartReply, cycle)),
+        ("sizeof(rd_run)", size_of::<Run>()),
+        ("offsetof(rd_run, task)", offset_of!(Run, task)),
+        ("offsetof(rd_run, started)", offset_of!(Run, started)),
+        ("offsetof(rd_run, depth)", offset_of!(Run, depth)),
+        ("sizeof(RD_NO_LETTERS)", size_of::<*const u8>()),
+    ];
+    check("layouts.c", &named(&layouts)).unwrap();
+}
+
+#[test]
+fn version() {
+    let version = env!("CARGO_PKG_VERSION");
+    let header = fs::read_to_string(include().join("readings.h")).expect("the header");
+    assert!(header.contains(&format!("#define RD_VERSION \"{version}\"\n")));
+    let parts = version
+        .split('.')
+        .map(|part| part.parse::<usize>().expect("a number"));
+    let number = parts.fold(0, |number, part| 100 * number + part);
+    check("version.c", &named(&[("RD_VERSION_NUMBER", number)])).unwrap();
+}

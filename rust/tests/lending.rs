@@ -1,0 +1,102 @@
+//! What to do after refusals 22 and 23, and how much memory is enough.
+use readings::lending::{self, Run};
+use readings::{Answer, Refusal, limits};
+
+const SYNTHESIS: u32 = 2;
+
+/// A chain of arcs that read nothing and write 1, at whose end a letter 1 is read: the longest paths that so many states allow.
+fn chain(states: u16) -> Vec<u16> {
+    let mut cells = vec![states, 1, 1, states, 0, states - 1];
+    for state in 0..states {
+        let last = state + 1 == states;
+        let (letter, target) = if last { (1, 0) } else { (0, state + 1) };
+        cells.extend([state, letter, 1, target]);
+    }
+    cells
+}
+
+/// A start for synthesis, and its first call on so many frames and letters.
+fn first_call(table: &[u16], word: &[u8], frames: usize, letters: usize) -> (Answer, Run) {
+    let mut run = Run::default();
+    let started = lending::start(table, SYNTHESIS, word, &[], &mut run);
+    started.done().expect("a search");
+    let mut stack = vec![0; limits::FRAME_CELLS * frames];
+    let mut output = vec![0; letters];
+    let reply = lending::next(
+        table,
+        word,
+        &[],
+        &mut run,
+        &mut stack,
+        u32::MAX,
+        &mut output,
+    );
+    (reply.answer(), run)
+}
+
+fn refusal(answer: Answer) -> Option<Refusal> {
+    match answer {
+        Answer::Refused { refusal, .. } => Some(refusal),
+        _ => None,
+    }
+}
+
+#[test]
+fn what_is_enough_is_needed() {
+    for (states, letters) in [(1, 0), (1, 5), (2, 1), (7, 3), (256, 0), (256, 64)] {
+        let (table, word) = (chain(states), vec![1; letters]);
+        let frames = limits::stack_frames(letters, states.into());
+        let written = limits::output_letters(letters, states.into());
+        let (answer, run) = first_call(&table, &word, frames, written);
+        assert!(matches!(answer, Answer::Found { length, .. } if length == written));
+        assert_eq!(run.depth as usize, frames);
+        let (answer, run) = first_call(&table, &word, frames - 1, written);
+        assert_eq!(refusal(answer), Some(Refusal::StackFull));
+        assert_eq!(run.depth as usize, frames - 1);
+        if written > 0 {
+            let (answer, run) = first_call(&table, &word, frames, written - 1);
+            assert_eq!(refusal(answer), Some(Refusal::OutputFull));
+            assert_eq!(run.depth as usize, written); // enough for the refused step
+        }
+    }
+}
+
+#[test]
+fn a_refused_search_goes_on_with_more() {
+    let (table, word) = (chain(4), [1, 1]);
+    let mut run = Run::default();
+    let started = lending::start(&table, SYNTHESIS, &word, &[], &mut run);
+    started.done().expect("a search");
+    let (mut stack, mut output) = (vec![0; limits::FRAME_CELLS], vec![]);
+    let mut refused = Vec::new();
+    let (steps, length) = loop {
+        let reply = lending::next(&table, &word, &[], &mut run, &mut stack, 1_000, &mut output);
+        match reply.answer() {
+            Answer::Found { steps, length } => break (steps, length),
+            Answer::Refused { refusal, .. } => refused.push(refusal),
+            other => panic!("{other:?}"),
+        }
+        match refused.last() {
+            Some(Refusal::StackFull) => stack.resize(stack.len() + limits::FRAME_CELLS, 9),
+            Some(Refusal::OutputFull) => output.resize(run.depth as usize, 9),
+            other => panic!("{other:?}"),
+        }
+    };
+    assert_eq!((steps, length, &output[..]), (1, 11, &[1; 11][..]));
+    assert_eq!(refused.len(), 12);
+    assert_eq!(
+        refused.iter().position(|r| *r == Refusal::OutputFull),
+        Some(11)
+    );
+}
+
+/// With no task a start is refused; the lent run is as it was.
+#[test]
+fn any_number_may_be_given_as_task() {
+    for task in [0, 4, 1 << 8 | 2, u32::MAX] {
+        let mut run = Run::of(77);
+        let reply = lending::start(&chain(2), task, &[], &[], &mut run);
+        assert_eq!(reply.done().unwrap_err().refusal, Refusal::TaskFault);
+        assert_eq!(run, Run::of(77));
+    }
+}

@@ -1,0 +1,142 @@
+//! Tables and searches that own their memory, on document 01's table K.
+use readings::{Answer, Refusal, Search, Table, Task, limits};
+use std::thread;
+
+const K: &str = "010003000100020005\n020000\n030001\n030002\n\
+                 04000001010001\n04000002020002\n04000102020002\n\
+                 04000100030000\n04000200030000\n050009\n";
+
+fn k() -> Table {
+    Table::read(K).expect("table K")
+}
+
+fn all(search: Search) -> Vec<Vec<u8>> {
+    search.collect()
+}
+
+#[test]
+fn every_task_lists_its_readings() {
+    let k = k();
+    let two = [vec![1, 2], vec![1, 3, 2]];
+    assert_eq!(all(k.synthesis(&[1, 2]).unwrap()), two);
+    assert_eq!(all(k.analysis(&[1, 3, 2]).unwrap()), [[1, 2]]);
+    assert_eq!(all(k.recognition(&[1, 2], &[1, 3, 2]).unwrap()), [[]]);
+    assert!(all(k.synthesis(&[]).unwrap()).is_empty());
+}
+
+#[test]
+fn a_call_makes_the_steps_that_it_tells() {
+    let k = k();
+    let mut search = k.synthesis(&[1, 2]).unwrap();
+    assert_eq!(search.advance(0), Answer::Paused { steps: 0 });
+    let found = Answer::Found {
+        steps: 3,
+        length: 2,
+    };
+    assert_eq!(search.advance(3), found);
+    assert_eq!(search.reading(), [1, 2]);
+    assert_eq!(search.advance(7), Answer::Paused { steps: 7 });
+    let mut place = search.clone();
+    assert_eq!(place.next(), Some(vec![1, 3, 2]));
+    assert_eq!(place.next(), None);
+    assert_eq!(place.next(), None);
+    let found = Answer::Found {
+        steps: 1,
+        length: 3,
+    };
+    assert_eq!(search.advance(7), found);
+    assert_eq!(search.reading(), [1, 3, 2]);
+    assert_eq!(search.advance(9), Answer::Ended { steps: 9 });
+    assert_eq!(search.advance(9), Answer::Ended { steps: 0 });
+}
+
+#[test]
+fn a_start_tells_why_it_is_refused() {
+    let refused = |table: &Table, task, upper: &[u8], lower: &[u8]| {
+        let refused = Search::start(table, task, upper, lower).unwrap_err();
+        (refused.refusal, refused.cycle)
+    };
+    let k = k();
+    let unread = refused(&k, Task::Analysis, &[1], &[1]);
+    assert_eq!(unread, (Refusal::TaskFault, vec![]));
+    let long = refused(&k, Task::Synthesis, &[1; limits::MOST_WORD + 1], &[]);
+    assert_eq!(long, (Refusal::WordFault, vec![]));
+    let high = refused(&k, Task::Synthesis, &[limits::MOST_LETTER + 1], &[]);
+    assert_eq!(high, (Refusal::WordFault, vec![]));
+    // States 1 and 2 lead to each other and read nothing above.
+    let cells = [3, 1, 0, 2, 0, 1, 0, 5, 2, 2, 0, 0, 1];
+    let table = Table::from_cells(&cells).unwrap();
+    let (refusal, mut cycle) = refused(&table, Task::Synthesis, &[], &[]);
+    cycle.sort();
+    assert_eq!((refusal, cycle), (Refusal::IdleCycle, vec![1, 2]));
+    assert!(table.analysis(&[]).is_ok());
+}
+
+#[test]
+fn tables_are_read_and_written() {
+    let k = k();
+    assert_eq!(k.text(), K);
+    assert_eq!(k.states(), 3);
+    assert_eq!(k.cells()[..7], [3, 1, 2, 5, 0, 1, 2]);
+    let mut cells = k.cells().to_vec();
+    cells.push(7);
+    assert_eq!(Table::from_cells(&cells).unwrap(), k);
+    cells.truncate(k.cells().len() - 1);
+    assert_eq!(Table::from_cells(&cells), Err(Refusal::LoadedTable));
+    assert_eq!(Table::from_cells(&[]), Err(Refusal::LoadedTable));
+}
+
+#[test]
+fn a_text_is_refused_by_name() {
+    let end = |arcs: &str, lines| format!("01000200010000{arcs}\n020000\n05000{lines}\n");
+    assert!(Table::read(end("0000", 2)).is_ok());
+    for (text, refusal) in [
+        ("x\n".to_string(), Refusal::Malformed),
+        (String::new(), Refusal::Misplaced),
+        (end("0401", 2), Refusal::CountLimit),
+        (
+            end("0000", 2).replace("020000", "020002"),
+            Refusal::StateNumber,
+        ),
+        (end("0001\n040000400000", 3), Refusal::Misplaced),
+        (end("0000", 3), Refusal::LineCount),
+        (K.replace("04000001", "04000040"), Refusal::LetterLimit),
+        (K.replace("030002", "030001"), Refusal::StateOrder),
+        (
+            K.replace("04000200030000", "04000000030000"),
+            Refusal::SourceOrder,
+        ),
+        (
+            K.replace("04000002020002", "04000001010001"),
+            Refusal::ArcRepeated,
+        ),
+    ] {
+        assert_eq!(Table::read(&text), Err(refusal), "{text}");
+    }
+}
+
+#[test]
+fn refusals_have_numbers_and_meanings() {
+    let numbers: Vec<u32> = Refusal::ALL.iter().map(|r| *r as u32).collect();
+    let expected: Vec<u32> = (1..=12).chain(20..=24).collect();
+    assert_eq!(numbers, expected);
+    for number in 0..100 {
+        let named = Refusal::of(number).map(|refusal| refusal as u32);
+        assert_eq!(named, expected.contains(&number).then_some(number));
+    }
+    let said = Refusal::StackFull.to_string();
+    assert!(said.starts_with("the stack is full"), "{said}");
+}
+
+#[test]
+fn threads_share_a_table() {
+    let k = k();
+    thread::scope(|scope| {
+        let search = || all(k.synthesis(&[1, 2]).unwrap());
+        let threads: Vec<_> = (0..4).map(|_| scope.spawn(search)).collect();
+        for thread in threads {
+            let readings = thread.join().expect("a search");
+            assert_eq!(readings, [vec![1, 2], vec![1, 3, 2]]);
+        }
+    });
+}
