@@ -276,8 +276,8 @@ module _ (cells upper lower : List ℕ) where
       pub few : (xs : List Lent) → Handed upper lower cells (s .run) [] xs → (m : ℕ) → AmpleCalls t q m xs → m + unended upper lower (s .run) xs ≤ length xs + treeSize (machine t q)
       pub ends : (xs : List Lent) → Handed upper lower cells (s .run) [] xs → (m : ℕ) → AmpleCalls t q m xs → treeSize (machine t q) < m
           → LastEnds upper lower (s .run) xs × (received upper lower (s .run) xs ≡ readings (machine t q) (tour (machine t q)))
-      -- room enough by numbers alone, and lists of calls that have it
-      pub by-size : (x : Lent) → (lettersToRead q + 1) * t .states ≤ framesIn (x .stack) → 0 < x .allowance → (lettersToRead q + 1) * t .states ≤ length (x .buffer) → Ample t q x
+      -- room enough by numbers alone: no reading has (letters to read + 1) × states letters; and lists of calls that have it
+      pub by-size : (x : Lent) → (lettersToRead q + 1) * t .states ≤ framesIn (x .stack) → 0 < x .allowance → (lettersToRead q + 1) * t .states ≤ length (x .buffer) + 1 → Ample t q x
       pub asks-end : (ks : List Ask) → AsksAmple ((lettersToRead q + 1) * t .states) ks → treeSize (machine t q) < length ks
           → LastEnds upper lower (s .run) (lentAll cells upper lower (s .run) [] ks)
           × (received upper lower (s .run) (lentAll cells upper lower (s .run) [] ks) ≡ readings (machine t q) (tour (machine t q)))

@@ -34,11 +34,11 @@ module _ (t : Table) (q : Query) where
       go synthesis d u l = omega arith
       go analysis d u l = omega arith
 
-  -- so (letters to read + 1) × states letters are enough
-  enough-letters : Bounded (machine t q) → (n : ℕ) → (lettersToRead q + 1) * t .states ≤ n → (p : Path) → Allowed (machine t q) p → length (output (machine t q) p) ≤ n
+  -- so one letter fewer than (letters to read + 1) × states is enough
+  enough-letters : Bounded (machine t q) → (n : ℕ) → (lettersToRead q + 1) * t .states ≤ n + 1 → (p : Path) → Allowed (machine t q) p → length (output (machine t q) p) ≤ n
   enough-letters B n h p A = omega (arith, output-size p A, B p A)
 
-  pub ample-by-size : Bounded (machine t q) → (x : Lent) → (lettersToRead q + 1) * t .states ≤ framesIn (x .stack) → 0 < x .allowance → (lettersToRead q + 1) * t .states ≤ length (x .buffer) → Ample t q x
+  pub ample-by-size : Bounded (machine t q) → (x : Lent) → (lettersToRead q + 1) * t .states ≤ framesIn (x .stack) → 0 < x .allowance → (lettersToRead q + 1) * t .states ≤ length (x .buffer) + 1 → Ample t q x
   ample-by-size B x f n l = record { frames = f; steps = n; letters = λ p A e. enough-letters B (length (x .buffer)) l p A }
 
   progress-by : (r : Run) (x : Lent) {o : Outcome} → Ample t q x → CallBy t q r (x .stack) (x .allowance) (x .buffer) o → ((m : ℕ) → kindBy o ≡ refused m → ⊥) → (0 < stepsBy o) ⊎ (kindBy o ≡ ended)

@@ -1,6 +1,6 @@
 -- Document 01, "Cases on table K", the starred ones, as rows of one table. A row is right where the definitions of the start, of the call
 -- for a reading and of the search tree, run on a loaded table's cells, give what it says.
-use Prim.Native.Nat.{ℕ, _*_, _≤_, _<_}
+use Prim.Native.Nat.{ℕ, _+_, _*_, _≤_, _<_}
 use Prim.Native.Char.{code}
 use Prim.Native.String.{String, [] as []ᶜ, _∷_ as _∷ᶜ_}
 use mathlib.Core.Bool.{Bool, true, false, _&&_}
@@ -74,10 +74,10 @@ lentAll cells upper lower r used [] = []
 lentAll cells upper lower r used (a ∷ asks) =
     let x = lentFor cells a used in x ∷ lentAll cells upper lower (runAfter upper lower r x) (usedAfter upper lower r used x) asks
 
--- every ask has w frames and w letters or more, and a step allowed
+-- every ask has w frames and w - 1 letters or more, and a step allowed
 abbrev pub AsksAmple : ℕ → List Ask → Type 0
 AsksAmple w [] = Unit {0}
-AsksAmple w (a ∷ asks) = ((w ≤ a .frames) × (0 < a .allowance) × (w ≤ a .letters)) × AsksAmple w asks
+AsksAmple w (a ∷ asks) = ((w ≤ a .frames) × (0 < a .allowance) × (w ≤ a .letters + 1)) × AsksAmple w asks
 
 -- what calls tell, one after another, each with the run and the used frames as demand 3 hands them on
 abbrev pub callsGive : List ℕ → List ℕ → List ℕ → Run → List ℕ → List Ask → List Says
