@@ -1,0 +1,195 @@
+//! The library behind a boundary that cuts one value of its calls: the faults that wide values are to show.
+use readings::answer::{Answer, Run, Started};
+use readings::engine::{Engine, Texts};
+use readings::ffi::Library;
+use std::borrow::Cow;
+
+/// A value that passes the boundary: the length or the cells of what is lent, a number, or what is told or left.
+#[derive(Clone, Copy, Debug, PartialEq, Eq)]
+pub enum Part {
+    ReadText,
+    ReadTable,
+    ReadCells,
+    ReadLength,
+    WriteTable,
+    WriteCells,
+    WriteText,
+    WriteLength,
+    StartTable,
+    StartCells,
+    StartTask,
+    StartUpper,
+    StartLower,
+    StartRun,
+    StartLength,
+    NextTable,
+    NextCells,
+    NextUpper,
+    NextLower,
+    NextTask,
+    NextStarted,
+    NextDepth,
+    NextStack,
+    NextFrames,
+    NextAllowance,
+    NextOutput,
+    NextSteps,
+    NextLength,
+    LeftStarted,
+    LeftDepth,
+    LeftFrames,
+}
+
+/// What becomes of a value.
+#[derive(Clone, Copy, Debug)]
+pub enum Cut {
+    /// So many of its low bits are left.
+    Low(u32),
+    /// What is left of it where so much is taken away as often as it can be.
+    Rest(usize),
+    /// It is this at most.
+    Most(usize),
+    /// A text that is longer than this is refused.
+    Refused(usize),
+}
+
+impl Cut {
+    fn of(self, value: usize) -> usize {
+        match self {
+            Cut::Low(bits) => value % (1 << bits),
+            Cut::Rest(of) => value % of,
+            Cut::Most(most) => value.min(most),
+            Cut::Refused(_) => value,
+        }
+    }
+}
+
+/// The library, with a fault or with none.
+#[derive(Clone, Copy, Debug)]
+pub struct Boundary {
+    pub fault: Option<(Part, Cut)>,
+}
+
+/// The library as it is.
+pub const SOUND: Boundary = Boundary { fault: None };
+
+impl Boundary {
+    fn length(&self, part: Part, value: usize) -> usize {
+        match self.fault {
+            Some((cut, fault)) if cut == part => fault.of(value),
+            _ => value,
+        }
+    }
+
+    fn number(&self, part: Part, value: u32) -> u32 {
+        self.length(part, value as usize) as u32
+    }
+
+    fn front<'a, T>(&self, part: Part, slice: &'a [T]) -> &'a [T] {
+        &slice[..self.length(part, slice.len())]
+    }
+
+    fn front_mut<'a, T>(&self, part: Part, slice: &'a mut [T]) -> &'a mut [T] {
+        let length = self.length(part, slice.len());
+        &mut slice[..length]
+    }
+
+    /// Cells, each cut; a copy only where they are.
+    fn cells<'a>(&self, part: Part, cells: &'a [u16]) -> Cow<'a, [u16]> {
+        match self.fault {
+            Some((cut, fault)) if cut == part => {
+                let narrow = cells.iter().map(|c| fault.of(usize::from(*c)) as u16);
+                Cow::Owned(narrow.collect())
+            }
+            _ => Cow::Borrowed(cells),
+        }
+    }
+
+    fn frames(&self, part: Part, stack: &mut [u32]) {
+        if self.fault.is_some_and(|(cut, _)| cut == part) {
+            for cell in stack {
+                *cell = self.number(part, *cell);
+            }
+        }
+    }
+}
+
+impl Texts for Boundary {
+    fn read(&self, text: &[u8], table: &mut [u16]) -> Answer {
+        if let Some((Part::ReadText, Cut::Refused(most))) = self.fault
+            && text.len() > most
+        {
+            return Answer::refused(3, 0);
+        }
+        let table = self.front_mut(Part::ReadTable, table);
+        let mut answer = Library.read(self.front(Part::ReadText, text), table);
+        if let Cow::Owned(narrow) = self.cells(Part::ReadCells, table) {
+            table.copy_from_slice(&narrow);
+        }
+        answer.length = self.number(Part::ReadLength, answer.length);
+        answer
+    }
+
+    fn write(&self, table: &[u16], text: &mut [u8]) -> Answer {
+        let table = self.cells(Part::WriteCells, self.front(Part::WriteTable, table));
+        let mut answer = Library.write(&table, self.front_mut(Part::WriteText, text));
+        answer.length = self.number(Part::WriteLength, answer.length);
+        answer
+    }
+}
+
+impl Engine for Boundary {
+    fn start(
+        &self,
+        table: &[u16],
+        task: u32,
+        upper: &[u8],
+        lower: &[u8],
+        run: &mut Run,
+    ) -> Started {
+        run.task = self.number(Part::StartRun, run.task);
+        run.started = self.number(Part::StartRun, run.started);
+        run.depth = self.number(Part::StartRun, run.depth);
+        let mut started = Library.start(
+            &self.cells(Part::StartCells, self.front(Part::StartTable, table)),
+            self.number(Part::StartTask, task),
+            self.front(Part::StartUpper, upper),
+            self.front(Part::StartLower, lower),
+            run,
+        );
+        started.answer.length = self.number(Part::StartLength, started.answer.length);
+        started
+    }
+
+    fn next(
+        &self,
+        table: &[u16],
+        upper: &[u8],
+        lower: &[u8],
+        run: &mut Run,
+        stack: &mut [u32],
+        allowance: u32,
+        output: &mut [u8],
+    ) -> Answer {
+        let stack = self.front_mut(Part::NextStack, stack);
+        self.frames(Part::NextFrames, stack);
+        run.task = self.number(Part::NextTask, run.task);
+        run.started = self.number(Part::NextStarted, run.started);
+        run.depth = self.number(Part::NextDepth, run.depth);
+        let mut answer = Library.next(
+            &self.cells(Part::NextCells, self.front(Part::NextTable, table)),
+            self.front(Part::NextUpper, upper),
+            self.front(Part::NextLower, lower),
+            run,
+            stack,
+            self.number(Part::NextAllowance, allowance),
+            self.front_mut(Part::NextOutput, output),
+        );
+        answer.steps = self.number(Part::NextSteps, answer.steps);
+        answer.length = self.number(Part::NextLength, answer.length);
+        run.started = self.number(Part::LeftStarted, run.started);
+        run.depth = self.number(Part::LeftDepth, run.depth);
+        self.frames(Part::LeftFrames, stack);
+        answer
+    }
+}
