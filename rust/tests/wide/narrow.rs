@@ -4,17 +4,19 @@ use readings::engine::{Engine, Texts};
 use readings::ffi::Library;
 use std::borrow::Cow;
 
-/// A value that passes the boundary: the length or the cells of what is lent, a number, or what is told or left.
+/// A value that passes the boundary: the length of what is lent, named after it; its cells; a number; what is told.
 #[derive(Clone, Copy, Debug, PartialEq, Eq)]
 pub enum Part {
     ReadText,
     ReadTable,
     ReadCells,
     ReadLength,
+
     WriteTable,
     WriteCells,
     WriteText,
     WriteLength,
+
     StartTable,
     StartCells,
     StartTask,
@@ -22,6 +24,7 @@ pub enum Part {
     StartLower,
     StartRun,
     StartLength,
+
     NextTable,
     NextCells,
     NextUpper,
@@ -29,12 +32,14 @@ pub enum Part {
     NextTask,
     NextStarted,
     NextDepth,
+    NextRun,
     NextStack,
     NextFrames,
     NextAllowance,
     NextOutput,
     NextSteps,
     NextLength,
+    // Of run and stack, what the call leaves there.
     LeftStarted,
     LeftDepth,
     LeftFrames,
@@ -83,6 +88,14 @@ impl Boundary {
 
     fn number(&self, part: Part, value: u32) -> u32 {
         self.length(part, value as usize) as u32
+    }
+
+    fn run(&self, part: Part, run: Run) -> Run {
+        Run {
+            task: self.number(part, run.task),
+            started: self.number(part, run.started),
+            depth: self.number(part, run.depth),
+        }
     }
 
     fn front<'a, T>(&self, part: Part, slice: &'a [T]) -> &'a [T] {
@@ -147,9 +160,6 @@ impl Engine for Boundary {
         lower: &[u8],
         run: &mut Run,
     ) -> Started {
-        run.task = self.number(Part::StartRun, run.task);
-        run.started = self.number(Part::StartRun, run.started);
-        run.depth = self.number(Part::StartRun, run.depth);
         let mut started = Library.start(
             &self.cells(Part::StartCells, self.front(Part::StartTable, table)),
             self.number(Part::StartTask, task),
@@ -157,6 +167,7 @@ impl Engine for Boundary {
             self.front(Part::StartLower, lower),
             run,
         );
+        *run = self.run(Part::StartRun, *run);
         started.answer.length = self.number(Part::StartLength, started.answer.length);
         started
     }
@@ -173,22 +184,29 @@ impl Engine for Boundary {
     ) -> Answer {
         let stack = self.front_mut(Part::NextStack, stack);
         self.frames(Part::NextFrames, stack);
-        run.task = self.number(Part::NextTask, run.task);
-        run.started = self.number(Part::NextStarted, run.started);
-        run.depth = self.number(Part::NextDepth, run.depth);
+        let handed = Run {
+            task: self.number(Part::NextTask, run.task),
+            started: self.number(Part::NextStarted, run.started),
+            depth: self.number(Part::NextDepth, run.depth),
+        };
+        let mut moved = handed;
         let mut answer = Library.next(
             &self.cells(Part::NextCells, self.front(Part::NextTable, table)),
             self.front(Part::NextUpper, upper),
             self.front(Part::NextLower, lower),
-            run,
+            &mut moved,
             stack,
             self.number(Part::NextAllowance, allowance),
             self.front_mut(Part::NextOutput, output),
         );
         answer.steps = self.number(Part::NextSteps, answer.steps);
         answer.length = self.number(Part::NextLength, answer.length);
-        run.started = self.number(Part::LeftStarted, run.started);
-        run.depth = self.number(Part::LeftDepth, run.depth);
+        if moved != handed {
+            *run = moved;
+            run.started = self.number(Part::LeftStarted, moved.started);
+            run.depth = self.number(Part::LeftDepth, moved.depth);
+        }
+        *run = self.run(Part::NextRun, *run);
         self.frames(Part::LeftFrames, stack);
         answer
     }

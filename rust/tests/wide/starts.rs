@@ -1,0 +1,107 @@
+//! `rd_start`.
+use crate::inputs::{k, tables, tasks, words};
+use crate::narrow::Boundary;
+use crate::narrow::Cut::{Low, Most};
+use crate::narrow::Part::*;
+use crate::{Checked, NARROW, is, tells};
+use readings::answer::{Answer, Run};
+use readings::compare::start::{self, Start};
+use readings::engine::Engine;
+use readings::table::{Arc, Table};
+
+/// Recognition of two empty words over table K.
+fn plain() -> Start {
+    Start {
+        table: k(),
+        task: 1,
+        upper: vec![],
+        lower: vec![],
+    }
+}
+
+/// What a start answers, by the model and by the library.
+fn told(engine: &Boundary, start: Start) -> Result<Answer, String> {
+    Ok(start::compare(engine, &start)?.0)
+}
+
+fn table(engine: &Boundary) -> Checked {
+    let call = |table| told(engine, Start { table, ..plain() });
+    tables(call, Answer::done(0))
+}
+
+#[test]
+fn start_tables() {
+    tells(table, StartTable, NARROW);
+    tells(table, StartTable, &[Most(4_096), Most(4_611)]);
+    tells(table, StartCells, &[Low(8), Low(13), Low(15)]);
+}
+
+fn task(engine: &Boundary) -> Checked {
+    tasks(|task| told(engine, Start { task, ..plain() }))
+}
+
+#[test]
+fn start_tasks() {
+    tells(task, StartTask, NARROW);
+    tells(task, StartTask, &[Low(2), Low(24), Low(31), Most(3)]);
+}
+
+fn word(engine: &Boundary) -> Checked {
+    let call = |task, upper, lower| {
+        let mut start = plain();
+        (start.task, start.upper, start.lower) = (task, upper, lower);
+        told(engine, start)
+    };
+    words(call, Answer::done(0))
+}
+
+#[test]
+fn start_words() {
+    for part in [StartUpper, StartLower] {
+        tells(word, part, NARROW);
+        tells(word, part, &[Low(6), Most(63), Most(64)]);
+    }
+}
+
+/// A refused start leaves every bit of a run; one that passes sets them all.
+fn run(engine: &Boundary) -> Checked {
+    let stale = Run {
+        task: u32::MAX,
+        started: 0x8765_4321,
+        depth: 0xFEDC_BA98,
+    };
+    for (task, left) in [(4, stale), (2, Run::of(2))] {
+        let mut run = stale;
+        engine.start(&k(), task, &[1, 2], &[], &mut run);
+        if run != left {
+            return Err(format!("run is {run:?}, expected {left:?}"));
+        }
+    }
+    Ok(())
+}
+
+#[test]
+fn start_runs() {
+    tells(run, StartRun, NARROW);
+    tells(run, StartRun, &[Low(24), Low(31), Most(65_536)]);
+}
+
+/// An idle cycle through all 256 states.
+fn cycle(engine: &Boundary) -> Checked {
+    let table = Table {
+        states: 256,
+        initials: vec![0],
+        terminals: vec![],
+        arcs: (0..256).map(|s| Arc::new(s, 0, 0, (s + 1) % 256)).collect(),
+    };
+    let start = Start {
+        table: table.cells(),
+        ..plain()
+    };
+    is(told(engine, start)?, Answer::refused(12, 0)) // the length told is compared with the cycle told
+}
+
+#[test]
+fn start_cycles() {
+    tells(cycle, StartLength, &[Low(8), Most(255)]);
+}
