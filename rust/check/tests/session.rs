@@ -185,20 +185,38 @@ fn a_table_of_256_states() {
     }
 }
 
-/// A chain of idle arcs for each letter, which needs more frames than a session has.
-#[test]
-fn a_stack_too_short() {
-    let mut arcs: Vec<Arc> = (0..255).map(|s| Arc::new(s, 0, 1, s + 1)).collect();
-    arcs.push(Arc::new(255, 1, 1, 0));
-    let table = Table {
-        states: 256,
+/// A chain of idle arcs through all states, whose last arc reads 01 and leads to the first state. A word of n letters 01 has one
+/// reading, found on (n + 1) x states frames, with a letter for each of its arcs.
+fn chain(states: u16) -> Table {
+    let arc = |s| Arc::new(s, (s + 1) / states, 1 + s % 63, (s + 1) % states);
+    Table {
+        states,
         initials: vec![0],
-        terminals: vec![255],
-        arcs,
-    };
-    let longest = format!("2000010FFF{}\n2F0001\n", "01".repeat(4_095));
-    agrees(&SOUND, &input(&table, 2, &[1; 15], &[]), Some(&longest));
-    prints(input(&table, 2, &[1; 16], &[]), "2E16\n");
+        terminals: vec![states - 1],
+        arcs: (0..states).map(arc).collect(),
+    }
+}
+
+/// What is printed where that reading is found on so many frames.
+fn found_on(frames: u16, states: u16) -> String {
+    let letters = (0..frames - 1).map(|k| format!("{:02X}", 1 + k % states % 63));
+    let letters: String = letters.collect();
+    format!("200001{:04X}{letters}\n2F0001\n", frames - 1)
+}
+
+/// A session has 4,096 frames, neither more nor less. A reading found on all of them has 4,095 letters and is the longest, so an output
+/// of 4,094 letters would give 23; one of 4,095 nobody can tell from one of 4,096.
+#[test]
+fn frames_and_letters() {
+    for (frames, states, lines) in [
+        (4_095, 195, found_on(4_095, 195)),
+        (4_096, 256, found_on(4_096, 256)),
+        (4_097, 241, "2E16\n".to_string()),
+    ] {
+        let word = vec![1; usize::from(frames / states - 1)];
+        let input = input(&chain(states), 2, &word, &[]);
+        agrees(&SOUND, &input, Some(&lines));
+    }
 }
 
 /// A reading from the first initial state, then such a chain from the second.
