@@ -3,8 +3,8 @@
 //! model, or follows from document 01.
 //!
 //! Some cuts nobody can tell, for document 01 has no case that they would change: a destination or a loaded table taken for 4,612
-//! cells where it has more, a destination for 18,970 bytes, a stack for 132,096 cells (33,024 frames), an output for 33,023 letters.
-//! Steps of more than 25 bits in one call are left out, since they would take long.
+//! cells where it has more, a destination for 18,970 bytes, a stack for 132,096 cells (33,024 frames), an output for 33,023 letters, and
+//! a length that is told in 16 bits. Steps of more than 25 bits in one call are left out, since they would take long.
 mod calls;
 mod huge;
 mod inputs;

@@ -50,7 +50,7 @@ pub enum Part {
 pub enum Cut {
     /// So many of its low bits are left.
     Low(u32),
-    /// What is left of it where so much is taken away as often as it can be.
+    /// Its remainder by this.
     Rest(usize),
     /// It is this at most.
     Most(usize),
@@ -62,7 +62,7 @@ impl Cut {
     fn of(self, value: usize) -> usize {
         match self {
             Cut::Low(bits) => value % (1 << bits),
-            Cut::Rest(of) => value % of,
+            Cut::Rest(by) => value % by,
             Cut::Most(most) => value.min(most),
             Cut::Refused(_) => value,
         }
@@ -81,7 +81,7 @@ pub const SOUND: Boundary = Boundary { fault: None };
 impl Boundary {
     fn length(&self, part: Part, value: usize) -> usize {
         match self.fault {
-            Some((cut, fault)) if cut == part => fault.of(value),
+            Some((faulty, cut)) if faulty == part => cut.of(value),
             _ => value,
         }
     }
@@ -110,8 +110,8 @@ impl Boundary {
     /// Cells, each cut; a copy only where they are.
     fn cells<'a>(&self, part: Part, cells: &'a [u16]) -> Cow<'a, [u16]> {
         match self.fault {
-            Some((cut, fault)) if cut == part => {
-                let narrow = cells.iter().map(|c| fault.of(usize::from(*c)) as u16);
+            Some((faulty, cut)) if faulty == part => {
+                let narrow = cells.iter().map(|c| cut.of(usize::from(*c)) as u16);
                 Cow::Owned(narrow.collect())
             }
             _ => Cow::Borrowed(cells),
@@ -119,7 +119,7 @@ impl Boundary {
     }
 
     fn frames(&self, part: Part, stack: &mut [u32]) {
-        if self.fault.is_some_and(|(cut, _)| cut == part) {
+        if self.fault.is_some_and(|(faulty, _)| faulty == part) {
             for cell in stack {
                 *cell = self.number(part, *cell);
             }
@@ -184,27 +184,27 @@ impl Engine for Boundary {
     ) -> Answer {
         let stack = self.front_mut(Part::NextStack, stack);
         self.frames(Part::NextFrames, stack);
-        let handed = Run {
-            task: self.number(Part::NextTask, run.task),
-            started: self.number(Part::NextStarted, run.started),
-            depth: self.number(Part::NextDepth, run.depth),
-        };
-        let mut moved = handed;
+        let given = *run;
+        run.task = self.number(Part::NextTask, given.task);
+        run.started = self.number(Part::NextStarted, given.started);
+        run.depth = self.number(Part::NextDepth, given.depth);
+        let handed = *run;
         let mut answer = Library.next(
             &self.cells(Part::NextCells, self.front(Part::NextTable, table)),
             self.front(Part::NextUpper, upper),
             self.front(Part::NextLower, lower),
-            &mut moved,
+            run,
             stack,
             self.number(Part::NextAllowance, allowance),
             self.front_mut(Part::NextOutput, output),
         );
         answer.steps = self.number(Part::NextSteps, answer.steps);
         answer.length = self.number(Part::NextLength, answer.length);
-        if moved != handed {
-            *run = moved;
-            run.started = self.number(Part::LeftStarted, moved.started);
-            run.depth = self.number(Part::LeftDepth, moved.depth);
+        if *run == handed {
+            *run = given;
+        } else {
+            run.started = self.number(Part::LeftStarted, run.started);
+            run.depth = self.number(Part::LeftDepth, run.depth);
         }
         *run = self.run(Part::NextRun, *run);
         self.frames(Part::LeftFrames, stack);
