@@ -4,9 +4,9 @@ use crate::narrow::Boundary;
 use crate::narrow::Cut::{self, Low};
 use crate::narrow::Part::*;
 use crate::{Checked, is, tells};
-use readings::answer::{Answer, Run};
-use readings::engine::{Engine, Texts};
-use readings::text::K;
+use readings_check::answer::{Answer, Run};
+use readings_check::engine::{Engine, Texts};
+use readings_check::text::K;
 use reserved::Reserved;
 
 /// Cells in memory that is reserved and reads as zeros. It costs nothing where it is not touched.
@@ -41,6 +41,7 @@ mod reserved {
         /// These cells, then zeros.
         pub fn new(front: &[T], length: usize) -> Reserved<T> {
             let bytes = length * size_of::<T>();
+            // SAFETY: new memory is asked for, at no place that anything uses.
             let at = unsafe { mmap(ptr::null_mut(), bytes, ACCESS, KIND, -1, 0) };
             let failed = at.addr() == usize::MAX;
             assert!(!failed, "{bytes} bytes: {}", Error::last_os_error());
@@ -55,18 +56,21 @@ mod reserved {
         type Target = [T];
 
         fn deref(&self) -> &[T] {
+            // SAFETY: so many cells are mapped until this value is dropped, and zeros are a value of their type.
             unsafe { slice::from_raw_parts(self.cells, self.length) }
         }
     }
 
     impl<T: Copy> DerefMut for Reserved<T> {
         fn deref_mut(&mut self) -> &mut [T] {
+            // SAFETY: as above, and this value alone has them.
             unsafe { slice::from_raw_parts_mut(self.cells, self.length) }
         }
     }
 
     impl<T: Copy> Drop for Reserved<T> {
         fn drop(&mut self) {
+            // SAFETY: the memory was mapped with this length, and nothing borrows it any more.
             unsafe { munmap(self.cells.cast(), self.length * size_of::<T>()) };
         }
     }

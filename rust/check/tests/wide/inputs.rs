@@ -1,8 +1,8 @@
 //! Tables, tasks and words of wide values, for any call that takes them.
 use crate::{Checked, is};
-use readings::answer::Answer;
-use readings::table::{Arc, Table};
-use readings::text::{self, K};
+use readings_check::answer::Answer;
+use readings_check::table::{Arc, Table};
+use readings_check::text::{self, K};
 
 /// A length: cut to 8, 13 or 16 bits it is 2.
 pub const WIDE: usize = 65_536 + 2;

@@ -4,9 +4,9 @@ use crate::narrow::Boundary;
 use crate::narrow::Cut::{Low, Most, Refused};
 use crate::narrow::Part::*;
 use crate::{Checked, NARROW, is, tells};
-use readings::answer::Answer;
-use readings::compare::texts;
-use readings::text::{self, K};
+use readings_check::answer::Answer;
+use readings_check::compare::texts;
+use readings_check::text::{self, K};
 
 /// A good line of 65,536 digits after table K's text gives 2; wherever the text is cut in it, it gives 1.
 fn text_read(boundary: &Boundary) -> Checked {

@@ -4,10 +4,10 @@ use crate::narrow::Boundary;
 use crate::narrow::Cut::{Low, Most};
 use crate::narrow::Part::*;
 use crate::{Checked, NARROW, is, tells};
-use readings::answer::{Answer, Run};
-use readings::compare::start::{self, Start};
-use readings::engine::Engine;
-use readings::table::{Arc, Table};
+use readings_check::answer::{Answer, Run};
+use readings_check::compare::start::{self, Start};
+use readings_check::engine::Engine;
+use readings_check::table::{Arc, Table};
 
 /// Recognition of two empty words over table K.
 fn plain() -> Start {

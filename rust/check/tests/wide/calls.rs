@@ -4,10 +4,10 @@ use crate::narrow::Boundary;
 use crate::narrow::Cut::{Low, Most, Rest};
 use crate::narrow::Part::*;
 use crate::{Checked, NARROW, is, tells};
-use readings::answer::{Answer, Run};
-use readings::compare::call::{self, Call};
-use readings::engine::Engine;
-use readings::table::{Arc, Table};
+use readings_check::answer::{Answer, Run};
+use readings_check::compare::call::{self, Call};
+use readings_check::engine::Engine;
+use readings_check::table::{Arc, Table};
 
 /// The first call in synthesis of 01 02 over table K.
 fn first() -> Call {

@@ -14,7 +14,7 @@ mod texts;
 
 use narrow::Cut::{self, Low};
 use narrow::{Boundary, Part, SOUND};
-use readings::answer::Answer;
+use readings_check::answer::Answer;
 
 /// All is as expected, or what differs.
 type Checked = Result<(), String>;

@@ -1,7 +1,7 @@
 //! The library behind a boundary that cuts one value of its calls: the faults that wide values are to show.
-use readings::answer::{Answer, Run, Started};
-use readings::engine::{Engine, Texts};
-use readings::ffi::Library;
+use readings_check::answer::{Answer, Run, Started};
+use readings_check::engine::{Engine, Texts};
+use readings_check::library::Library;
 use std::borrow::Cow;
 
 /// A value that passes the boundary: the length of what is lent, named after it; its cells; a number; what is told.
