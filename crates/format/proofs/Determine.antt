@@ -2,17 +2,19 @@
 use Prim.Native.Nat.{ℕ}
 use native.Mathlib.Omega.{arith}
 use native.Mathlib.Nat.{le-refl, le-of-eq}
-use mathlib.Core.Path.{_≡_, sym, ap, ap₂, subst, _∙_}
+use mathlib.Core.Path.{_≡_, refl, sym, ap, ap₂, subst, _∙_}
 use mathlib.Core.Bool.{true, and-eq-true-iff}
 use mathlib.Core.Logic.{_↔_}
-use mathlib.Core.List.{List, [], _∷_, _++_, map}
+use mathlib.Core.List.{List, [], _∷_, _++_, map, append-assoc}
+use lib.ListN.{length, length-append, length-map}
 use lib.Dec.{eqb}
 use borrow.Author.Tests.{eqb-true, eq-eqb}
+use Rattle.format.specs.declared.InputCause.{InputCause}
 use Rattle.format.specs.Table.{Table, Counts, countsOf}
 use Rattle.format.specs.Rules.{countsHold, keepsRules}
 use Rattle.format.specs.Line.{linesOf}
 use Rattle.format.specs.Text.{headerBytes, initialBytes, terminalBytes, arcBytes, endBytes, linesBefore, itemLines, joinLines, textOf}
-use Rattle.format.specs.Parse.{header, end, numberAt, countsFrom, isOf, Progress, opening, within, emptyTable, accepted, parseFrom, parsed}
+use Rattle.format.specs.Parse.{header, end, numberAt, countsFrom, isOf, Progress, opening, within, emptyTable, Parsed, accepted, turnedDown, parseFrom, parsed}
 use Rattle.format.proofs.All.{All}
 use Rattle.format.proofs.Rules.{Keeps, keeps-parts}
 use Rattle.format.proofs.Line.{IsByte, lines-join, join-lines}
@@ -152,3 +154,28 @@ text-injective t u k l e = go (sym (text-read t k) ∙ ap parsed e ∙ text-read
   where
     go : accepted t ≡ accepted u → t ≡ u
     go h = cc
+
+-- what is turned down is the text of no table that keeps the rules
+pub nobodys-text : (x : List ℕ) → ((c : InputCause) × (parsed x ≡ turnedDown c)) ↔ ((t : Table) → keepsRules t ≡ true → x ≡ textOf t → ⊥)
+nobodys-text x = (
+  λ h t k e. let a = determines x t .1 (k, e) in let z : _≡_ {A = ℕ} 0 1 = cc (h .1) in omega arith,
+  λ none. go none (parsed x) refl,
+)
+  where
+    go : ((t : Table) → keepsRules t ≡ true → x ≡ textOf t → ⊥) → (p : Parsed) → parsed x ≡ p → (c : InputCause) × (parsed x ≡ turnedDown c)
+    go none (accepted t) h = let d = determines x t .0 h in absurd (none t (d .0) (d .1))
+    go none (turnedDown c) h = (c, h)
+
+-- The end line tells how many lines stand before it.
+pub end-tells : (t : Table) → (ls : List (List ℕ)) × (textOf t ≡ joinLines (ls ++ (endBytes (length ls) ∷ [])))
+unfolding textOf itemLines
+end-tells t = (ls, ap joinLines (lines ∙ ap (λ (n : ℕ). ls ++ (endBytes n ∷ [])) count))
+  where
+    ls : List (List ℕ)
+    ls = headerBytes (countsOf t) ∷ (map initialBytes (t .initials) ++ (map terminalBytes (t .terminals) ++ map arcBytes (t .arcs)))
+
+    lines : headerBytes (countsOf t) ∷ itemLines t ≡ ls ++ (endBytes (linesBefore t) ∷ [])
+    lines = simp append-assoc
+
+    count : linesBefore t ≡ length ls
+    count = simp (length-append, length-map) (omega arith)

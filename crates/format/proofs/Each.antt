@@ -99,6 +99,15 @@ module _ {A : Type 0} where
   pub each-done : (test : List A → A → Bool) (xs : List A) (k : ℕ) → length xs ≤ k → each test [] (take k xs) ≡ true → each test [] xs ≡ true
   each-done test xs k h e = sym (ap (each test []) (take-all k xs h)) ∙ e
 
+  -- each element passes, where each place's element does
+  pub each-from : (test : List A → A → Bool) (d : A) (xs : List A) → ((k : ℕ) → k < length xs → test (take k xs) (getD xs k d) ≡ true) → each test [] xs ≡ true
+  unfolding each
+  each-from test d xs f = each-done test xs (length xs) (omega arith) (go (length xs) (omega arith))
+    where
+      go : (k : ℕ) → k ≤ length xs → each test [] (take k xs) ≡ true
+      go zero h = refl
+      go (suc k) h = each-more test d xs k (omega arith) (go k (omega arith)) (f k (omega arith))
+
   -- a weaker test
   pub each-weaken : (test weak : List A → A → Bool) → ((before : List A) (x : A) → test before x ≡ true → weak before x ≡ true) → (before xs : List A)
       → each test before xs ≡ true → each weak before xs ≡ true

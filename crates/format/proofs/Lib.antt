@@ -12,5 +12,7 @@ pub mod Line
 pub mod Text
 pub mod Parse
 pub mod Lowest
+pub mod FirstBad
 pub mod Determine
 pub mod Stores
+pub mod Headlines

@@ -1,9 +1,12 @@
 -- "within it the lowest number": the refusals that a line earns stand by rising number.
-use Prim.Native.Nat.{ℕ}
-use mathlib.Core.Path.{_≡_, refl}
+use Prim.Native.Nat.{ℕ, _<_}
+use native.Mathlib.Nat.{lt-trans}
+use mathlib.Core.Path.{_≡_, refl, sym, subst}
+use mathlib.Core.Logic.{⊎-elim}
 use mathlib.Core.Bool.{Bool, true, false, cond, _&&_}
-use mathlib.Core.List.{List, [], _∷_, _++_}
+use mathlib.Core.List.{List, [], _∷_, _++_, List·Memᴰ, List·Memᴰ·not-nil, List·Memᴰ·cases-cons}
 use lib.Dec.{eqb, ltb}
+use borrow.Author.Tests.{ltb-true}
 use Rattle.format.specs.declared.InputCause.{InputCause}
 use Rattle.format.specs.declared.InputCause.the-variants.{Malformed, Misplaced, CountLimit, StateNumber, LetterLimit, StateOrder, SourceOrder, ArcRepeated, LineCount}
 use Rattle.format.specs.Refusal.{inputNumber}
@@ -12,6 +15,7 @@ use Rattle.format.specs.Rules.{unless, countsHold, stateHolds, letterHol
 use Rattle.format.specs.Line.{Line, malformed, bytesOf}
 use Rattle.format.specs.Text.{linesBefore}
 use Rattle.format.specs.Parse.{Kind, header, initial, terminal, arc, end, numberAt, countsFrom, arcFrom, isOf, due, emptyTable, Progress, opening, within, closed, itemFaults, kindFaults, bytesFaults, lineFaults}
+use Rattle.format.proofs.Tests.{and-left, and-right}
 
 -- each refusal's number is below the next one's
 abbrev pub numbersRise : List InputCause → Bool
@@ -77,3 +81,11 @@ faults-rise p l = go (malformed l)
     go : (x : Bool) → numbersRise (cond x (Malformed ∷ []) (bytesFaults p (bytesOf (l .chars)))) ≡ true
     go true = refl
     go false = bytes-rise p (bytesOf (l .chars))
+
+-- so the first one's number is below the others'
+pub first-lowest : (f : InputCause) (fs : List InputCause) → numbersRise (f ∷ fs) ≡ true → (c : InputCause) → List·Memᴰ c fs → inputNumber f < inputNumber c
+first-lowest f [] e c m = absurd (List·Memᴰ·not-nil m)
+first-lowest f (g ∷ gs) e c m =
+    let less : inputNumber f < inputNumber g = ltb-true _ _ (and-left (ltb (inputNumber f) (inputNumber g)) (numbersRise (g ∷ gs)) e) in
+    let rest = and-right (ltb (inputNumber f) (inputNumber g)) (numbersRise (g ∷ gs)) e in
+    ⊎-elim (λ u. subst (λ (x : InputCause). inputNumber f < inputNumber x) (sym u) less) (λ u. lt-trans less (first-lowest g gs rest c u)) (List·Memᴰ·cases-cons m)

@@ -1,78 +1,65 @@
--- What a table that keeps the rules has, as facts on its counts and items.
+-- A table keeps the rules exactly where it is as document 01 says.
 use Prim.Native.Nat.{ℕ, zero, suc, _≤_, _<_}
 use native.Mathlib.Omega.{arith}
 use native.Mathlib.Nat.{not-suc-le-zero}
-use mathlib.Core.Path.{_≡_, refl, sym, ap, subst, _∙_}
-use mathlib.Core.Bool.{Bool, true, false, _&&_}
-use mathlib.Core.List.{List, [], _∷_, _++_, List·Memᴰ, List·Memᴰ·head, Memᴰ·append-right}
-use lib.ListN.{length, getD}
-use lib.Dec.{eqb, leb}
-use borrow.Author.Tests.{leb-true, eq-eqb, not-true}
+use mathlib.Core.Path.{_≡_, refl, sym, ap, _∙_}
+use mathlib.Core.Bool.{Bool, true, false, not, _&&_}
+use mathlib.Core.Logic.{_↔_}
+use mathlib.Core.List.{List, [], _∷_, _++_, List·Memᴰ, List·Memᴰ·head, List·Memᴰ·tail}
+use lib.ListN.{length, getD, take}
+use lib.Seq.{getD-take, length-take-le}
+use lib.Dec.{eqb, leb, ltb}
+use borrow.Author.Tests.{leb-true, ltb-true, ltb-false, eqb-true, le-leb, lt-ltb, eq-eqb, not-true}
 use Rattle.format.specs.Table.{Arc, Table, countsOf}
-use Rattle.format.specs.Rules.{any, each, stateHolds, letterHolds, initialIsNew, sourceHolds, sameArc, arcIsNew, keepsRules}
-use Rattle.format.proofs.Tests.{and-left, and-right, and-four}
+use Rattle.format.specs.Rules.{any, lastIs, each, countsHold, stateHolds, letterHolds, initialIsNew, terminalRises, sourceHolds, sameArc, arcIsNew, keepsRules}
+pub use Rattle.format.specs.Ruled.{Differ, Rise, AtLeast, Ruled}
+use Rattle.format.proofs.Tests.{and-left, and-right, and-both, and-four}
 use Rattle.format.proofs.All.{all-mem}
-use Rattle.format.proofs.Any.{any-mem}
-use Rattle.format.proofs.Each.{last-snoc}
-use Rattle.format.proofs.Rules.{initialPasses, arcPasses, initial-clear, arc-clear, Keeps, keeps-parts, Bounded, table-bounded, ArcBounded, initials-below, terminals-below, arcs-bounded, arcs-rise}
+use Rattle.format.proofs.Each.{any-none, any-some, last-snoc, last-take, each-at, each-last, each-from, each-weaken}
+use Rattle.format.proofs.Rules.{initialPasses, terminalPasses, arcPasses, initial-clear, terminal-clear, arc-clear, Keeps, keeps-parts, Bounded, table-bounded, ArcBounded, initials-below, terminals-below, arcs-bounded, arcs-rise}
 
--- sources do not fall, from s on
-abbrev pub AtLeast : ℕ → List Arc → Type 0
-AtLeast s [] = Unit {0}
-AtLeast s (a ∷ bs) = (s ≤ a .source) × AtLeast (a .source) bs
+-- Elements that are none of those before them differ, and the other way round.
 
--- equal elements have one place
-abbrev pub Differ : {A : Type 0} → List A → Type 0
-Differ {A} l = (d : A) (i j : ℕ) → i < length l → j < length l → getD l i d ≡ getD l j d → i ≡ j
-
-pub record Ruled (t : Table) : Type 0 where
-  pub some-state : 1 ≤ t .states
-  pub few-states : t .states ≤ 256
-  pub some-initial : 1 ≤ length (t .initials)
-  pub few-initials : length (t .initials) ≤ t .states
-  pub few-terminals : length (t .terminals) ≤ t .states
-  pub few-arcs : length (t .arcs) ≤ 1024
-  pub initial-in : (s : ℕ) → List·Memᴰ s (t .initials) → s < t .states
-  pub terminal-in : (s : ℕ) → List·Memᴰ s (t .terminals) → s < t .states
-  pub source-in : (a : Arc) → List·Memᴰ a (t .arcs) → a .source < t .states
-  pub target-in : (a : Arc) → List·Memᴰ a (t .arcs) → a .target < t .states
-  pub upper-in : (a : Arc) → List·Memᴰ a (t .arcs) → a .upper ≤ 63
-  pub lower-in : (a : Arc) → List·Memᴰ a (t .arcs) → a .lower ≤ 63
-  pub rising : AtLeast 0 (t .arcs)
-  pub arcs-differ : Differ (t .arcs)
-  pub initials-differ : Differ (t .initials)
-
--- Each element's test.
-
-module _ {A : Type 0} (test : List A → A → Bool) where
-  module _ (same : A → A → Bool) (same-refl : (x : A) → same x x ≡ true) (new : (before : List A) (x : A) → test before x ≡ true → any (λ y. same y x) before ≡ false) where
-    -- a later element is not one of those before it
-    not-before : (before xs : List A) → each test before xs ≡ true → (d : A) (j : ℕ) → j < length xs → (head rest : List A) → before ≡ head ++ (getD xs j d ∷ rest) → ⊥
-    unfolding each
-    not-before before [] e d j h head rest s = not-suc-le-zero h
-    not-before before (y ∷ ys) e d zero h head rest s =
-        let p : any (λ z. same z y) before ≡ false = new before y (and-left _ _ e) in
-        let q : any (λ z. same z y) before ≡ true = any-mem (λ z. same z y) before y (subst (λ (l : List A). List·Memᴰ y l) (sym s) (Memᴰ·append-right head (List·Memᴰ·head refl))) (same-refl y) in
+module _ {A : Type 0} (same : A → A → Bool) where
+  module _ (test : List A → A → Bool) (same-refl : (x : A) → same x x ≡ true) (new : (before : List A) (x : A) → test before x ≡ true → any (λ y. same y x) before ≡ false) where
+    apart : (xs : List A) → each test [] xs ≡ true → (d : A) (i j : ℕ) → i < j → j < length xs → getD xs i d ≡ getD xs j d → ⊥
+    apart xs e d i j h k s =
+        let p : any (λ y. same y (getD xs j d)) (take j xs) ≡ false = new (take j xs) (getD xs j d) (each-at test d xs e j k) in
+        let q : any (λ y. same y (getD xs j d)) (take j xs) ≡ true =
+        any-some (λ y. same y (getD xs j d)) d (take j xs) i (omega (arith, length-take-le j xs (omega arith)))
+        (ap (λ (x : A). same x (getD xs j d)) (getD-take j xs i d h ∙ s) ∙ same-refl (getD xs j d)) in
         let z : _≡_ {A = ℕ} 0 1 = cc in
         omega arith
-    not-before before (y ∷ ys) e d (suc j) h head rest s =
-        not-before (before ++ (y ∷ [])) ys (and-right (test before y) _ e) d j (omega arith) head (rest ++ (y ∷ []))
-        (ap (λ (l : List A). l ++ (y ∷ [])) s ∙ assoc head)
-      where
-        assoc : (l : List A) → (l ++ (getD ys j d ∷ rest)) ++ (y ∷ []) ≡ l ++ (getD ys j d ∷ (rest ++ (y ∷ [])))
-        assoc [] = refl
-        assoc (x ∷ l) = ap (λ (k : List A). x ∷ k) (assoc l)
 
-    pub each-differ : (before xs : List A) → each test before xs ≡ true → Differ xs
-    unfolding each
-    each-differ before [] e d i j h k s = absurd (not-suc-le-zero h)
-    each-differ before (y ∷ ys) e d zero zero h k s = refl
-    each-differ before (y ∷ ys) e d zero (suc j) h k s =
-        absurd (not-before (before ++ (y ∷ [])) ys (and-right (test before y) _ e) d j (omega arith) before [] (ap (λ (x : A). before ++ (x ∷ [])) s))
-    each-differ before (y ∷ ys) e d (suc i) zero h k s =
-        absurd (not-before (before ++ (y ∷ [])) ys (and-right (test before y) _ e) d i (omega arith) before [] (ap (λ (x : A). before ++ (x ∷ [])) (sym s)))
-    each-differ before (y ∷ ys) e d (suc i) (suc j) h k s =
-        ap suc (each-differ (before ++ (y ∷ [])) ys (and-right (test before y) _ e) d i j (omega arith) (omega arith) s)
+    each-differ : (xs : List A) → each test [] xs ≡ true → Differ xs
+    each-differ xs e d i j h k s = go (ltb i j) (ltb j i) refl refl
+      where
+        go : (a b : Bool) → ltb i j ≡ a → ltb j i ≡ b → i ≡ j
+        go true b p q = absurd (apart xs e d i j (ltb-true _ _ p) k s)
+        go false true p q = absurd (apart xs e d j i (ltb-true _ _ q) h (sym s))
+        go false false p q = omega (arith, ltb-false i j p, ltb-false j i q)
+
+  differ-new : ((x y : A) → same x y ≡ true → x ≡ y) → (xs : List A) → Differ xs → (d : A) (k : ℕ) → k < length xs
+      → any (λ y. same y (getD xs k d)) (take k xs) ≡ false
+  differ-new law xs D d k h = any-none (λ y. same y (getD xs k d)) d (take k xs) (λ j g. go j g (same (getD (take k xs) j d) (getD xs k d)) refl)
+    where
+      go : (j : ℕ) → j < length (take k xs) → (b : Bool) → same (getD (take k xs) j d) (getD xs k d) ≡ b → b ≡ false
+      go j g true e =
+          let below : j < k = omega (arith, length-take-le k xs (omega arith)) in
+          let one : j ≡ k = D d j k (omega arith) h (sym (getD-take k xs j d below) ∙ law _ _ e) in
+          absurd (omega arith)
+      go j g false e = refl
+
+-- what holds of each element and the next holds of the last one before
+last-from : {A : Type 0} (test : A → A → Bool) (d : A) (xs : List A) → ((i : ℕ) → suc i < length xs → test (getD xs i d) (getD xs (suc i) d) ≡ true)
+    → (k : ℕ) → k < length xs → lastIs (λ y. test y (getD xs k d)) (take k xs) ≡ true
+last-from test d xs f zero h = refl
+last-from test d xs f (suc i) h = last-take (λ y. test y (getD xs (suc i) d)) d xs i (omega arith) ∙ f i h
+
+at-mem : {A : Type 0} (l : List A) (i : ℕ) (d : A) → i < length l → List·Memᴰ (getD l i d) l
+at-mem [] i d h = absurd (not-suc-le-zero h)
+at-mem (x ∷ xs) zero d h = List·Memᴰ·head refl
+at-mem (x ∷ xs) (suc i) d h = List·Memᴰ·tail (at-mem xs i d (omega arith))
 
 -- What keeps the rules is new, and sources rise from the first on.
 
@@ -87,6 +74,11 @@ arc-new states before a e =
 
 same-arc-refl : (a : Arc) → sameArc a a ≡ true
 same-arc-refl a = rw (eq-eqb (a .source) (a .source) refl, eq-eqb (a .upper) (a .upper) refl, eq-eqb (a .lower) (a .lower) refl, eq-eqb (a .target) (a .target) refl)
+
+terminals-up : (states : ℕ) (xs : List ℕ) → each (terminalPasses states) [] xs ≡ true → each terminalRises [] xs ≡ true
+terminals-up states xs e =
+    each-weaken (terminalPasses states) terminalRises
+    (λ before s k. and-right (stateHolds states s) (terminalRises before s) (sym (terminal-clear states before s) ∙ k)) [] xs e
 
 rises : (m : ℕ) (before xs : List Arc) → ((a : Arc) → sourceHolds before a ≡ true → m ≤ a .source) → each sourceHolds before xs ≡ true → AtLeast m xs
 unfolding each
@@ -108,13 +100,14 @@ ruled t e =
       few-arcs = b .arcs;
       initial-in = all-mem (λ s. s < t .states) (t .initials) (initials-below t e);
       terminal-in = all-mem (λ s. s < t .states) (t .terminals) (terminals-below t e);
+      terminals-rise = λ i h. ltb-true _ _ (each-last ltb 0 (t .terminals) (terminals-up (t .states) (t .terminals) (k .terminals)) i h);
       source-in = λ a m. arc a m .source;
       target-in = λ a m. arc a m .target;
       upper-in = λ a m. arc a m .upper;
       lower-in = λ a m. arc a m .lower;
       rising = rises 0 [] (t .arcs) (λ a h. omega arith) (arcs-rise (t .states) (t .arcs) (k .arcs));
-      arcs-differ = each-differ _ sameArc same-arc-refl (arc-new (t .states)) [] (t .arcs) (k .arcs);
-      initials-differ = each-differ _ eqb (λ s. eq-eqb s s refl) (initial-new (t .states)) [] (t .initials) (k .initials);
+      arcs-differ = each-differ sameArc _ same-arc-refl (arc-new (t .states)) (t .arcs) (k .arcs);
+      initials-differ = each-differ eqb _ (λ s. eq-eqb s s refl) (initial-new (t .states)) (t .initials) (k .initials);
     }
   where
     b : Bounded (countsOf t)
@@ -125,3 +118,71 @@ ruled t e =
 
     arc : (a : Arc) → List·Memᴰ a (t .arcs) → ArcBounded (t .states) a
     arc = all-mem (ArcBounded (t .states)) (t .arcs) (arcs-bounded t e)
+
+-- What is as document 01 says keeps the rules.
+
+same-arc-eq : (a b : Arc) → sameArc a b ≡ true → a ≡ b
+same-arc-eq a b e =
+    let h = and-four (eqb (a .source) (b .source)) (eqb (a .upper) (b .upper)) (eqb (a .lower) (b .lower)) (eqb (a .target) (b .target)) e in
+    λ i.
+    record {
+      source = eqb-true (a .source) (b .source) (h .0) i;
+      upper = eqb-true (a .upper) (b .upper) (h .1) i;
+      lower = eqb-true (a .lower) (b .lower) (h .2) i;
+      target = eqb-true (a .target) (b .target) (h .3) i;
+    }
+
+source-next : (d : Arc) (m : ℕ) (xs : List Arc) → AtLeast m xs → (i : ℕ) → suc i < length xs → getD xs i d .source ≤ getD xs (suc i) d .source
+source-next d m [] A i h = absurd (omega arith)
+source-next d m (a ∷ []) A i h = absurd (omega arith)
+source-next d m (a ∷ b ∷ bs) A zero h = A .1 .0
+source-next d m (a ∷ b ∷ bs) A (suc i) h = source-next d (a .source) (b ∷ bs) (A .1) i (omega arith)
+
+module _ (t : Table) (R : Ruled t) where
+  counts-kept : countsHold (countsOf t) ≡ true
+  unfolding countsHold
+  counts-kept =
+      and-both (le-leb _ _ (R .some-state))
+      (and-both (le-leb _ _ (R .few-states))
+      (and-both (le-leb _ _ (R .some-initial))
+      (and-both (le-leb _ _ (R .few-initials)) (and-both (le-leb _ _ (R .few-terminals)) (le-leb _ _ (R .few-arcs))))))
+
+  initials-kept : each (initialPasses (t .states)) [] (t .initials) ≡ true
+  initials-kept =
+      each-from (initialPasses (t .states)) 0 (t .initials)
+      (λ k h.
+      let s = getD (t .initials) k 0 in
+      initial-clear (t .states) (take k (t .initials)) s
+      ∙ and-both (lt-ltb _ _ (R .initial-in s (at-mem (t .initials) k 0 h))) (ap not (differ-new eqb eqb-true (t .initials) (R .initials-differ) 0 k h)))
+
+  terminals-kept : each (terminalPasses (t .states)) [] (t .terminals) ≡ true
+  terminals-kept =
+      each-from (terminalPasses (t .states)) 0 (t .terminals)
+      (λ k h.
+      let s = getD (t .terminals) k 0 in
+      terminal-clear (t .states) (take k (t .terminals)) s
+      ∙ and-both (lt-ltb _ _ (R .terminal-in s (at-mem (t .terminals) k 0 h)))
+      (last-from ltb 0 (t .terminals) (λ i g. lt-ltb _ _ (R .terminals-rise i g)) k h))
+
+  -- any arc, where none is listed
+  abbrev none : Arc
+  none = record { source = 0; upper = 0; lower = 0; target = 0 }
+
+  arcs-kept : each (arcPasses (t .states)) [] (t .arcs) ≡ true
+  arcs-kept =
+      each-from (arcPasses (t .states)) none (t .arcs)
+      (λ k h.
+      let a = getD (t .arcs) k none in
+      let m = at-mem (t .arcs) k none h in
+      arc-clear (t .states) (take k (t .arcs)) a
+      ∙ and-both (and-both (lt-ltb _ _ (R .source-in a m)) (lt-ltb _ _ (R .target-in a m)))
+      (and-both (and-both (le-leb _ _ (R .upper-in a m)) (le-leb _ _ (R .lower-in a m)))
+      (and-both (last-from (λ b c. leb (b .source) (c .source)) none (t .arcs) (λ i g. le-leb _ _ (source-next none 0 (t .arcs) (R .rising) i g)) k h)
+      (ap not (differ-new sameArc same-arc-eq (t .arcs) (R .arcs-differ) none k h)))))
+
+pub kept : (t : Table) → Ruled t → keepsRules t ≡ true
+kept t R = keeps-parts t .1 (record { counts = counts-kept t R; initials = initials-kept t R; terminals = terminals-kept t R; arcs = arcs-kept t R })
+
+-- Both together.
+pub rules-are : (t : Table) → (keepsRules t ≡ true) ↔ Ruled t
+rules-are t = (ruled t, kept t)

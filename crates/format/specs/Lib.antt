@@ -2,9 +2,11 @@
 pub mod Refusal
 pub mod Table
 pub mod Rules
+pub mod Ruled
 pub mod Loaded
 pub mod Cells
 pub mod Index
 pub mod Line
 pub mod Text
 pub mod Parse
+pub mod FirstBad

@@ -50,6 +50,7 @@ module _ (t : Table) (k : Task) (U : Ruled t) where
           few-arcs = U .few-arcs;
           initial-in = λ s m. ⊎-elim (λ u. subst (λ (x : ℕ). x < t .states) (E 0 .from ∙ sym u) (U .source-in (E 0 .arc) (E 0 .listed))) (λ u. absurd (List·Memᴰ·not-nil u)) (List·Memᴰ·cases-cons m);
           terminal-in = U .terminal-in;
+          terminals-rise = U .terminals-rise;
           source-in = U .source-in;
           target-in = U .target-in;
           upper-in = U .upper-in;
