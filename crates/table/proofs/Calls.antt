@@ -1,23 +1,26 @@
 -- What the reader and the writer leave: the one's cells put to the other give the text back, and the other way round.
-use Prim.Native.Nat.{ℕ, _≤_}
+use Prim.Native.Nat.{ℕ, _≤_, _<_}
 use native.Mathlib.Omega.{arith}
 use mathlib.Core.Path.{_≡_, refl, sym, ap, ap₂, subst, _∙_}
 use mathlib.Core.Bool.{Bool, true, false, cond}
+use mathlib.Core.Logic.{_↔_}
 use mathlib.Core.Option.{Option, none, some}
 use mathlib.Core.List.{List, _++_}
 use lib.Dec.{leb}
 use lib.ListN.{length, take, drop, length-append, length-drop}
 use lib.Seq.{take-at}
-use borrow.Author.Tests.{leb-true, le-leb}
-use Rattle.format.specs.declared.StateCause.the-variants.{DestinationShort}
+use borrow.Author.Tests.{leb-true, leb-false, le-leb, lt-leb}
+use Rattle.format.specs.declared.InputCause.{InputCause}
+use Rattle.format.specs.declared.StateCause.the-variants.{LoadedTable, DestinationShort}
 use Rattle.format.specs.declared.Refusal.{Refusal}
-use Rattle.format.specs.declared.Refusal.the-variants.{State}
+use Rattle.format.specs.declared.Refusal.the-variants.{Input, State}
 use Rattle.table.specs.declared.Answer.the-variants.{Done, Refused}
 use Rattle.format.specs.Table.{Table, countsOf}
+use Rattle.format.specs.Rules.{keepsRules}
 use Rattle.format.specs.Loaded.{cellsOf, countsIn, extent, loaded}
 use Rattle.format.specs.Text.{textOf}
 use Rattle.format.specs.Parse.{Parsed, accepted, turnedDown, parsed}
-use Rattle.table.specs.Calls.{storedAnswer, storedCells, readAs, readCellsAs, readAnswer, readCells, writtenAs, writtenTextAs, writeAnswer, writeText}
+use Rattle.table.specs.Calls.{layoutOf, checkedAs, checked, storedAnswer, storedCells, readAs, readCellsAs, readAnswer, readCells, writtenAs, writtenTextAs, writeAnswer, writeText}
 use Rattle.format.proofs.Loaded.{length-cells, counts-in, loaded-cells, cells-loaded}
 use Rattle.format.proofs.Determine.{text-read, read-text}
 
@@ -49,6 +52,14 @@ module _ (out destination : List ℕ) where
         ap (λ (b : Bool). cond b (Done (length out)) (Refused (State DestinationShort))) e,
         ap (λ (b : Bool). cond b (out ++ drop (length out) destination) destination) e,
       )
+
+  pub stored-short : (storedAnswer out destination ≡ Refused (State DestinationShort)) ↔ (length destination < length out)
+  stored-short = (λ e. to (leb (length out) (length destination)) refl e, λ h. ap (λ (b : Bool). cond b (Done (length out)) (Refused (State DestinationShort))) (lt-leb _ _ h))
+    where
+      to : (b : Bool) → leb (length out) (length destination) ≡ b → cond b (Done (length out)) (Refused (State DestinationShort)) ≡ Refused (State DestinationShort)
+          → length destination < length out
+      to true h k = let z : _≡_ {A = ℕ} 0 1 = cc in absurd (omega arith)
+      to false h k = leb-false _ _ h
 
   pub stored-refused : (r : Refusal) → storedAnswer out destination ≡ Refused r → storedCells out destination ≡ destination
   stored-refused r e = go (leb (length out) (length destination)) e
@@ -86,6 +97,49 @@ module _ (text destination : List ℕ) where
       let s = stored-fits (cellsOf t) destination k in
       (ap (λ (p : Parsed). readAs p destination) h ∙ s .0, ap (λ (p : Parsed). readCellsAs p destination) h ∙ s .1)
 
+  pub read-leaves : (t : Table) → keepsRules t ≡ true → text ≡ textOf t → length (cellsOf t) ≤ length destination
+      → readCells text destination ≡ cellsOf t ++ drop (length (cellsOf t)) destination
+  read-leaves t k e room = read-fits t (ap parsed e ∙ text-read t k) room .1
+
+  -- done, exactly where the text is that of a table that keeps the rules and its cells have room
+  pub read-is : (n : ℕ) → (readAnswer text destination ≡ Done n)
+      ↔ ((t : Table) × (keepsRules t ≡ true) × (text ≡ textOf t) × (n ≡ length (cellsOf t)) × (n ≤ length destination))
+  read-is n = (to, from)
+    where
+      to : readAnswer text destination ≡ Done n → (t : Table) × (keepsRules t ≡ true) × (text ≡ textOf t) × (n ≡ length (cellsOf t)) × (n ≤ length destination)
+      to a = let s = read-done n a in let r = read-text text (s .0) (s .1) in (s .0, r .0, r .1, s .2 .size, s .2 .room)
+
+      from : (t : Table) × (keepsRules t ≡ true) × (text ≡ textOf t) × (n ≡ length (cellsOf t)) × (n ≤ length destination) → readAnswer text destination ≡ Done n
+      from (t, k, e, size, room) = read-fits t (ap parsed e ∙ text-read t k) (omega arith) .0 ∙ ap Done (sym size)
+
+  -- 24 comes where the text is a table's, and the destination is too short for its cells
+  pub read-short : (readAnswer text destination ≡ Refused (State DestinationShort))
+      ↔ ((t : Table) × (keepsRules t ≡ true) × (text ≡ textOf t) × (length destination < length (cellsOf t)))
+  unfolding readAnswer
+  read-short = (λ e. to (parsed text) refl e, from)
+    where
+      to : (p : Parsed) → parsed text ≡ p → readAs p destination ≡ Refused (State DestinationShort)
+          → (t : Table) × (keepsRules t ≡ true) × (text ≡ textOf t) × (length destination < length (cellsOf t))
+      to (accepted t) h k = let r = read-text text t h in (t, r .0, r .1, stored-short (cellsOf t) destination .0 k)
+      to (turnedDown cause) h k = let z : _≡_ {A = ℕ} 0 1 = cc in absurd (omega arith)
+
+      from : (t : Table) × (keepsRules t ≡ true) × (text ≡ textOf t) × (length destination < length (cellsOf t))
+          → readAs (parsed text) destination ≡ Refused (State DestinationShort)
+      from (t, k, e, l) = ap (λ (p : Parsed). readAs p destination) (ap parsed e ∙ text-read t k) ∙ stored-short (cellsOf t) destination .1 l
+
+  -- the text's own refusals come first
+  pub read-turned : (c : InputCause) → (readAnswer text destination ≡ Refused (Input c)) ↔ (parsed text ≡ turnedDown c)
+  unfolding readAnswer
+  read-turned c = (λ e. to (parsed text) e, λ h. ap (λ (p : Parsed). readAs p destination) h)
+    where
+      to : (p : Parsed) → readAs p destination ≡ Refused (Input c) → p ≡ turnedDown c
+      to (accepted t) e = go (leb (length (cellsOf t)) (length destination)) e
+        where
+          go : (b : Bool) → cond b (Done (length (cellsOf t))) (Refused (State DestinationShort)) ≡ Refused (Input c) → accepted t ≡ turnedDown c
+          go true k = let z : _≡_ {A = ℕ} 0 1 = cc in absurd (omega arith)
+          go false k = let z : _≡_ {A = ℕ} 0 1 = cc in absurd (omega arith)
+      to (turnedDown d) e = let same : d ≡ c = cc in ap turnedDown same
+
   -- a refusal leaves the destination as it was
   pub read-refused : (r : Refusal) → readAnswer text destination ≡ Refused r → readCells text destination ≡ destination
   unfolding readAnswer readCells
@@ -120,6 +174,37 @@ module _ (cells destination : List ℕ) where
   write-fits t h k =
       let s = stored-fits (textOf t) destination k in
       (ap (λ (p : Option Table). writtenAs p destination) h ∙ s .0, ap (λ (p : Option Table). writtenTextAs p destination) h ∙ s .1)
+
+  pub write-is : (n : ℕ) → (writeAnswer cells destination ≡ Done n) ↔ ((t : Table) × (loaded cells ≡ some t) × (n ≡ length (textOf t)) × (n ≤ length destination))
+  write-is n = (
+    λ a. let s = write-done n a in (s .0, s .1, s .2 .size, s .2 .room),
+    λ h. let size : n ≡ length (textOf (h .0)) = h .2 in let room : n ≤ length destination = h .3 in write-fits (h .0) (h .1) (omega arith) .0 ∙ ap Done (sym size),
+  )
+
+  pub write-short : (writeAnswer cells destination ≡ Refused (State DestinationShort)) ↔ ((t : Table) × (loaded cells ≡ some t) × (length destination < length (textOf t)))
+  unfolding writeAnswer
+  write-short = (λ e. to (loaded cells) refl e, from)
+    where
+      to : (p : Option Table) → loaded cells ≡ p → writtenAs p destination ≡ Refused (State DestinationShort)
+          → (t : Table) × (loaded cells ≡ some t) × (length destination < length (textOf t))
+      to (some t) h k = (t, h, stored-short (textOf t) destination .0 k)
+      to none h k = let z : _≡_ {A = ℕ} 0 1 = cc in absurd (omega arith)
+
+      from : (t : Table) × (loaded cells ≡ some t) × (length destination < length (textOf t)) → writtenAs (loaded cells) destination ≡ Refused (State DestinationShort)
+      from (t, h, l) = ap (λ (p : Option Table). writtenAs p destination) h ∙ stored-short (textOf t) destination .1 l
+
+  -- 20 comes where the cells hold no table
+  pub write-broken : (writeAnswer cells destination ≡ Refused (State LoadedTable)) ↔ (loaded cells ≡ none)
+  unfolding writeAnswer
+  write-broken = (λ e. to (loaded cells) e, λ h. ap (λ (p : Option Table). writtenAs p destination) h)
+    where
+      to : (p : Option Table) → writtenAs p destination ≡ Refused (State LoadedTable) → p ≡ none
+      to (some t) e = go (leb (length (textOf t)) (length destination)) e
+        where
+          go : (b : Bool) → cond b (Done (length (textOf t))) (Refused (State DestinationShort)) ≡ Refused (State LoadedTable) → some t ≡ none
+          go true k = let z : _≡_ {A = ℕ} 0 1 = cc in absurd (omega arith)
+          go false k = let z : _≡_ {A = ℕ} 0 1 = cc in absurd (omega arith)
+      to none e = refl
 
   pub write-refused : (r : Refusal) → writeAnswer cells destination ≡ Refused r → writeText cells destination ≡ destination
   unfolding writeAnswer writeText
@@ -172,3 +257,12 @@ written-cells c e d n a room = go (write-done c e n a)
         let front : take m c ≡ cellsOf t = ap (take m) (k .1) ∙ take-at (cellsOf t) rest m (sym size) in
         let r = read-fits (take n (writeText c e)) d t (written-read c e n t a l) (omega arith) in
         (r .0 ∙ ap Done (sym size), r .1 ∙ ap₂ (λ (y : List ℕ) (i : ℕ). y ++ drop i d) (sym front) (sym size))
+
+-- The check.
+pub check-is : (c : List ℕ) → (checked c .ok ≡ true) ↔ ((t : Table) × (loaded c ≡ some t))
+unfolding checked
+check-is c = (λ e. to (loaded c) refl e, λ h. ap (λ (p : Option Table). checkedAs (layoutOf (countsIn c)) p .ok) (h .1))
+  where
+    to : (p : Option Table) → loaded c ≡ p → checkedAs (layoutOf (countsIn c)) p .ok ≡ true → (t : Table) × (loaded c ≡ some t)
+    to (some t) h e = (t, h)
+    to none h e = let z : _≡_ {A = ℕ} 0 1 = cc in absurd (omega arith)

@@ -6,3 +6,4 @@ pub mod Calls
 pub mod Finish
 pub mod TableCheck
 pub mod Written
+pub mod Headlines
