@@ -1,6 +1,6 @@
 -- Each answer as a struct of numbers, for C. Kind: 0 done, 1 found, 2 paused, 3 ended, 4 refused. A field that has no meaning for an
 -- answer is 0.
-use Prim.Native.Nat.{ℕ, _<_, _^_}
+use Prim.Native.Nat.{ℕ}
 use Rattle.format.specs.declared.Refusal.{Refusal}
 use Rattle.table.specs.declared.Answer as T
 use Rattle.table.specs.declared.Answer.the-variants as T′
@@ -28,8 +28,3 @@ answerNumbers (Refused steps refusal) = refused refusal steps 0
 abbrev pub tableNumbers : T.Answer → Reply
 tableNumbers (T′.Done count) = answered 0 0 count
 tableNumbers (T′.Refused refusal) = refused refusal 0 0
-
--- a count of 32 bits
-abbrev pub Small : T.Answer → Type 0
-Small (T′.Done count) = count < 2 ^ 32
-Small (T′.Refused refusal) = Unit {0}

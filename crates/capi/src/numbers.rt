@@ -2,7 +2,9 @@
 use crate::Reply;
 use format::Refusal;
 ghost use mathlib.Core.Path.{_≡_};
-ghost use Rattle.capi.specs.Numbers.{refused, answered, answerNumbers, tableNumbers, Small};
+ghost use Prim.Native.Nat.{ℕ, _<_, _^_};
+ghost use Rattle.table.specs.declared.Answer.the-variants.{Done};
+ghost use Rattle.capi.specs.Numbers.{refused, answered, answerNumbers, tableNumbers};
 ghost use Rattle.capi.specs.Start.{startNumbers};
 
 // A refusal, by its number.
@@ -44,7 +46,7 @@ pub fn answer_numbers(answer: machine::Answer) -> Reply
 
 // Of the reader and the writer, whose counts fit.
 pub fn table_numbers(answer: table::Answer) -> Reply
-    requires { ⌜ Small answer ⌝ }
+    requires { ⌜ ((count : ℕ) → answer ≡ Done count → count < 2 ^ 32) ⌝ }
     ensures { λ r. ⌜ r ≡ tableNumbers answer ⌝ }
 {
     match answer {

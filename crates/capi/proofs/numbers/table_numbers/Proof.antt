@@ -1,8 +1,8 @@
 -- In each arm, the case that the arm is for.
 use native.Mathlib.Omega.{arith}
-use mathlib.Core.Path.{sym, ap, subst, _∙_}
+use mathlib.Core.Path.{sym, ap, _∙_}
 use borrow.Author.Needs.{needs}
-use Rattle.capi.specs.Numbers.{tableNumbers, Small}
+use Rattle.capi.specs.Numbers.{tableNumbers}
 use Rattle.capi.proofs.numbers.table_numbers.Statement.{statement}
 use Rattle.capi.proofs.numbers.table_numbers.Tie as tie
 
@@ -10,7 +10,7 @@ enum-known-answer : tie.Need-enum-known-answer
 enum-known-answer c = search needs
 
 cast-answered : tie.Need-cast-answered
-cast-answered c = let small = subst Small (c .before .answer .given .1) (c .before .before .before .pre) in omega arith
+cast-answered c = let small = c .before .before .before .pre _ (c .before .answer .given .1) in omega arith
 
 answered-requires : tie.Need-answered-requires
 answered-requires c κs = search needs
