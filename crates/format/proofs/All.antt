@@ -1,10 +1,10 @@
--- Every element of a list has a property.
+-- Every element of a list has a property; elements by their places.
 use Prim.Native.Nat.{ℕ, zero, suc, _<_}
 use native.Mathlib.Omega.{arith}
-use mathlib.Core.Path.{_≡_, sym, subst}
+use mathlib.Core.Path.{_≡_, refl, sym, subst}
 use mathlib.Core.Logic.{⊎-elim}
 use mathlib.Core.Bool.{Bool, true, and-eq-true-iff}
-use mathlib.Core.List.{List, [], _∷_, _++_, map, List·Memᴰ, List·Memᴰ·not-nil, List·Memᴰ·cases-cons}
+use mathlib.Core.List.{List, [], _∷_, _++_, map, List·Memᴰ, List·Memᴰ·head, List·Memᴰ·tail, List·Memᴰ·not-nil, List·Memᴰ·cases-cons}
 use lib.ListN.{length, getD}
 use Rattle.format.specs.Rules.{each}
 
@@ -47,3 +47,9 @@ module _ {A : Type 0} (P : A → Type 0) where
   all-each test law before (x ∷ xs) e =
       let p = and-eq-true-iff (test before x) (each test (before ++ (x ∷ [])) xs) .0 e in
       (law before x (p .0), all-each test law (before ++ (x ∷ [])) xs (p .1))
+
+-- the element at a place is one of the list
+pub at-mem : {A : Type 0} (l : List A) (i : ℕ) (d : A) → i < length l → List·Memᴰ (getD l i d) l
+at-mem [] i d h = absurd (omega arith)
+at-mem (x ∷ xs) zero d h = List·Memᴰ·head refl
+at-mem (x ∷ xs) (suc i) d h = List·Memᴰ·tail (at-mem xs i d (omega arith))

@@ -1,4 +1,4 @@
--- Laws of the definitions, for the proofs of the crates above; each file is named after what it is about.
+-- Laws of the definitions, for the proofs of the crates above; each file is named after what it is about. Headlines has the theorems together.
 pub mod Tests
 pub mod All
 pub mod Any

@@ -1,11 +1,10 @@
 -- A table keeps the rules exactly where it is as document 01 says.
 use Prim.Native.Nat.{ℕ, zero, suc, _≤_, _<_}
 use native.Mathlib.Omega.{arith}
-use native.Mathlib.Nat.{not-suc-le-zero}
 use mathlib.Core.Path.{_≡_, refl, sym, ap, _∙_}
 use mathlib.Core.Bool.{Bool, true, false, not, _&&_}
 use mathlib.Core.Logic.{_↔_}
-use mathlib.Core.List.{List, [], _∷_, _++_, List·Memᴰ, List·Memᴰ·head, List·Memᴰ·tail}
+use mathlib.Core.List.{List, [], _∷_, _++_, List·Memᴰ}
 use lib.ListN.{length, getD, take}
 use lib.Seq.{getD-take, length-take-le}
 use lib.Dec.{eqb, leb, ltb}
@@ -14,7 +13,7 @@ use Rattle.format.specs.Table.{Arc, Table, countsOf}
 use Rattle.format.specs.Rules.{any, lastIs, each, countsHold, stateHolds, letterHolds, initialIsNew, terminalRises, sourceHolds, sameArc, arcIsNew, keepsRules}
 pub use Rattle.format.specs.Ruled.{Differ, Rise, AtLeast, Ruled}
 use Rattle.format.proofs.Tests.{and-left, and-right, and-both, and-four}
-use Rattle.format.proofs.All.{all-mem}
+use Rattle.format.proofs.All.{all-mem, at-mem}
 use Rattle.format.proofs.Each.{any-none, any-some, last-snoc, last-take, each-at, each-last, each-from, each-weaken}
 use Rattle.format.proofs.Rules.{initialPasses, terminalPasses, arcPasses, initial-clear, terminal-clear, arc-clear, Keeps, keeps-parts, Bounded, table-bounded, ArcBounded, initials-below, terminals-below, arcs-bounded, arcs-rise}
 
@@ -55,11 +54,6 @@ last-from : {A : Type 0} (test : A → A → Bool) (d : A) (xs : List A) → ((i
     → (k : ℕ) → k < length xs → lastIs (λ y. test y (getD xs k d)) (take k xs) ≡ true
 last-from test d xs f zero h = refl
 last-from test d xs f (suc i) h = last-take (λ y. test y (getD xs (suc i) d)) d xs i (omega arith) ∙ f i h
-
-at-mem : {A : Type 0} (l : List A) (i : ℕ) (d : A) → i < length l → List·Memᴰ (getD l i d) l
-at-mem [] i d h = absurd (not-suc-le-zero h)
-at-mem (x ∷ xs) zero d h = List·Memᴰ·head refl
-at-mem (x ∷ xs) (suc i) d h = List·Memᴰ·tail (at-mem xs i d (omega arith))
 
 -- What keeps the rules is new, and sources rise from the first on.
 

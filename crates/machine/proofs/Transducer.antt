@@ -7,12 +7,13 @@ use mathlib.Core.Path.{_≡_, refl, sym, ap, subst, _∙_}
 use mathlib.Core.Bool.{Bool, true, false, cond}
 use mathlib.Core.Logic.{_↔_, ⊎-elim}
 use mathlib.Core.Option.{Option, none, some}
-use mathlib.Core.List.{List, [], _∷_, List·Memᴰ, List·Memᴰ·head, List·Memᴰ·tail, List·Memᴰ·not-nil, List·Memᴰ·cases-cons}
+use mathlib.Core.List.{List, [], _∷_, List·Memᴰ, List·Memᴰ·not-nil, List·Memᴰ·cases-cons}
 use lib.ListN.{length, getD, length-append}
 use lib.Dec.{eqb, ltb}
 use borrow.Author.Tests.{ltb-true, ltb-false, le-ltb}
 use Rattle.format.specs.Table.{Arc, Table}
 use Rattle.format.specs.Index.{below}
+pub use Rattle.format.proofs.All.{at-mem}
 use Rattle.format.proofs.Ruled.{AtLeast}
 use Rattle.machine.specs.Query.{Side, upperSide, lowerSide, reads, letter, word, Query}
 use Rattle.machine.specs.Machine.{Path, start, more, size, onward, listed, datum, output, ArcOf}
@@ -70,12 +71,7 @@ arc-of t q A s n = (to, from)
         by-cases true e x = absurd (let z : n < below s (t .arcs) = ltb-true _ _ e in omega (arith, below-to s 0 (t .arcs) n A z .1))
         by-cases false e x = let z : below s (t .arcs) ≤ n = ltb-false _ _ e in (omega arith, omega arith)
 
--- numbers and elements of a list
-pub at-mem : {A : Type 0} (l : List A) (i : ℕ) (d : A) → i < length l → List·Memᴰ (getD l i d) l
-at-mem [] i d h = absurd (not-suc-le-zero h)
-at-mem (x ∷ xs) zero d h = List·Memᴰ·head refl
-at-mem (x ∷ xs) (suc i) d h = List·Memᴰ·tail (at-mem xs i d (omega arith))
-
+-- the place of an element of a list
 pub mem-at : {A : Type 0} (l : List A) (a d : A) → List·Memᴰ a l → (i : ℕ) × (i < length l) × (getD l i d ≡ a)
 mem-at [] a d m = absurd (List·Memᴰ·not-nil m)
 mem-at {A} (x ∷ xs) a d m = ⊎-elim here (λ k. there (mem-at xs a d k)) (List·Memᴰ·cases-cons m)

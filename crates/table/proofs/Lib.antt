@@ -1,4 +1,4 @@
--- Laws of the calls: the quick check, the table's parts in its cells, the answers, and the text written.
+-- Laws of the calls: the quick check, the table's parts in its cells, the answers, and the text written. Headlines has the theorems together.
 pub mod Rising
 pub mod Terminals
 pub mod Parts
