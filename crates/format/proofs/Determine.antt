@@ -14,7 +14,7 @@ use Rattle.format.specs.Table.{Table, Counts, countsOf}
 use Rattle.format.specs.Rules.{countsHold, keepsRules}
 use Rattle.format.specs.Line.{linesOf}
 use Rattle.format.specs.Text.{headerBytes, initialBytes, terminalBytes, arcBytes, endBytes, linesBefore, itemLines, joinLines, textOf}
-use Rattle.format.specs.Parse.{header, end, numberAt, countsFrom, isOf, Progress, opening, within, emptyTable, Parsed, accepted, turnedDown, parseFrom, parsed}
+use Rattle.format.specs.Parse.{isHeader, end, numberAt, countsFrom, isOf, Progress, opening, within, emptyTable, Parsed, accepted, turnedDown, parseFrom, parsed}
 use Rattle.format.proofs.All.{All}
 use Rattle.format.proofs.Rules.{Keeps, keeps-parts}
 use Rattle.format.proofs.Line.{IsByte, lines-join, join-lines}
@@ -129,7 +129,7 @@ unfolding parseBytes
 lines-read [] t small e = let z : _≡_ {A = ℕ} 0 1 = cc in absurd (omega arith)
 lines-read (b ∷ bs) t small e =
     let d = one-parsed opening b bs t e in
-    let k = and-eq-true-iff (isOf header b) (countsHold (countsFrom b)) .0 (sym (header-line-clear b) ∙ d .0) in
+    let k = and-eq-true-iff (isHeader b) (countsHold (countsFrom b)) .0 (sym (header-line-clear b) ∙ d .0) in
     let r = items-read (countsFrom b) bs t (k .1) (small .1) (ap (λ (p : Progress). parseBytes p bs) (sym (header-onward b)) ∙ d .1) in
     let first : b ≡ headerBytes (countsOf t) = header-only b (small .0) (k .0) ∙ ap headerBytes (r .counts) in
     (keeps-parts t .1 (r .keeps), ap₂ (λ (x : List ℕ) (xs : List (List ℕ)). x ∷ xs) first (r .lines))

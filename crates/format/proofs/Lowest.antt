@@ -8,13 +8,13 @@ use mathlib.Core.List.{List, [], _∷_, _++_, List·Memᴰ, List·Memᴰ·not-ni
 use lib.Dec.{eqb, ltb}
 use borrow.Author.Tests.{ltb-true}
 use Rattle.format.specs.declared.InputCause.{InputCause}
-use Rattle.format.specs.declared.InputCause.the-variants.{Malformed, Misplaced, CountLimit, StateNumber, LetterLimit, StateOrder, SourceOrder, ArcRepeated, LineCount}
+use Rattle.format.specs.declared.InputCause.the-variants.{Malformed, CountLimit, StateNumber, LetterLimit, StateOrder, SourceOrder, ArcRepeated, LineCount}
 use Rattle.format.specs.Refusal.{inputNumber}
 use Rattle.format.specs.Table.{Table}
 use Rattle.format.specs.Rules.{unless, countsHold, stateHolds, letterHolds, initialIsNew, terminalRises, sourceHolds, arcIsNew, headerFaults, initialFaults, terminalFaults, arcFaults}
 use Rattle.format.specs.Line.{Line, malformed, bytesOf}
 use Rattle.format.specs.Text.{linesBefore}
-use Rattle.format.specs.Parse.{Kind, header, initial, terminal, arc, end, numberAt, countsFrom, arcFrom, isOf, due, emptyTable, Progress, opening, within, closed, itemFaults, kindFaults, bytesFaults, lineFaults}
+use Rattle.format.specs.Parse.{inPlace, isHeader, Kind, initial, terminal, arc, end, numberAt, countsFrom, arcFrom, isOf, due, emptyTable, Progress, opening, within, closed, itemFaults, bytesFaults, lineFaults}
 use Rattle.format.proofs.Tests.{and-left, and-right}
 
 -- each refusal's number is below the next one's
@@ -52,8 +52,7 @@ four false false false true = refl
 four false false false false = refl
 
 item-rise : (k : Kind) (t : Table) (b : List ℕ) → numbersRise (itemFaults k t b) ≡ true
-unfolding itemFaults headerFaults initialFaults terminalFaults arcFaults
-item-rise header t b = one (countsHold (countsFrom b)) CountLimit
+unfolding itemFaults initialFaults terminalFaults arcFaults
 item-rise initial t b = two (stateHolds (t .states) (numberAt b 1)) (initialIsNew (t .initials) (numberAt b 1))
 item-rise terminal t b = two (stateHolds (t .states) (numberAt b 1)) (terminalRises (t .terminals) (numberAt b 1))
 item-rise arc t b =
@@ -61,17 +60,14 @@ item-rise arc t b =
     four (stateHolds (t .states) (a .source) && stateHolds (t .states) (a .target)) (letterHolds (a .upper) && letterHolds (a .lower)) (sourceHolds (t .arcs) a) (arcIsNew (t .arcs) a)
 item-rise end t b = one (eqb (numberAt b 1) (linesBefore t)) LineCount
 
-kind-rise : (k : Kind) (t : Table) (b : List ℕ) → numbersRise (kindFaults k t b) ≡ true
-kind-rise k t b = go (isOf k b)
-  where
-    go : (x : Bool) → numbersRise (cond x (itemFaults k t b) (Misplaced ∷ [])) ≡ true
-    go true = item-rise k t b
-    go false = refl
+place-rise : (x : Bool) (faults : List InputCause) → numbersRise faults ≡ true → numbersRise (inPlace x faults) ≡ true
+place-rise true faults h = h
+place-rise false faults h = refl
 
 bytes-rise : (p : Progress) (b : List ℕ) → numbersRise (bytesFaults p b) ≡ true
-unfolding bytesFaults
-bytes-rise opening b = kind-rise header (emptyTable 0) b
-bytes-rise (within c t) b = kind-rise (due c t) t b
+unfolding bytesFaults headerFaults
+bytes-rise opening b = place-rise (isHeader b) _ (one (countsHold (countsFrom b)) CountLimit)
+bytes-rise (within c t) b = place-rise (isOf (due c t) b) _ (item-rise (due c t) t b)
 bytes-rise (closed t) b = refl
 
 pub faults-rise : (p : Progress) (l : Line) → numbersRise (lineFaults p l) ≡ true

@@ -8,12 +8,12 @@ use lib.Dec.{eqb}
 use lib.ListN.{length, length-append}
 use borrow.Author.Tests.{lt-ltb, le-ltb}
 use Rattle.format.specs.declared.InputCause.{InputCause}
-use Rattle.format.specs.declared.InputCause.the-variants.{Malformed, Misplaced, LineCount}
+use Rattle.format.specs.declared.InputCause.the-variants.{Malformed, LineCount}
 use Rattle.format.specs.Table.{Arc, Table, Counts, countsOf}
-use Rattle.format.specs.Rules.{isEmpty, each, countsHold}
+use Rattle.format.specs.Rules.{isEmpty, each, countsHold, headerFaults}
 use Rattle.format.specs.Line.{Line, malformed, bytesOf}
 use Rattle.format.specs.Text.{initialBytes, terminalBytes, arcBytes, linesBefore}
-use Rattle.format.specs.Parse.{Kind, header, initial, terminal, arc, end, numberAt, countsFrom, arcFrom, isOf, Progress, opening, within, closed, due, emptyTable, itemFaults, kindFaults, bytesFaults, lineFaults, added, onward, Parsed, accepted, decide, atEnd, parseFrom}
+use Rattle.format.specs.Parse.{inPlace, isHeader, Kind, initial, terminal, arc, end, numberAt, countsFrom, arcFrom, isOf, Progress, opening, within, closed, due, emptyTable, itemFaults, kindFaults, bytesFaults, lineFaults, added, onward, Parsed, accepted, decide, atEnd, parseFrom}
 use Rattle.format.proofs.All.{All}
 use Rattle.format.proofs.Tests.{empty-nil}
 use Rattle.format.proofs.Rules.{clear-last, header-clear, initialPasses, terminalPasses, arcPasses}
@@ -107,19 +107,16 @@ module _ (c : Counts) (t : Table) where
   due-end h k l =
       simp (le-ltb (length (t .initials)) (c .initials) h, le-ltb (length (t .terminals)) (c .terminals) k, le-ltb (length (t .arcs)) (c .arcs) l)
 
--- a line of its kind earns what its item earns
-kind-clear : (k : Kind) (t : Table) (b : List ℕ) → isEmpty (kindFaults k t b) ≡ (isOf k b && isEmpty (itemFaults k t b))
-kind-clear k t b = go (isOf k b)
-  where
-    go : (x : Bool) → isEmpty (cond x (itemFaults k t b) (Misplaced ∷ [])) ≡ (x && isEmpty (itemFaults k t b))
-    go true = refl
-    go false = refl
+-- a line in its place earns what it says
+place-clear : (x : Bool) (faults : List InputCause) → isEmpty (inPlace x faults) ≡ (x && isEmpty faults)
+place-clear true faults = refl
+place-clear false faults = refl
 
 -- what a line earns at a place where its kind is due, and where it leads
 module _ (c : Counts) (t : Table) (k : Kind) (here : due c t ≡ k) (b : List ℕ) where
   pub faults-due : isEmpty (bytesFaults (within c t) b) ≡ (isOf k b && isEmpty (itemFaults k t b))
   unfolding bytesFaults
-  faults-due = ap (λ (x : Kind). isEmpty (kindFaults x t b)) here ∙ kind-clear k t b
+  faults-due = ap (λ (x : Kind). isEmpty (kindFaults x t b)) here ∙ place-clear (isOf k b) (itemFaults k t b)
 
   pub onward-due : onward (within c t) b ≡ added k c t b
   unfolding onward
@@ -288,9 +285,9 @@ module _ {A : Type 0} (c : Counts) (F : Phase c A) where
 
 -- The header line, and the end line after all items.
 
-pub header-line-clear : (b : List ℕ) → isEmpty (bytesFaults opening b) ≡ (isOf header b && countsHold (countsFrom b))
-unfolding bytesFaults itemFaults
-header-line-clear b = kind-clear header (emptyTable 0) b ∙ ap (λ (x : Bool). isOf header b && x) (header-clear (countsFrom b))
+pub header-line-clear : (b : List ℕ) → isEmpty (bytesFaults opening b) ≡ (isHeader b && countsHold (countsFrom b))
+unfolding bytesFaults
+header-line-clear b = place-clear (isHeader b) (headerFaults (countsFrom b)) ∙ ap (λ (x : Bool). isHeader b && x) (header-clear (countsFrom b))
 
 pub header-onward : (b : List ℕ) → onward opening b ≡ within (countsFrom b) (emptyTable (countsFrom b .states))
 unfolding onward

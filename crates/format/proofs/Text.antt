@@ -11,7 +11,7 @@ use Rattle.format.specs.Rules.{keepsRules}
 use Rattle.format.specs.Index.{tabulate}
 use Rattle.format.specs.Line.{lineText}
 use Rattle.format.specs.Text.{number, headerBytes, initialBytes, terminalBytes, arcBytes, endBytes, linesBefore, itemLines, joinLines, textOf}
-use Rattle.format.specs.Parse.{Kind, header, initial, terminal, arc, end, numberAt, countsFrom, arcFrom, codeOf, widthOf, isOf}
+use Rattle.format.specs.Parse.{hasForm, isHeader, Kind, initial, terminal, arc, end, numberAt, countsFrom, arcFrom, codeOf, widthOf, isOf}
 use Rattle.format.proofs.All.{All, all-append, all-map, all-getD}
 use Rattle.format.proofs.Rules.{Bounded, ArcBounded, table-bounded, initials-below, terminals-below, arcs-bounded}
 use Rattle.format.proofs.Line.{IsByte, Bytes, length-chars}
@@ -42,11 +42,11 @@ tabulated (x ∷ b) = ap (λ (l : List ℕ). x ∷ l) (tabulated b ∙ sym (tabu
 
 -- What the bytes of a line say; bytes of a kind are those of what they say.
 
--- a line of a kind has its kind's length
-kind-parts : (k : Kind) (b : List ℕ) → isOf k b ≡ true → (getD b 0 0 ≡ codeOf k) × (b ≡ tabulate (λ i. getD b i 0) 0 (widthOf k))
-kind-parts k b e =
+-- a line has its kind's first byte and length
+form-parts : (code width : ℕ) (b : List ℕ) → hasForm code width b ≡ true → (getD b 0 0 ≡ code) × (b ≡ tabulate (λ i. getD b i 0) 0 width)
+form-parts code width b e =
     let h = and-eq-true-iff _ _ .0 e in
-    (eqb-true _ _ (h .0), tabulated b ∙ ap (tabulate (λ i. getD b i 0) 0) (eqb-true (length b) (widthOf k) (h .1)))
+    (eqb-true _ _ (h .0), tabulated b ∙ ap (tabulate (λ i. getD b i 0) 0) (eqb-true (length b) width (h .1)))
 
 pub header-says : (c : Counts) → countsFrom (headerBytes c) ≡ c
 header-says c =
@@ -65,20 +65,20 @@ module _ (b : List ℕ) (small : All IsByte b) where
   number-here : (i : ℕ) → number (numberAt b i) ≡ getD b i 0 ∷ getD b (i + 1) 0 ∷ []
   number-here i = number-exact (getD b i 0) (getD b (i + 1) 0) (all-getD IsByte b (i + 1) 0 (omega arith) small)
 
-  pub header-only : isOf header b ≡ true → b ≡ headerBytes (countsFrom b)
+  pub header-only : isHeader b ≡ true → b ≡ headerBytes (countsFrom b)
   header-only e =
-      let p = kind-parts header b e in
+      let p = form-parts 1 9 b e in
       p .1 ∙ sym (λ i. sym (p .0) i ∷ (number-here 1 i ++ (number-here 3 i ++ (number-here 5 i ++ number-here 7 i))))
 
   pub arc-only : isOf arc b ≡ true → b ≡ arcBytes (arcFrom b)
   arc-only e =
-      let p = kind-parts arc b e in
+      let p = form-parts 4 7 b e in
       p .1 ∙ sym (λ i. sym (p .0) i ∷ (number-here 1 i ++ (getD b 3 0 ∷ getD b 4 0 ∷ number-here 5 i)))
 
   -- a line of one number
   short-only : (k : Kind) → widthOf k ≡ 3 → isOf k b ≡ true → b ≡ codeOf k ∷ number (numberAt b 1)
   short-only k w e =
-      let p = kind-parts k b e in
+      let p = form-parts (codeOf k) (widthOf k) b e in
       p .1 ∙ ap (tabulate (λ i. getD b i 0) 0) w ∙ sym (λ i. sym (p .0) i ∷ number-here 1 i)
 
   pub initial-only : isOf initial b ≡ true → b ≡ initialBytes (numberAt b 1)

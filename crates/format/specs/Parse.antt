@@ -24,28 +24,36 @@ countsFrom b = record { states = numberAt b 1; initials = numberAt b 3; terminal
 abbrev pub arcFrom : List ℕ → Arc
 arcFrom b = record { source = numberAt b 1; upper = getD b 3 0; lower = getD b 4 0; target = numberAt b 5 }
 
--- The kinds, each with its first byte and its length in bytes.
+-- 2: a line has the first byte and the length in bytes of its place, or no other rule judges it.
+
+abbrev pub hasForm : ℕ → ℕ → List ℕ → Bool
+hasForm code width b = eqb (getD b 0 0) code && eqb (length b) width
+
+abbrev pub inPlace : Bool → List InputCause → List InputCause
+inPlace has faults = cond has faults (Misplaced ∷ [])
+
+abbrev pub isHeader : List ℕ → Bool
+isHeader b = hasForm 1 9 b
+
+-- The kinds of the lines after the header's, each with its first byte and its length.
 
 pub data Kind : Type 0 where
-  header initial terminal arc end : Kind
+  initial terminal arc end : Kind
 
 abbrev pub codeOf : Kind → ℕ
-codeOf header = 1
 codeOf initial = 2
 codeOf terminal = 3
 codeOf arc = 4
 codeOf end = 5
 
 abbrev pub widthOf : Kind → ℕ
-widthOf header = 9
 widthOf initial = 3
 widthOf terminal = 3
 widthOf arc = 7
 widthOf end = 3
 
--- 2: the line has the kind of its place and the length of its kind
 abbrev pub isOf : Kind → List ℕ → Bool
-isOf k b = eqb (getD b 0 0) (codeOf k) && eqb (length b) (widthOf k)
+isOf k b = hasForm (codeOf k) (widthOf k) b
 
 -- How far a text has been read: nothing yet; the header's counts and the items so far; all, with the end line.
 
@@ -64,20 +72,19 @@ due c t =
 abbrev pub emptyTable : ℕ → Table
 emptyTable states = record { states = states; initials = []; terminals = []; arcs = [] }
 
--- what an item of its kind earns: 3 to 9
+-- what a line of its kind earns: 4 to 9
 unfoldable pub itemFaults : Kind → Table → List ℕ → List InputCause
-itemFaults header t b = headerFaults (countsFrom b)
 itemFaults initial t b = initialFaults (t .states) (t .initials) (numberAt b 1)
 itemFaults terminal t b = terminalFaults (t .states) (t .terminals) (numberAt b 1)
 itemFaults arc t b = arcFaults (t .states) (t .arcs) (arcFrom b)
 itemFaults end t b = unless (eqb (numberAt b 1) (linesBefore t)) LineCount
 
 abbrev pub kindFaults : Kind → Table → List ℕ → List InputCause
-kindFaults k t b = cond (isOf k b) (itemFaults k t b) (Misplaced ∷ [])
+kindFaults k t b = inPlace (isOf k b) (itemFaults k t b)
 
 -- what a line's bytes earn, at each place; after the end line any text is misplaced
 unfoldable pub bytesFaults : Progress → List ℕ → List InputCause
-bytesFaults opening b = kindFaults header (emptyTable 0) b
+bytesFaults opening b = inPlace (isHeader b) (headerFaults (countsFrom b))
 bytesFaults (within c t) b = kindFaults (due c t) t b
 bytesFaults (closed t) b = Misplaced ∷ []
 
@@ -86,7 +93,6 @@ lineFaults p l = cond (malformed l) (Malformed ∷ []) (bytesFaults p (bytesOf (
 
 -- the progress after a line that earns none
 abbrev pub added : Kind → Counts → Table → List ℕ → Progress
-added header c t b = within c t
 added initial c t b =
     within c (record { states = t .states; initials = t .initials ++ (numberAt b 1 ∷ []); terminals = t .terminals; arcs = t .arcs })
 added terminal c t b =

@@ -9,6 +9,7 @@ use lib.Dec.{eqb, ltb}
 use lib.ListN.{length, getD, take, drop, set, replicate, length-append, length-take, getD-replicate, List·getD-append, List·getD-eq-default}
 use lib.Seq.{getD-take, getD-append-add, length-take-le, sets, sets-eq, take-at, take-nil, drop-at}
 use borrow.Author.Tests.{ltb-true, ltb-false, eq-eqb, ne-eqb, le-leb, lt-leb}
+use Rattle.format.specs.declared.InputCause.{InputCause}
 use Rattle.format.specs.declared.InputCause.the-variants.{Misplaced, LineCount}
 use Rattle.judge.specs.declared.Judged.the-variants.{Kept, Broken}
 use Rattle.format.specs.Table.{Arc, Table, Counts}
@@ -16,7 +17,7 @@ use Rattle.format.specs.Rules.{each, unless, countsHold, initialFaults, termina
 use Rattle.format.specs.Loaded.{countCells, arcCells, arcsCells, cellsOf, countsIn, arcsIn}
 use Rattle.judge.specs.Judge.{judged, largest, stateKey, arcKey}
 use Rattle.format.specs.Cells.{arcsAs, Whole}
-use Rattle.format.specs.Parse.{emptyTable, Kind, header, initial, terminal, arc, end, codeOf, widthOf, numberAt, countsFrom, arcFrom, isOf, due, itemFaults, kindFaults, within, onward}
+use Rattle.format.specs.Parse.{emptyTable, hasForm, inPlace, Kind, initial, terminal, arc, end, codeOf, widthOf, numberAt, countsFrom, arcFrom, isOf, due, itemFaults, kindFaults, within, onward}
 use Rattle.format.specs.Text.{linesBefore}
 use Rattle.parser.specs.Scan.{padded}
 use Rattle.parser.specs.Draft.{ArcsReady, Drafted, draftCells, kindAfter, IsItem, itemCells, itemKey, Tracks}
@@ -74,10 +75,9 @@ module _ (c : Counts) (lines : ℕ) where
 -- Kinds by their first byte.
 
 abbrev kindFor : ℕ → Kind
-kindFor n = cond (eqb n 1) header (cond (eqb n 2) initial (cond (eqb n 3) terminal (cond (eqb n 4) arc end)))
+kindFor n = cond (eqb n 2) initial (cond (eqb n 3) terminal (cond (eqb n 4) arc end))
 
 kind-for : (k : Kind) → kindFor (codeOf k) ≡ k
-kind-for header = refl
 kind-for initial = refl
 kind-for terminal = refl
 kind-for arc = refl
@@ -89,14 +89,12 @@ kind-one n k e = sym (kind-for k) ∙ ap kindFor (sym e)
 -- What a line of an item adds to the cells, and its key.
 
 pub cells-one : (k : Kind) (b : List ℕ) (n : ℕ) → (codeOf k ≡ 4 → ⊥) → IsItem k → n ≡ numberAt b 1 → itemCells k b ≡ n ∷ []
-cells-one header b n h i e = absurd i
 cells-one initial b n h i e = ap (λ (m : ℕ). m ∷ []) (sym e)
 cells-one terminal b n h i e = ap (λ (m : ℕ). m ∷ []) (sym e)
 cells-one arc b n h i e = absurd (h refl)
 cells-one end b n h i e = absurd i
 
 pub key-none : (k : Kind) (b : List ℕ) → (codeOf k ≡ 2 → ⊥) → (codeOf k ≡ 4 → ⊥) → IsItem k → itemKey k b ≤ 0
-key-none header b h g i = absurd i
 key-none initial b h g i = absurd (h refl)
 key-none terminal b h g i = omega arith
 key-none arc b h g i = absurd (g refl)
@@ -107,27 +105,28 @@ put-four l i x y z w = simp (add-one, add-two, add-three)
 
 -- What a line earns: misplaced, or what its item earns.
 
-pub misplaced : (k : Kind) (t : Table) (b : List ℕ) → isOf k b ≡ false → judged (kindFaults k t b) ≡ Broken Misplaced
-misplaced k t b e = ap (λ (x : Bool). judged (cond x (itemFaults k t b) (Misplaced ∷ []))) e
+pub misplaced : {x : Bool} (faults : List InputCause) → x ≡ false → judged (inPlace x faults) ≡ Broken Misplaced
+misplaced faults e = ap (λ (x : Bool). judged (inPlace x faults)) e
 
-pub placed : (k : Kind) (t : Table) (b : List ℕ) → isOf k b ≡ true → judged (kindFaults k t b) ≡ judged (itemFaults k t b)
-placed k t b e = ap (λ (x : Bool). judged (cond x (itemFaults k t b) (Misplaced ∷ []))) e
+pub placed : {x : Bool} (faults : List InputCause) → x ≡ true → judged (inPlace x faults) ≡ judged faults
+placed faults e = ap (λ (x : Bool). judged (inPlace x faults)) e
 
 pub kept-item : (k : Kind) (t : Table) (b : List ℕ) → judged (kindFaults k t b) ≡ Kept → judged (itemFaults k t b) ≡ Kept
 kept-item k t b e = go (isOf k b) refl
   where
     go : (x : Bool) → isOf k b ≡ x → judged (itemFaults k t b) ≡ Kept
-    go true h = sym (placed k t b h) ∙ e
-    go false h = cc (sym (misplaced k t b h) ∙ e)
+    go true h = sym (placed (itemFaults k t b) h) ∙ e
+    go false h = cc (sym (misplaced (itemFaults k t b) h) ∙ e)
 
-pub not-kind : (k : Kind) (b : List ℕ) → (getD b 0 0 ≡ codeOf k → ⊥) → isOf k b ≡ false
-not-kind k b n = ap (λ (x : Bool). x && eqb (length b) (widthOf k)) (ne-eqb (getD b 0 0) (codeOf k) n)
+module _ (code width : ℕ) (b : List ℕ) where
+  pub has-form : getD b 0 0 ≡ code → length b ≡ width → hasForm code width b ≡ true
+  has-form e f = ap₂ _&&_ (eq-eqb (getD b 0 0) code e) (eq-eqb (length b) width f)
 
-pub is-kind : (k : Kind) (b : List ℕ) → getD b 0 0 ≡ codeOf k → length b ≡ widthOf k → isOf k b ≡ true
-is-kind k b e f = ap₂ _&&_ (eq-eqb (getD b 0 0) (codeOf k) e) (eq-eqb (length b) (widthOf k) f)
+  pub not-code : (getD b 0 0 ≡ code → ⊥) → hasForm code width b ≡ false
+  not-code n = ap (λ (x : Bool). x && eqb (length b) width) (ne-eqb (getD b 0 0) code n)
 
-pub not-wide : (k : Kind) (b : List ℕ) → (length b ≡ widthOf k → ⊥) → isOf k b ≡ false
-not-wide k b n = ap (λ (x : Bool). eqb (getD b 0 0) (codeOf k) && x) (ne-eqb (length b) (widthOf k) n) ∙ and-false (eqb (getD b 0 0) (codeOf k))
+  pub not-wide : (length b ≡ width → ⊥) → hasForm code width b ≡ false
+  not-wide n = ap (λ (x : Bool). eqb (getD b 0 0) code && x) (ne-eqb (length b) width n) ∙ and-false (eqb (getD b 0 0) code)
 
 -- Lists.
 
@@ -209,7 +208,6 @@ module _ (c : Counts) (t : Table) (lines filled top : ℕ) (cells : List ℕ) (T
 
   -- what a due kind says of the lists so far
   abbrev pub Lists : Kind → Type 0
-  Lists header = ⊥
   Lists initial = (length (t .initials) < c .initials) × (t .terminals ≡ []) × (t .arcs ≡ [])
   Lists terminal = (length (t .initials) ≡ c .initials) × (length (t .terminals) < c .terminals) × (t .arcs ≡ [])
   Lists arc = (length (t .initials) ≡ c .initials) × (length (t .terminals) ≡ c .terminals) × (length (t .arcs) < c .arcs)
@@ -284,7 +282,7 @@ module _ (c : Counts) (t : Table) (lines filled top : ℕ) (cells : List ℕ) (T
   judged-initial n b k e w q =
       let d : due c t ≡ initial = kind-one 2 (due c t) k in
       (λ i. judged (initialFaults (states-held i) (initials-before d i) (q i)))
-      ∙ sym (ap (λ (x : Kind). judged (kindFaults x t b)) d ∙ placed initial t b (is-kind initial b e w))
+      ∙ sym (ap (λ (x : Kind). judged (kindFaults x t b)) d ∙ placed (itemFaults initial t b) (has-form 2 3 b e w))
 
   pub judged-terminal : (from n : ℕ) (b : List ℕ) → from ≡ 4 + getD cells 1 0 → 3 ≡ codeOf (due c t) → getD b 0 0 ≡ 3 → length b ≡ 3 → n ≡ numberAt b 1
       → judged (terminalFaults (getD cells 0 0) (take (filled - from) (drop from cells)) n) ≡ judged (kindFaults (due c t) t b)
@@ -294,7 +292,7 @@ module _ (c : Counts) (t : Table) (lines filled top : ℕ) (cells : List ℕ) (T
       let p : take (filled - from) (drop from cells) ≡ t .terminals =
       at-equal (λ m. take (filled - m) (drop m cells)) from (4 + c .initials) (f ∙ ap (λ (x : Counts). 4 + x .initials) counts-held) ∙ terminals-before d in
       (λ i. judged (terminalFaults (states-held i) (p i) (q i)))
-      ∙ sym (ap (λ (x : Kind). judged (kindFaults x t b)) d ∙ placed terminal t b (is-kind terminal b e w))
+      ∙ sym (ap (λ (x : Kind). judged (kindFaults x t b)) d ∙ placed (itemFaults terminal t b) (has-form 3 3 b e w))
 
   arcs-place : (from : ℕ) → from ≡ 4 + getD cells 1 0 + getD cells 2 0 → from ≡ arcsFrom
   arcs-place from f = f ∙ ap (λ (x : Counts). 4 + x .initials + x .terminals) counts-held
@@ -307,7 +305,7 @@ module _ (c : Counts) (t : Table) (lines filled top : ℕ) (cells : List ℕ) (T
       let p : arcsAs (take (filled - from) (drop from cells)) ≡ t .arcs =
       at-equal (λ m. arcsAs (take (filled - m) (drop m cells))) from arcsFrom (arcs-place from f) ∙ arcs-before d in
       (λ i. judged (arcFaults (states-held i) (p i) (q i)))
-      ∙ sym (ap (λ (x : Kind). judged (kindFaults x t b)) d ∙ placed arc t b (is-kind arc b e w))
+      ∙ sym (ap (λ (x : Kind). judged (kindFaults x t b)) d ∙ placed (itemFaults arc t b) (has-form 4 7 b e w))
 
   pub arcs-ready : (from : ℕ) → from ≡ 4 + getD cells 1 0 + getD cells 2 0 → 4 ≡ codeOf (due c t) → ArcsReady (getD cells 0 0) (take (filled - from) (drop from cells)) top
   arcs-ready from f k =
@@ -326,7 +324,6 @@ module _ (c : Counts) (t : Table) (lines filled top : ℕ) (cells : List ℕ) (T
   width-three n = go (due c t) lists-due n
     where
       go : (k : Kind) → Lists k → (codeOf k ≡ 4 → ⊥) → widthOf k ≡ 3
-      go header l h = absurd l
       go initial l h = refl
       go terminal l h = refl
       go arc l h = absurd (h refl)
@@ -336,7 +333,6 @@ module _ (c : Counts) (t : Table) (lines filled top : ℕ) (cells : List ℕ) (T
   end-due f g h = go (due c t) lists-due f g h
     where
       go : (k : Kind) → Lists k → (codeOf k ≡ 2 → ⊥) → (codeOf k ≡ 3 → ⊥) → (codeOf k ≡ 4 → ⊥) → k ≡ end
-      go header l f g h = absurd l
       go initial l f g h = absurd (f refl)
       go terminal l f g h = absurd (g refl)
       go arc l f g h = absurd (h refl)
@@ -346,7 +342,6 @@ module _ (c : Counts) (t : Table) (lines filled top : ℕ) (cells : List ℕ) (T
   item-due f = go (due c t) lists-due f
     where
       go : (k : Kind) → Lists k → (codeOf k ≡ 5 → ⊥) → IsItem k
-      go header l f = l
       go initial l f = tt
       go terminal l f = tt
       go arc l f = tt
@@ -356,7 +351,7 @@ module _ (c : Counts) (t : Table) (lines filled top : ℕ) (cells : List ℕ) (T
   module _ (b : List ℕ) (d : due c t ≡ end) (e : getD b 0 0 ≡ 5) (w : length b ≡ 3) where
     end-judged : judged (kindFaults (due c t) t b) ≡ judged (unless (eqb (numberAt b 1) (linesBefore t)) LineCount)
     unfolding itemFaults
-    end-judged = ap (λ (x : Kind). judged (kindFaults x t b)) d ∙ placed end t b (is-kind end b e w)
+    end-judged = ap (λ (x : Kind). judged (kindFaults x t b)) d ∙ placed (itemFaults end t b) (has-form 5 3 b e w)
 
     pub end-right : numberAt b 1 ≡ lines → judged (kindFaults (due c t) t b) ≡ Kept
     end-right q = end-judged ∙ ap (λ (x : Bool). judged (unless x LineCount)) (eq-eqb (numberAt b 1) (linesBefore t) (q ∙ T .lines-is))
@@ -387,14 +382,12 @@ module _ (c : Counts) (t : Table) (lines filled top : ℕ) (cells : List ℕ) (T
 -- One line more.
 
 abbrev pub extend : Kind → Table → List ℕ → Table
-extend header t b = t
 extend initial t b = record { states = t .states; initials = t .initials ++ (numberAt b 1 ∷ []); terminals = t .terminals; arcs = t .arcs }
 extend terminal t b = record { states = t .states; initials = t .initials; terminals = t .terminals ++ (numberAt b 1 ∷ []); arcs = t .arcs }
 extend arc t b = record { states = t .states; initials = t .initials; terminals = t .terminals; arcs = t .arcs ++ (arcFrom b ∷ []) }
 extend end t b = t
 
 pub onward-item : (c : Counts) (t : Table) (k : Kind) (b : List ℕ) → due c t ≡ k → IsItem k → onward (within c t) b ≡ within c (extend k t b)
-onward-item c t header b e i = absurd i
 onward-item c t initial b e i = onward-due c t initial e b
 onward-item c t terminal b e i = onward-due c t terminal e b
 onward-item c t arc b e i = onward-due c t arc e b
@@ -414,7 +407,6 @@ take-sets cells n more h =
 module _ (c : Counts) (t : Table) (lines filled top : ℕ) (cells : List ℕ) (T : Tracks c t lines filled top cells) (b : List ℕ) (top′ : ℕ) (raised : top ≤ top′) (room : filled + 4 ≤ length cells) where
   draft-more : (k : Kind) → due c t ≡ k → IsItem k → draftCells c (extend k t b) ≡ draftCells c t ++ itemCells k b
   unfolding draftCells arcsCells
-  draft-more header e i = absurd i
   draft-more initial e i =
       let l : Lists c t lines filled top cells T initial = subst (Lists c t lines filled top cells T) e (lists-due c t lines filled top cells T) in
       ap (λ (x : List ℕ). countCells c ++ x)
@@ -434,7 +426,6 @@ module _ (c : Counts) (t : Table) (lines filled top : ℕ) (cells : List ℕ) (T
   draft-more end e i = absurd i
 
   few : (k : Kind) → length (itemCells k b) ≤ 4
-  few header = omega arith
   few initial = omega arith
   few terminal = omega arith
   few arc = omega arith
@@ -450,7 +441,6 @@ module _ (c : Counts) (t : Table) (lines filled top : ℕ) (cells : List ℕ) (T
   pub tracks-more : (k : Kind) → due c t ≡ k → IsItem k → judged (kindFaults k t b) ≡ Kept → itemKey k b ≤ top′
       → Tracks c (extend k t b) (lines + 1) (filled + length (itemCells k b)) top′ (sets cells filled (itemCells k b))
   unfolding itemFaults
-  tracks-more header e i kept key = absurd i
   tracks-more initial e i kept key =
       let l : Lists c t lines filled top cells T initial = subst (Lists c t lines filled top cells T) e (lists-due c t lines filled top cells T) in
       let n = length-append (t .initials) (numberAt b 1 ∷ []) in

@@ -17,7 +17,7 @@ use Rattle.format.specs.Rules.{unless, countsHold, headerFaults}
 use Rattle.format.specs.Loaded.{countCells, countsIn, cellsOf}
 use Rattle.format.specs.Line.{Line, linesOf, malformed, bytesOf}
 use Rattle.judge.specs.Judge.{judged}
-use Rattle.format.specs.Parse.{Kind, header, initial, terminal, arc, end, Progress, codeOf, due, isOf, countsFrom, itemFaults, kindFaults, bytesFaults, opening, parsed, lineFaults, onward, within, closed, emptyTable, Parsed, turnedDown, decide, parseFrom}
+use Rattle.format.specs.Parse.{isHeader, inPlace, Kind, initial, terminal, arc, end, Progress, codeOf, due, countsFrom, kindFaults, bytesFaults, opening, parsed, lineFaults, onward, within, closed, emptyTable, Parsed, turnedDown, decide, parseFrom}
 use Rattle.parser.specs.Draft.{draftCells, IsItem, itemCells, itemKey, Tracks, cellsRead, CellsAre, itemsParsed}
 use Rattle.parser.proofs.Told.{LineRead, LineBad, parse-line, parse-bad}
 use Rattle.format.proofs.Parse.{onward-due}
@@ -34,7 +34,6 @@ decide-kept [] p e = refl
 decide-kept (g ∷ fs) p e = cc
 
 not-end : (k : Kind) → IsItem k → codeOf k ≡ 5 → ⊥
-not-end header i e = i
 not-end initial i e = omega arith
 not-end terminal i e = omega arith
 not-end arc i e = omega arith
@@ -96,7 +95,6 @@ module _ (c : Counts) (text : List ℕ) (start : ℕ) where
         f = filled-at c (R .table) lines filled top cells (R .tracks)
 
         few : (k : Kind) → Lists c (R .table) lines filled top cells (R .tracks) k → (codeOf k ≡ 5 → ⊥) → filled + 4 ≤ 4612
-        few header l h = absurd l
         few initial l h = omega (arith, f, b .states, b .initials, l .0, ap length (l .1), ap length (l .2))
         few terminal l h = omega (arith, f, b .states, b .initials, b .terminals, l .0, l .1, ap length (l .2))
         few arc l h = omega (arith, f, b .states, b .initials, b .terminals, b .arcs, l .0, l .1, l .2)
@@ -171,25 +169,29 @@ module _ (text cells : List ℕ) (r : Scanned) (L : LineRead text 0 r) where
   abbrev first : List ℕ
   first = bytesOf (L .line .chars)
 
-  header-decided : parsed text ≡ decide (kindFaults header (emptyTable 0) first) (parseFrom (onward opening first) (linesOf (drop (r .next) text)))
+  -- what the header line earns
+  abbrev earned : List InputCause
+  earned = inPlace (isHeader first) (headerFaults (countsFrom first))
+
+  header-decided : parsed text ≡ decide earned (parseFrom (onward opening first) (linesOf (drop (r .next) text)))
   unfolding parsed bytesFaults
   header-decided = parse-line opening text 0 r L
 
-  pub header-misplaced : isOf header first ≡ false → Whole text (Fault Misplaced) cells
-  header-misplaced e = refused text Misplaced cells (header-decided ∙ decide-broken (kindFaults header (emptyTable 0) first) Misplaced _ (misplaced header (emptyTable 0) first e))
+  pub header-misplaced : isHeader first ≡ false → Whole text (Fault Misplaced) cells
+  header-misplaced e = refused text Misplaced cells (header-decided ∙ decide-broken earned Misplaced _ (misplaced (headerFaults (countsFrom first)) e))
 
-  module _ (is : isOf header first ≡ true) where
-    header-judged : judged (kindFaults header (emptyTable 0) first) ≡ judged (unless (countsHold (countsFrom first)) CountLimit)
-    unfolding itemFaults headerFaults
-    header-judged = placed header (emptyTable 0) first is
+  module _ (is : isHeader first ≡ true) where
+    header-judged : judged earned ≡ judged (unless (countsHold (countsFrom first)) CountLimit)
+    unfolding headerFaults
+    header-judged = placed (headerFaults (countsFrom first)) is
 
     pub header-limit : countsHold (countsFrom first) ≡ false → Whole text (Fault CountLimit) cells
     header-limit e =
         refused text CountLimit cells
         (header-decided
-        ∙ decide-broken (kindFaults header (emptyTable 0) first) CountLimit _ (header-judged ∙ ap (λ (b : Bool). judged (unless b CountLimit)) e))
+        ∙ decide-broken earned CountLimit _ (header-judged ∙ ap (λ (b : Bool). judged (unless b CountLimit)) e))
 
     pub header-on : countsHold (countsFrom first) ≡ true → parsed text ≡ itemsParsed (countsFrom first) (drop (r .next) text)
     unfolding onward
     header-on e =
-        header-decided ∙ decide-kept (kindFaults header (emptyTable 0) first) _ (header-judged ∙ ap (λ (b : Bool). judged (unless b CountLimit)) e)
+        header-decided ∙ decide-kept earned _ (header-judged ∙ ap (λ (b : Bool). judged (unless b CountLimit)) e)

@@ -11,7 +11,7 @@ use Rattle.format.specs.Table.{Table, Counts}
 use Rattle.format.specs.Rules.{countsHold, initialsKeep, terminalsKeep, arcsKeep}
 use Rattle.format.specs.Loaded.{countCells, arcCells, arcsCells, cellsOf}
 use Rattle.format.specs.Text.{linesBefore}
-use Rattle.format.specs.Parse.{Kind, header, initial, terminal, arc, end, codeOf, due, numberAt, arcFrom, Parsed, accepted, turnedDown, within, emptyTable, parseFrom}
+use Rattle.format.specs.Parse.{Kind, initial, terminal, arc, end, codeOf, due, numberAt, arcFrom, Parsed, accepted, turnedDown, within, emptyTable, parseFrom}
 use Rattle.format.specs.Line.{linesOf}
 use Rattle.format.specs.Cells.{arcsAs, Whole}
 use Rattle.judge.specs.Judge.{largest, stateKey, arcKey}
@@ -27,7 +27,6 @@ kindAfter c lines =
 
 -- the kinds of items
 abbrev pub IsItem : Kind → Type 0
-IsItem header = ⊥
 IsItem initial = Unit {0}
 IsItem terminal = Unit {0}
 IsItem arc = Unit {0}
@@ -35,7 +34,6 @@ IsItem end = ⊥
 
 -- the cells that a line of a kind adds
 abbrev pub itemCells : Kind → List ℕ → List ℕ
-itemCells header b = []
 itemCells initial b = numberAt b 1 ∷ []
 itemCells terminal b = numberAt b 1 ∷ []
 itemCells arc b = arcCells (arcFrom b)
@@ -43,7 +41,6 @@ itemCells end b = []
 
 -- the key by which a line's item is seen to be new
 abbrev pub itemKey : Kind → List ℕ → ℕ
-itemKey header b = 0
 itemKey initial b = stateKey (numberAt b 1)
 itemKey terminal b = 0
 itemKey arc b = arcKey (arcFrom b)

@@ -3,8 +3,8 @@ use mathlib.Core.Path.{sym, ap, _∙_}
 use denote.Ref.{now}
 use borrow.Author.Needs.{needs}
 use Rattle.judge.specs.Judge.{judged}
-use Rattle.format.specs.Parse.{arc, codeOf, due, kindFaults}
-use Rattle.parser.proofs.Draft.{byte-at, number-as, arc-as, kind-one, misplaced, not-kind, not-wide, width-three, end-due, end-right, end-wrong, judged-initial, judged-terminal, judged-arc, drafted-bounds, drafted-initials, drafted-terminals, drafted-arcs, drafted-ready}
+use Rattle.format.specs.Parse.{arc, codeOf, widthOf, due, itemFaults, kindFaults}
+use Rattle.parser.proofs.Draft.{byte-at, number-as, arc-as, kind-one, misplaced, not-code, not-wide, width-three, end-due, end-right, end-wrong, judged-initial, judged-terminal, judged-arc, drafted-bounds, drafted-initials, drafted-terminals, drafted-arcs, drafted-ready}
 use Rattle.parser.proofs.item_fault.Statement.{statement}
 use Rattle.parser.proofs.item_fault.Tie as tie
 
@@ -12,13 +12,13 @@ array-read-if1 : tie.Need-array-read-if1
 array-read-if1 c = search needs
 
 returns : tie.Need-returns
-returns c = λ d t b T e p q. sym (misplaced (due d t) t b (not-kind (due d t) b (λ z. c .if1 .taken (byte-at (c .before .before .args .t3) b p 0 (omega arith) ∙ z ∙ sym e))))
+returns c = λ d t b T e p q. sym (misplaced (itemFaults (due d t) t b) (not-code (codeOf (due d t)) (widthOf (due d t)) b (λ z. c .if1 .taken (byte-at (c .before .before .args .t3) b p 0 (omega arith) ∙ z ∙ sym e))))
 
 returns-2 : tie.Need-returns-2
 returns-2 c =
     λ d t b T e p q.
     let k = kind-one 4 (due d t) (sym (c .before .if2 .taken) ∙ e) in
-    sym (ap (λ x. judged (kindFaults x t b)) k ∙ misplaced arc t b (not-wide arc b (λ z. c .if3 .taken (q ∙ z))))
+    sym (ap (λ x. judged (kindFaults x t b)) k ∙ misplaced (itemFaults arc t b) (not-wide 4 7 b (λ z. c .if3 .taken (q ∙ z))))
 
 shared-slice-read-wide : tie.Need-shared-slice-read-wide
 shared-slice-read-wide c =
@@ -85,8 +85,8 @@ returns-4 : tie.Need-returns-4
 returns-4 c =
     λ d t b T e p q.
     sym
-    (misplaced (due d t) t b
-    (not-wide (due d t) b (λ z. c .if4 .taken (q ∙ z ∙ width-three d t (c .before .before .before .before .args .lines) (c .before .before .before .before .args .filled) (c .before .before .before .before .args .top) (now (c .before .before .before .before .args .cells)) T (λ y. c .before .if2 .left (e ∙ y))))))
+    (misplaced (itemFaults (due d t) t b)
+    (not-wide (codeOf (due d t)) (widthOf (due d t)) b (λ z. c .if4 .taken (q ∙ z ∙ width-three d t (c .before .before .before .before .args .lines) (c .before .before .before .before .args .filled) (c .before .before .before .before .args .top) (now (c .before .before .before .before .args .cells)) T (λ y. c .before .if2 .left (e ∙ y))))))
 
 number-at-requires : tie.Need-number-at-requires
 number-at-requires c κs = search needs
