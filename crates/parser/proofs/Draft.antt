@@ -6,8 +6,8 @@ use mathlib.Core.Path.{_≡_, refl, sym, ap, ap₂, subst, _∙_}
 use mathlib.Core.Bool.{Bool, true, false, cond, _&&_, and-false}
 use mathlib.Core.List.{List, [], _∷_, _++_, append-assoc, append-nil}
 use lib.Dec.{eqb, ltb}
-use lib.ListN.{length, getD, take, drop, set, replicate, length-append, length-take, getD-replicate, List·getD-append, List·getD-eq-default}
-use lib.Seq.{getD-take, getD-append-add, length-take-le, sets, sets-eq, take-at, take-nil, drop-at}
+use lib.ListN.{length, getD, take, drop, set, replicate, length-append, getD-replicate, List·getD-append, List·getD-eq-default}
+use lib.Seq.{getD-take, getD-append-add, sets, take-nil, drop-at}
 use borrow.Author.Tests.{ltb-true, ltb-false, eq-eqb, ne-eqb, le-leb, lt-leb}
 use Rattle.format.specs.declared.InputCause.{InputCause}
 use Rattle.format.specs.declared.InputCause.the-variants.{Misplaced, LineCount}
@@ -20,11 +20,12 @@ use Rattle.format.specs.Cells.{arcsAs, Whole}
 use Rattle.format.specs.Parse.{emptyTable, hasForm, inPlace, Kind, initial, terminal, arc, end, codeOf, widthOf, numberAt, countsFrom, arcFrom, isOf, due, itemFaults, kindFaults, within, onward}
 use Rattle.format.specs.Text.{linesBefore}
 use Rattle.parser.specs.Scan.{padded}
-use Rattle.parser.specs.Draft.{ArcsReady, Drafted, draftCells, kindAfter, IsItem, itemCells, itemKey, Tracks}
+use Rattle.parser.specs.Draft.{ArcsReady, Drafted, filledUp, draftCells, kindAfter, IsItem, itemCells, itemKey, Tracks}
 use Rattle.format.proofs.Arcs.{at-equal}
+use Rattle.parser.proofs.Filled.{length-filled, take-filled, sets-filled}
 use Rattle.format.proofs.Rules.{Bounded, counts-bounded}
 use Rattle.judge.proofs.Turn.{keep-snoc, top-snoc}
-use Rattle.format.proofs.Loaded.{four, arcs-in, length-arcs-cells}
+use Rattle.format.proofs.Loaded.{arcs-in, length-arcs-cells}
 use Rattle.format.proofs.Parse.{due-initial, due-terminal, due-arc, due-end, onward-due}
 
 -- The bytes of a line in the array.
@@ -150,8 +151,19 @@ module _ (c : Counts) (t : Table) (lines filled top : ℕ) (cells : List ℕ) (T
       omega
       (arith, T .filled-is, length-append (t .initials) (t .terminals ++ arcsCells (t .arcs)), length-append (t .terminals) (arcsCells (t .arcs)), length-arcs-cells (t .arcs))
 
+  filled-most : filled ≤ 4612
+  filled-most =
+      let b = bounded in
+      omega (arith, filled-at, T .initials-most, T .terminals-most, T .arcs-most, b .states, b .initials, b .terminals, b .arcs)
+
+  pub cells-long : length cells ≡ 4612
+  cells-long = ap length (T .cells-are) ∙ length-filled (draftCells c t) (omega (arith, T .filled-is, filled-most))
+
+  front : take filled cells ≡ draftCells c t
+  front = ap (take filled) (T .cells-are) ∙ take-filled (draftCells c t) filled (T .filled-is)
+
   count-cell : (i : ℕ) → i < 4 → getD cells i 0 ≡ getD (draftCells c t) i 0
-  count-cell i h = sym (getD-take filled cells i 0 (omega (arith, filled-at))) ∙ ap (λ (l : List ℕ). getD l i 0) (T .cells-are)
+  count-cell i h = sym (getD-take filled cells i 0 (omega (arith, filled-at))) ∙ ap (λ (l : List ℕ). getD l i 0) front
 
   pub counts-held : countsIn cells ≡ c
   unfolding draftCells
@@ -159,7 +171,7 @@ module _ (c : Counts) (t : Table) (lines filled top : ℕ) (cells : List ℕ) (T
 
   -- the cells from a place on
   part : (k : ℕ) → take (filled - k) (drop k cells) ≡ drop k (draftCells c t)
-  part k = sym (drop-take k filled cells) ∙ ap (drop k) (T .cells-are)
+  part k = sym (drop-take k filled cells) ∙ ap (drop k) front
 
   -- The line that is due: each list is full before the next begins.
 
@@ -371,7 +383,7 @@ module _ (c : Counts) (t : Table) (lines filled top : ℕ) (cells : List ℕ) (T
       omega (arith, filled-at, l .0, l .1, ap (λ (x : Counts). x .initials) counts-held, ap (λ (x : Counts). x .terminals) counts-held)
 
   pub cells-enough : filled ≤ length cells
-  cells-enough = omega (arith, ap length (T .cells-are), length-take filled cells, T .filled-is)
+  cells-enough = omega (arith, filled-most, cells-long)
 
   pub end-cells : due c t ≡ end → draftCells c t ≡ cellsOf t
   unfolding draftCells cellsOf
@@ -398,13 +410,7 @@ unfolding arcsCells
 arcs-cells-snoc [] a = refl
 arcs-cells-snoc (x ∷ arcs) a = ap (λ (l : List ℕ). arcCells x ++ l) (arcs-cells-snoc arcs a)
 
--- cells put behind those that are filled
-take-sets : (cells : List ℕ) (n : ℕ) (more : List ℕ) → n + length more ≤ length cells → take (n + length more) (sets cells n more) ≡ take n cells ++ more
-take-sets cells n more h =
-    ap (take (n + length more)) (sets-eq more cells n h)
-    ∙ take-at (take n cells ++ more) (drop (n + length more) cells) (n + length more) (length-append (take n cells) more ∙ omega (arith, length-take-le n cells (omega arith)))
-
-module _ (c : Counts) (t : Table) (lines filled top : ℕ) (cells : List ℕ) (T : Tracks c t lines filled top cells) (b : List ℕ) (top′ : ℕ) (raised : top ≤ top′) (room : filled + 4 ≤ length cells) where
+module _ (c : Counts) (t : Table) (lines filled top : ℕ) (cells : List ℕ) (T : Tracks c t lines filled top cells) (b : List ℕ) (top′ : ℕ) (raised : top ≤ top′) (room : filled + 4 ≤ 4612) where
   draft-more : (k : Kind) → due c t ≡ k → IsItem k → draftCells c (extend k t b) ≡ draftCells c t ++ itemCells k b
   unfolding draftCells arcsCells
   draft-more initial e i =
@@ -434,9 +440,10 @@ module _ (c : Counts) (t : Table) (lines filled top : ℕ) (cells : List ℕ) (T
   filled-more : (k : Kind) → due c t ≡ k → IsItem k → filled + length (itemCells k b) ≡ length (draftCells c (extend k t b))
   filled-more k e i = omega (arith, T .filled-is, ap length (draft-more k e i) ∙ length-append (draftCells c t) (itemCells k b))
 
-  cells-more : (k : Kind) → due c t ≡ k → IsItem k → take (filled + length (itemCells k b)) (sets cells filled (itemCells k b)) ≡ draftCells c (extend k t b)
+  cells-more : (k : Kind) → due c t ≡ k → IsItem k → sets cells filled (itemCells k b) ≡ filledUp (draftCells c (extend k t b))
   cells-more k e i =
-      take-sets cells filled (itemCells k b) (omega (arith, few k)) ∙ ap (λ (x : List ℕ). x ++ itemCells k b) (T .cells-are) ∙ sym (draft-more k e i)
+      ap₂ (λ (x : List ℕ) (n : ℕ). sets x n (itemCells k b)) (T .cells-are) (T .filled-is)
+      ∙ sets-filled (draftCells c t) (itemCells k b) (omega (arith, few k, T .filled-is)) ∙ ap filledUp (sym (draft-more k e i))
 
   pub tracks-more : (k : Kind) → due c t ≡ k → IsItem k → judged (kindFaults k t b) ≡ Kept → itemKey k b ≤ top′
       → Tracks c (extend k t b) (lines + 1) (filled + length (itemCells k b)) top′ (sets cells filled (itemCells k b))
@@ -504,7 +511,7 @@ module _ (c : Counts) (t : Table) (lines filled top : ℕ) (cells : List ℕ) (T
   tracks-more end e i kept key = absurd i
 
 -- after the header line
-pub tracks-start : (cells : List ℕ) → 4 ≤ length cells → countsHold (countsIn cells) ≡ true → Tracks (countsIn cells) (emptyTable (countsIn cells .states)) 1 4 0 cells
+pub tracks-start : (cells : List ℕ) → cells ≡ filledUp (countCells (countsIn cells)) → countsHold (countsIn cells) ≡ true → Tracks (countsIn cells) (emptyTable (countsIn cells .states)) 1 4 0 cells
 unfolding draftCells arcsCells largest each
 tracks-start cells h e =
     record {
@@ -517,7 +524,7 @@ tracks-start cells h e =
       terminals-full = λ z. absurd (omega arith);
       lines-is = refl;
       filled-is = refl;
-      cells-are = sym (four cells h);
+      cells-are = h;
       initials-keep = refl;
       terminals-keep = refl;
       arcs-keep = refl;

@@ -2,26 +2,25 @@
 use Prim.Native.Nat.{ℕ, _+_, _*_, _≤_}
 use native.Mathlib.Omega.{arith}
 use mathlib.Core.Path.{_≡_, refl, sym, ap, subst, _∙_}
-use mathlib.Core.Bool.{Bool, true, false, cond}
+use mathlib.Core.Bool.{Bool, true, false}
 use mathlib.Core.List.{List, [], _∷_}
-use lib.ListN.{length, take, drop, drop-of-length-le}
-use lib.Seq.{sets, length-sets, sets-eq}
+use lib.ListN.{length, drop, drop-of-length-le}
+use lib.Seq.{sets}
 use Rattle.format.specs.declared.InputCause.{InputCause}
 use Rattle.format.specs.declared.InputCause.the-variants.{Malformed, Misplaced, CountLimit}
 use Rattle.judge.specs.declared.Judged.the-variants.{Kept, Broken}
 use Rattle.parser.specs.declared.Scanned.{Scanned}
-use Rattle.parser.specs.declared.Read.{Read}
-use Rattle.parser.specs.declared.Read.the-variants.{Fault}
+use Rattle.parser.specs.declared.Gathered.{Gathered}
 use Rattle.format.specs.Table.{Table, Counts}
 use Rattle.format.specs.Rules.{unless, countsHold, headerFaults}
 use Rattle.format.specs.Loaded.{countCells, countsIn, cellsOf}
-use Rattle.format.specs.Line.{Line, linesOf, malformed, bytesOf}
+use Rattle.format.specs.Line.{linesOf, bytesOf}
 use Rattle.judge.specs.Judge.{judged}
-use Rattle.format.specs.Parse.{isHeader, inPlace, Kind, initial, terminal, arc, end, Progress, codeOf, due, countsFrom, kindFaults, bytesFaults, opening, parsed, lineFaults, onward, within, closed, emptyTable, Parsed, turnedDown, decide, parseFrom}
-use Rattle.parser.specs.Draft.{draftCells, IsItem, itemCells, itemKey, Tracks, cellsRead, CellsAre, itemsParsed}
+use Rattle.format.specs.Parse.{isHeader, inPlace, Kind, initial, terminal, arc, end, Progress, codeOf, due, countsFrom, kindFaults, bytesFaults, opening, parsed, onward, within, closed, emptyTable, Parsed, turnedDown, decide, parseFrom}
+use Rattle.parser.specs.Draft.{filledUp, draftCells, kindAfter, Drafted, IsItem, itemCells, itemKey, Tracks, gathered, itemsParsed}
 use Rattle.parser.proofs.Told.{LineRead, LineBad, parse-line, parse-bad}
 use Rattle.format.proofs.Parse.{onward-due}
-use Rattle.parser.proofs.Draft.{bounded, filled-at, lists-due, Lists, end-cells, extend, onward-item, tracks-more, tracks-start, misplaced, placed}
+use Rattle.parser.proofs.Draft.{bounded, filled-at, cells-long, counts-held, kind-due, item-due, lists-due, Lists, end-cells, extend, onward-item, tracks-more, tracks-start, misplaced, placed}
 use Rattle.format.proofs.Rules.{Bounded}
 
 -- what a line's refusals decide
@@ -39,133 +38,113 @@ not-end terminal i e = omega arith
 not-end arc i e = omega arith
 not-end end i e = i
 
--- after the end line: the table, or a refusal
-closed-cells : (t : Table) (ls : List Line) (cells : List ℕ) → take (length (cellsOf t)) cells ≡ cellsOf t → CellsAre (parseFrom (closed t) ls) cells
-unfolding parseFrom lineFaults bytesFaults
-closed-cells t [] cells e = e
-closed-cells t (l ∷ ls) cells e = go (malformed l)
-  where
-    go : (b : Bool) → CellsAre (decide (cond b (Malformed ∷ []) (Misplaced ∷ [])) (parseFrom (onward (closed t) (bytesOf (l .chars))) ls)) cells
-    go true = tt
-    go false = tt
+abbrev All : Counts → List ℕ → ℕ → Parsed
+All c text start = itemsParsed c (drop start text)
 
-module _ (c : Counts) (text : List ℕ) (start : ℕ) where
-  abbrev All : Parsed
-  All = itemsParsed c (drop start text)
+pub record ReadingOn (c : Counts) (text : List ℕ) (start at lines filled top : ℕ) (cells : List ℕ) : Type 0 where
+  pub table : Table
+  pub tracks : Tracks c table lines filled top cells
+  pub inside : at ≤ length text
+  pub rest-is : All c text start ≡ parseFrom (within c table) (linesOf (drop at text))
 
-  -- the answer and the cells
-  abbrev pub Reads : Read → List ℕ → Type 0
-  Reads r cells = (r ≡ cellsRead All) × CellsAre All cells
+pub reading-start : (text : List ℕ) (start : ℕ) (cells : List ℕ) → start ≤ length text → countsHold (countsIn cells) ≡ true
+    → cells ≡ filledUp (countCells (countsIn cells)) → ReadingOn (countsIn cells) text start start 1 4 0 cells
+reading-start text start cells h k e =
+    record { table = emptyTable (countsIn cells .states); tracks = tracks-start cells e k; inside = h; rest-is = refl }
 
-  refuses : (f : InputCause) (cells : List ℕ) → All ≡ turnedDown f → Reads (Fault f) cells
-  refuses f cells e = (ap cellsRead (sym e), subst (λ (p : Parsed). CellsAre p cells) (sym e) tt)
+module _ {c : Counts} {text : List ℕ} {start at lines filled top : ℕ} {cells : List ℕ} (R : ReadingOn c text start at lines filled top cells) where
+  pub long : length cells ≡ 4612
+  long = cells-long c (R .table) lines filled top cells (R .tracks)
 
-  pub record ReadingOn (at lines filled top : ℕ) (cells : List ℕ) : Type 0 where
-    pub table : Table
-    pub tracks : Tracks c table lines filled top cells
-    pub long : length cells ≡ 4612
-    pub inside : at ≤ length text
-    pub rest-is : All ≡ parseFrom (within c table) (linesOf (drop at text))
+  -- the line that is due
+  pub due-code : kindAfter (countsIn cells) lines ≡ codeOf (due c (R .table))
+  due-code = ap (λ (x : Counts). kindAfter x lines) (counts-held c (R .table) lines filled top cells (R .tracks)) ∙ kind-due c (R .table) lines filled top cells (R .tracks)
 
-  pub reading-start : (cells : List ℕ) → countsIn cells ≡ c → countsHold c ≡ true → start ≤ length text → length cells ≡ 4612 → ReadingOn start 1 4 0 cells
-  reading-start cells e k h l =
-      record {
-        table = emptyTable (c .states);
-        tracks = subst (λ (x : Counts). Tracks x (emptyTable (x .states)) 1 4 0 cells) e (tracks-start cells (omega arith) (ap countsHold e ∙ k));
-        long = l;
-        inside = h;
-        rest-is = refl;
-      }
+  pub drafted : {kind : ℕ} → kind ≡ codeOf (due c (R .table)) → Drafted lines filled top cells kind
+  drafted e = record { counts = c; table = R .table; tracks = R .tracks; kind-is = e }
 
-  module _ (at lines filled top : ℕ) (cells : List ℕ) (R : ReadingOn at lines filled top cells) where
-    pub out-missing : length text ≤ at → Reads (Fault Misplaced) cells
-    unfolding parseFrom linesOf
-    out-missing h = refuses Misplaced cells (R .rest-is ∙ ap (λ (x : List ℕ). parseFrom (within c (R .table)) (linesOf x)) (drop-of-length-le text h))
+  pub item-is : {kind : ℕ} → kind ≡ codeOf (due c (R .table)) → (kind ≡ 5 → ⊥) → IsItem (due c (R .table))
+  item-is e n = item-due c (R .table) lines filled top cells (R .tracks) (λ z. n (e ∙ z))
 
-    pub out-bad : LineBad text at → Reads (Fault Malformed) cells
-    out-bad L = refuses Malformed cells (R .rest-is ∙ parse-bad (within c (R .table)) text at L)
+  pub out-missing : length text ≤ at → All c text start ≡ turnedDown Misplaced
+  unfolding parseFrom linesOf
+  out-missing h = R .rest-is ∙ ap (λ (x : List ℕ). parseFrom (within c (R .table)) (linesOf x)) (drop-of-length-le text h)
 
-    pub room : (codeOf (due c (R .table)) ≡ 5 → ⊥) → filled + 4 ≤ length cells
-    room n = omega (arith, R .long, few (due c (R .table)) (lists-due c (R .table) lines filled top cells (R .tracks)) n)
-      where
-        b : Bounded c
-        b = bounded c (R .table) lines filled top cells (R .tracks)
+  pub out-bad : LineBad text at → All c text start ≡ turnedDown Malformed
+  out-bad L = R .rest-is ∙ parse-bad (within c (R .table)) text at L
 
-        f : filled ≡ 4 + length (R .table .initials) + length (R .table .terminals) + 4 * length (R .table .arcs)
-        f = filled-at c (R .table) lines filled top cells (R .tracks)
+  pub room : (codeOf (due c (R .table)) ≡ 5 → ⊥) → filled + 4 ≤ 4612
+  room n = few (due c (R .table)) (lists-due c (R .table) lines filled top cells (R .tracks)) n
+    where
+      b : Bounded c
+      b = bounded c (R .table) lines filled top cells (R .tracks)
 
-        few : (k : Kind) → Lists c (R .table) lines filled top cells (R .tracks) k → (codeOf k ≡ 5 → ⊥) → filled + 4 ≤ 4612
-        few initial l h = omega (arith, f, b .states, b .initials, l .0, ap length (l .1), ap length (l .2))
-        few terminal l h = omega (arith, f, b .states, b .initials, b .terminals, l .0, l .1, ap length (l .2))
-        few arc l h = omega (arith, f, b .states, b .initials, b .terminals, b .arcs, l .0, l .1, l .2)
-        few end l h = absurd (h refl)
+      f : filled ≡ 4 + length (R .table .initials) + length (R .table .terminals) + 4 * length (R .table .arcs)
+      f = filled-at c (R .table) lines filled top cells (R .tracks)
 
-    pub lines-few : lines ≤ 1537
-    lines-few =
-        let b = bounded c (R .table) lines filled top cells (R .tracks) in
-        omega (arith, b .states, b .initials, b .terminals, b .arcs, R .tracks .lines-is, R .tracks .initials-most, R .tracks .terminals-most, R .tracks .arcs-most)
+      few : (k : Kind) → Lists c (R .table) lines filled top cells (R .tracks) k → (codeOf k ≡ 5 → ⊥) → filled + 4 ≤ 4612
+      few initial l h = omega (arith, f, b .states, b .initials, l .0, ap length (l .1), ap length (l .2))
+      few terminal l h = omega (arith, f, b .states, b .initials, b .terminals, l .0, l .1, ap length (l .2))
+      few arc l h = omega (arith, f, b .states, b .initials, b .terminals, b .arcs, l .0, l .1, l .2)
+      few end l h = absurd (h refl)
 
-    module _ (r : Scanned) (L : LineRead text at r) where
-      abbrev said : List ℕ
-      said = bytesOf (L .line .chars)
+  pub lines-few : lines ≤ 1537
+  lines-few =
+      let b = bounded c (R .table) lines filled top cells (R .tracks) in
+      omega (arith, b .states, b .initials, b .terminals, b .arcs, R .tracks .lines-is, R .tracks .initials-most, R .tracks .terminals-most, R .tracks .arcs-most)
 
-      -- what the line decides
-      decided : All ≡ decide (kindFaults (due c (R .table)) (R .table) said) (parseFrom (onward (within c (R .table)) said) (linesOf (drop (r .next) text)))
-      unfolding bytesFaults
-      decided = R .rest-is ∙ parse-line (within c (R .table)) text at r L
+  module _ {r : Scanned} (L : LineRead text at r) where
+    abbrev said : List ℕ
+    said = bytesOf (L .line .chars)
 
-      pub out-broken : (f : InputCause) → judged (kindFaults (due c (R .table)) (R .table) said) ≡ Broken f → Reads (Fault f) cells
-      out-broken f e = refuses f cells (decided ∙ decide-broken (kindFaults (due c (R .table)) (R .table) said) f _ e)
+    -- what the line decides
+    decided : All c text start ≡ decide (kindFaults (due c (R .table)) (R .table) said) (parseFrom (onward (within c (R .table)) said) (linesOf (drop (r .next) text)))
+    unfolding bytesFaults
+    decided = R .rest-is ∙ parse-line (within c (R .table)) text at r L
 
-      module _ (kept : judged (kindFaults (due c (R .table)) (R .table) said) ≡ Kept) where
-        onto : All ≡ parseFrom (onward (within c (R .table)) said) (linesOf (drop (r .next) text))
-        onto = decided ∙ decide-kept (kindFaults (due c (R .table)) (R .table) said) _ kept
+    pub out-broken : (f : InputCause) → judged (kindFaults (due c (R .table)) (R .table) said) ≡ Broken f → All c text start ≡ turnedDown f
+    out-broken f e = decided ∙ decide-broken (kindFaults (due c (R .table)) (R .table) said) f _ e
 
-        -- the end line
-        pub out-end : (x : Read) → due c (R .table) ≡ end → ((t : Table) → filled ≡ length (cellsOf t) → x ≡ cellsRead (parseFrom (closed t) (linesOf (drop (r .next) text)))) → Reads x cells
-        out-end x d f =
-            let q : draftCells c (R .table) ≡ cellsOf (R .table) = end-cells c (R .table) lines filled top cells (R .tracks) d in
-            let n : filled ≡ length (cellsOf (R .table)) = R .tracks .filled-is ∙ ap length q in
-            let all : All ≡ parseFrom (closed (R .table)) (linesOf (drop (r .next) text)) =
-            onto ∙ ap (λ (p : Progress). parseFrom p (linesOf (drop (r .next) text))) (onward-due c (R .table) end d said) in (
-              f (R .table) n ∙ ap cellsRead (sym all),
-              subst (λ (p : Parsed). CellsAre p cells) (sym all)
-                  (closed-cells (R .table) _ cells (ap (λ (m : ℕ). take m cells) (sym n) ∙ R .tracks .cells-are ∙ q)),
-            )
+    module _ (kept : judged (kindFaults (due c (R .table)) (R .table) said) ≡ Kept) where
+      onto : All c text start ≡ parseFrom (onward (within c (R .table)) said) (linesOf (drop (r .next) text))
+      onto = decided ∙ decide-kept (kindFaults (due c (R .table)) (R .table) said) _ kept
 
-        -- one item more
-        pub reading-more : (top′ : ℕ) → IsItem (due c (R .table)) → top ≤ top′ → itemKey (due c (R .table)) said ≤ top′
-            → ReadingOn (r .next) (lines + 1) (filled + length (itemCells (due c (R .table)) said)) top′ (sets cells filled (itemCells (due c (R .table)) said))
-        reading-more top′ i h k =
-            record {
-              table = extend (due c (R .table)) (R .table) said;
-              tracks = tracks-more c (R .table) lines filled top cells (R .tracks) said top′ h (room (not-end (due c (R .table)) i)) (due c (R .table)) refl i kept k;
-              long = length-sets cells filled (itemCells (due c (R .table)) said) ∙ R .long;
-              inside = L .next-inside;
-              rest-is = onto ∙ ap (λ (p : Progress). parseFrom p (linesOf (drop (r .next) text))) (onward-item c (R .table) (due c (R .table)) said refl i);
-            }
+      -- the end line
+      pub out-end : (x : Gathered) → due c (R .table) ≡ end
+          → ((t : Table) → filled ≡ length (cellsOf t) → cells ≡ filledUp (cellsOf t) → x ≡ gathered (parseFrom (closed t) (linesOf (drop (r .next) text))))
+          → x ≡ gathered (All c text start)
+      out-end x d f =
+          let q : draftCells c (R .table) ≡ cellsOf (R .table) = end-cells c (R .table) lines filled top cells (R .tracks) d in
+          f (R .table) (R .tracks .filled-is ∙ ap length q) (R .tracks .cells-are ∙ ap filledUp q)
+          ∙ ap gathered (sym (onto ∙ ap (λ (p : Progress). parseFrom p (linesOf (drop (r .next) text))) (onward-due c (R .table) end d said)))
+
+      -- one item more
+      pub reading-more : (filled′ top′ : ℕ) (cells′ : List ℕ) → IsItem (due c (R .table)) → top ≤ top′ → itemKey (due c (R .table)) said ≤ top′
+          → (filled′ ≡ filled + length (itemCells (due c (R .table)) said)) × (cells′ ≡ sets cells filled (itemCells (due c (R .table)) said))
+          → ReadingOn c text start (r .next) (lines + 1) filled′ top′ cells′
+      reading-more filled′ top′ cells′ i h k p =
+          record {
+            table = extend (due c (R .table)) (R .table) said;
+            tracks =
+                subst (λ (n : ℕ). Tracks c (extend (due c (R .table)) (R .table) said) (lines + 1) n top′ cells′) (sym (p .0))
+                (subst (Tracks c (extend (due c (R .table)) (R .table) said) (lines + 1) _ top′) (sym (p .1))
+                (tracks-more c (R .table) lines filled top cells (R .tracks) said top′ h (room (not-end (due c (R .table)) i)) (due c (R .table)) refl i kept k));
+            inside = L .next-inside;
+            rest-is = onto ∙ ap (λ (p : Progress). parseFrom p (linesOf (drop (r .next) text))) (onward-item c (R .table) (due c (R .table)) said refl i);
+          }
 
 -- The header line.
 
-pub counts-put : (cells : List ℕ) (c : Counts) → 4 ≤ length cells → countsIn (sets cells 0 (countCells c)) ≡ c
-counts-put cells c h = ap countsIn (sets-eq (countCells c) cells 0 h)
-
-abbrev pub Whole : List ℕ → Read → List ℕ → Type 0
-Whole text r cells = (r ≡ cellsRead (parsed text)) × CellsAre (parsed text) cells
-
-refused : (text : List ℕ) (f : InputCause) (cells : List ℕ) → parsed text ≡ turnedDown f → Whole text (Fault f) cells
-refused text f cells e = (ap cellsRead (sym e), subst (λ (p : Parsed). CellsAre p cells) (sym e) tt)
-
-pub header-missing : (text cells : List ℕ) → length text ≡ 0 → Whole text (Fault Misplaced) cells
+pub header-missing : (text : List ℕ) → length text ≡ 0 → parsed text ≡ turnedDown Misplaced
 unfolding parsed parseFrom linesOf
-header-missing [] cells h = refused [] Misplaced cells refl
-header-missing (x ∷ text) cells h = absurd (omega arith)
+header-missing [] h = refl
+header-missing (x ∷ text) h = absurd (omega arith)
 
-pub header-bad : (text cells : List ℕ) → LineBad text 0 → Whole text (Fault Malformed) cells
+pub header-bad : (text : List ℕ) → LineBad text 0 → parsed text ≡ turnedDown Malformed
 unfolding parsed
-header-bad text cells L = refused text Malformed cells (parse-bad opening text 0 L)
+header-bad text L = parse-bad opening text 0 L
 
-module _ (text cells : List ℕ) (r : Scanned) (L : LineRead text 0 r) where
+module _ {text : List ℕ} {r : Scanned} (L : LineRead text 0 r) where
   abbrev first : List ℕ
   first = bytesOf (L .line .chars)
 
@@ -177,21 +156,17 @@ module _ (text cells : List ℕ) (r : Scanned) (L : LineRead text 0 r) where
   unfolding parsed bytesFaults
   header-decided = parse-line opening text 0 r L
 
-  pub header-misplaced : isHeader first ≡ false → Whole text (Fault Misplaced) cells
-  header-misplaced e = refused text Misplaced cells (header-decided ∙ decide-broken earned Misplaced _ (misplaced (headerFaults (countsFrom first)) e))
+  pub header-misplaced : isHeader first ≡ false → parsed text ≡ turnedDown Misplaced
+  header-misplaced e = header-decided ∙ decide-broken earned Misplaced _ (misplaced (headerFaults (countsFrom first)) e)
 
   module _ (is : isHeader first ≡ true) where
-    header-judged : judged earned ≡ judged (unless (countsHold (countsFrom first)) CountLimit)
+    header-judged : (b : Bool) → countsHold (countsFrom first) ≡ b → judged earned ≡ judged (unless b CountLimit)
     unfolding headerFaults
-    header-judged = placed (headerFaults (countsFrom first)) is
+    header-judged b e = placed (headerFaults (countsFrom first)) is ∙ ap (λ (x : Bool). judged (unless x CountLimit)) e
 
-    pub header-limit : countsHold (countsFrom first) ≡ false → Whole text (Fault CountLimit) cells
-    header-limit e =
-        refused text CountLimit cells
-        (header-decided
-        ∙ decide-broken earned CountLimit _ (header-judged ∙ ap (λ (b : Bool). judged (unless b CountLimit)) e))
+    pub header-limit : countsHold (countsFrom first) ≡ false → parsed text ≡ turnedDown CountLimit
+    header-limit e = header-decided ∙ decide-broken earned CountLimit _ (header-judged false e)
 
     pub header-on : countsHold (countsFrom first) ≡ true → parsed text ≡ itemsParsed (countsFrom first) (drop (r .next) text)
     unfolding onward
-    header-on e =
-        header-decided ∙ decide-kept earned _ (header-judged ∙ ap (λ (b : Bool). judged (unless b CountLimit)) e)
+    header-on e = header-decided ∙ decide-kept earned _ (header-judged true e)

@@ -1,11 +1,11 @@
 -- What the code of the reader holds of a table while it reads the lines after the header's.
-use Prim.Native.Nat.{ℕ, _+_, _≤_, _<_}
+use Prim.Native.Nat.{ℕ, _+_, _-_, _≤_, _<_}
 use mathlib.Core.Path.{_≡_}
 use mathlib.Core.Bool.{true, cond}
 use mathlib.Core.List.{List, [], _∷_, _++_}
 use lib.Dec.{leb}
-use lib.ListN.{length, take}
-use Rattle.parser.specs.declared.Read.{Read}
+use lib.ListN.{length, replicate}
+use Rattle.parser.specs.declared.Gathered.{Gathered}
 use Rattle.parser.specs.declared.Read.the-variants.{Cells, Fault}
 use Rattle.format.specs.Table.{Table, Counts}
 use Rattle.format.specs.Rules.{countsHold, initialsKeep, terminalsKeep, arcsKeep}
@@ -15,6 +15,10 @@ use Rattle.format.specs.Parse.{Kind, initial, terminal, arc, end, codeOf, due, 
 use Rattle.format.specs.Line.{linesOf}
 use Rattle.format.specs.Cells.{arcsAs, Whole}
 use Rattle.judge.specs.Judge.{largest, stateKey, arcKey}
+
+-- cells filled up with 0, to the 4612 that a table can have
+unfoldable pub filledUp : List ℕ → List ℕ
+filledUp cells = cells ++ replicate (4612 - length cells) 0
 
 -- the cells of the counts and of the items so far
 unfoldable pub draftCells : Counts → Table → List ℕ
@@ -57,7 +61,7 @@ pub record Tracks (c : Counts) (t : Table) (lines filled top : ℕ) (cells : Lis
   pub terminals-full : 0 < length (t .arcs) → length (t .terminals) ≡ c .terminals
   pub lines-is : lines ≡ linesBefore t
   pub filled-is : filled ≡ length (draftCells c t)
-  pub cells-are : take filled cells ≡ draftCells c t
+  pub cells-are : cells ≡ filledUp (draftCells c t)
   pub initials-keep : initialsKeep (t .states) (t .initials) ≡ true
   pub terminals-keep : terminalsKeep (t .states) (t .terminals) ≡ true
   pub arcs-keep : arcsKeep (t .states) (t .arcs) ≡ true
@@ -76,13 +80,9 @@ abbrev pub ArcsReady : ℕ → List ℕ → ℕ → Type 0
 ArcsReady states before top = Whole before × ((arcsKeep states (arcsAs before) ≡ true) × (largest arcKey (arcsAs before) ≤ top))
 
 -- what the reader makes of a text
-abbrev pub cellsRead : Parsed → Read
-cellsRead (accepted t) = Cells (length (cellsOf t))
-cellsRead (turnedDown cause) = Fault cause
-
-abbrev pub CellsAre : Parsed → List ℕ → Type 0
-CellsAre (accepted t) cells = take (length (cellsOf t)) cells ≡ cellsOf t
-CellsAre (turnedDown cause) cells = Unit {0}
+abbrev pub gathered : Parsed → Gathered
+gathered (accepted t) = record { read = Cells (length (cellsOf t)); cells = filledUp (cellsOf t) }
+gathered (turnedDown cause) = record { read = Fault cause; cells = filledUp [] }
 
 -- the parse of the lines after a header line with these counts
 abbrev pub itemsParsed : Counts → List ℕ → Parsed

@@ -1,4 +1,4 @@
-// The lines of a text to the cells of a table, in an array that is lent: each line is scanned, judged and appended.
+// The lines of a text to the cells of a table: each line is scanned, judged and appended.
 mod scanner;
 
 use format::InputCause;
@@ -13,11 +13,11 @@ ghost use Rattle.format.specs.Table.{Table, Counts};
 ghost use Rattle.format.specs.Rules.{countsHold, arcFaults};
 ghost use Rattle.format.specs.Loaded.{countCells, countsIn, cellsOf};
 ghost use Rattle.format.specs.Line.{linesOf};
-ghost use Rattle.format.specs.Parse.{Kind, codeOf, due, countsFrom, arcFrom, kindFaults, parseFrom, parsed, closed};
+ghost use Rattle.format.specs.Parse.{Kind, codeOf, due, countsFrom, arcFrom, kindFaults, turnedDown, parseFrom, parsed, closed};
 ghost use Rattle.judge.specs.Judge.{judged};
 ghost use Rattle.format.specs.Cells.{arcsAs};
 ghost use Rattle.parser.specs.Scan.{padded};
-ghost use Rattle.parser.specs.Draft.{itemsParsed, kindAfter, IsItem, Tracks, Drafted, ArcsReady, itemCells, itemKey, cellsRead, CellsAre};
+ghost use Rattle.parser.specs.Draft.{itemsParsed, kindAfter, IsItem, Tracks, Drafted, ArcsReady, itemCells, itemKey, filledUp, gathered};
 
 // A line of a text: whether it is well formed, how many bytes it says, the first nine of them, and where the next line begins.
 pub struct Scanned {
@@ -31,6 +31,12 @@ pub struct Scanned {
 pub enum Read {
     Cells(usize),
     Fault(InputCause),
+}
+
+// What a text gives, with the cells of its table, filled up with 0; every cell of a refused text is 0.
+pub struct Gathered {
+    pub read: Read,
+    pub cells: [u16; 4612],
 }
 
 fn letter(b: u8) -> u16
@@ -151,27 +157,41 @@ fn item_key(kind: u8, bytes: [u8; 9]) -> u64
     0
 }
 
-// After the end line: nothing, or a line that is misplaced.
-fn read_end(text: &[u8], at: usize, filled: usize) -> Read
-    ensures { λ r. ⌜ ((t : Table) → filled ≡ length (cellsOf t) → r ≡ cellsRead (parseFrom (closed t) (linesOf (drop at (now (text .entry)))))) ⌝ }
+fn refused(cause: InputCause) -> Gathered
+    ensures { λ r. ⌜ r ≡ gathered (turnedDown cause) ⌝ }
 {
-    if text.len() <= at {
-        return Read::Cells(filled);
-    }
-    let line = scanner::scan(text, at);
-    if line.ok {
-        Read::Fault(InputCause::Misplaced)
-    } else {
-        Read::Fault(InputCause::Malformed)
+    let cells = [0u16; 4612];
+    Gathered {
+        read: Read::Fault(cause),
+        cells,
     }
 }
 
-// The lines after the header's, from `start` on.
-fn read_items(text: &[u8], start: usize, cells: &mut [u16]) -> Read
-    requires { ⌜ (length (now cells) ≡ 4612) × (start ≤ length (now text)) × (countsHold (countsIn (now cells)) ≡ true) ⌝ }
-    ensures { λ r. ⌜ (r ≡ cellsRead (itemsParsed (countsIn (now (cells .entry))) (drop start (now (text .entry)))))
-        × CellsAre (itemsParsed (countsIn (now (cells .entry))) (drop start (now (text .entry)))) (now (cells .exit)) ⌝ }
+// After the end line: nothing, or a line that is misplaced.
+fn read_end(text: &[u8], at: usize, cells: [u16; 4612], filled: usize) -> Gathered
+    ensures { λ r. ⌜ ((t : Table) → filled ≡ length (cellsOf t) → cells ≡ filledUp (cellsOf t)
+        → r ≡ gathered (parseFrom (closed t) (linesOf (drop at (now (text .entry)))))) ⌝ }
 {
+    if text.len() <= at {
+        return Gathered {
+            read: Read::Cells(filled),
+            cells,
+        };
+    }
+    let line = scanner::scan(text, at);
+    if line.ok {
+        refused(InputCause::Misplaced)
+    } else {
+        refused(InputCause::Malformed)
+    }
+}
+
+// The lines after the header's, from `start` on, whose counts are in the cells already.
+fn read_items(text: &[u8], start: usize, counted: [u16; 4612]) -> Gathered
+    requires { ⌜ (start ≤ length (now text)) × (countsHold (countsIn counted) ≡ true) × (counted ≡ filledUp (countCells (countsIn counted))) ⌝ }
+    ensures { λ r. ⌜ r ≡ gathered (itemsParsed (countsIn counted) (drop start (now (text .entry)))) ⌝ }
+{
+    let mut cells = counted;
     let mut at = start;
     let mut lines: usize = 1;
     let mut filled: usize = 4;
@@ -180,66 +200,62 @@ fn read_items(text: &[u8], start: usize, cells: &mut [u16]) -> Read
         let line = scanner::scan(text, at);
         if line.ok {
             let bytes = line.bytes;
-            let kind = kind_due(cells, lines);
-            let judged = item_fault(cells, kind, bytes, line.count, lines, filled, top);
+            let kind = kind_due(&cells, lines);
+            let judged = item_fault(&cells, kind, bytes, line.count, lines, filled, top);
             if let Judged::Broken(fault) = judged {
-                return Read::Fault(fault);
+                return refused(fault);
             }
             at = line.next;
             if kind == 5 {
-                return read_end(text, at, filled);
+                return read_end(text, at, cells, filled);
             }
             let key = item_key(kind, bytes);
             if top < key {
                 top = key;
             }
-            filled = append(cells, kind, bytes, filled);
+            filled = append(&mut cells, kind, bytes, filled);
             lines += 1;
         } else {
-            return Read::Fault(InputCause::Malformed);
+            return refused(InputCause::Malformed);
         }
     }
-    Read::Fault(InputCause::Misplaced)
+    refused(InputCause::Misplaced)
 }
 
-// A header line's counts, to the front of the cells; whether they are within their limits.
-fn put_counts(cells: &mut [u16], bytes: [u8; 9]) -> bool
-    requires { ⌜ 4 ≤ length (now cells) ⌝ }
-    ensures { λ r. ⌜ (r ≡ countsHold (countsFrom bytes)) × (now (cells .exit) ≡ sets (now (cells .entry)) 0 (countCells (countsFrom bytes))) ⌝ }
+// The cells of a header line's counts.
+fn counted(bytes: [u8; 9]) -> [u16; 4612]
+    ensures { λ r. ⌜ r ≡ filledUp (countCells (countsFrom bytes)) ⌝ }
 {
-    let states = scanner::number_at(bytes, 1);
-    let initials = scanner::number_at(bytes, 3);
-    let terminals = scanner::number_at(bytes, 5);
-    let arcs = scanner::number_at(bytes, 7);
-    cells[0] = states;
-    cells[1] = initials;
-    cells[2] = terminals;
-    cells[3] = arcs;
-    judge::counts_hold(states, initials, terminals, arcs)
+    let mut cells = [0u16; 4612];
+    cells[0] = scanner::number_at(bytes, 1);
+    cells[1] = scanner::number_at(bytes, 3);
+    cells[2] = scanner::number_at(bytes, 5);
+    cells[3] = scanner::number_at(bytes, 7);
+    cells
 }
 
 // A whole text.
-pub fn read_table(text: &[u8], cells: &mut [u16]) -> Read
-    requires { ⌜ length (now cells) ≡ 4612 ⌝ }
-    ensures { λ r. ⌜ (r ≡ cellsRead (parsed (now (text .entry)))) × CellsAre (parsed (now (text .entry))) (now (cells .exit)) ⌝ }
+pub fn read_table(text: &[u8]) -> Gathered
+    ensures { λ r. ⌜ r ≡ gathered (parsed (now (text .entry))) ⌝ }
 {
     if text.len() == 0 {
-        return Read::Fault(InputCause::Misplaced);
+        return refused(InputCause::Misplaced);
     }
     let line = scanner::scan(text, 0);
     if line.ok {
         let bytes = line.bytes;
         if line.count != 9 {
-            return Read::Fault(InputCause::Misplaced);
+            return refused(InputCause::Misplaced);
         }
         if bytes[0] != 1 {
-            return Read::Fault(InputCause::Misplaced);
+            return refused(InputCause::Misplaced);
         }
-        if put_counts(cells, bytes) {
+        let cells = counted(bytes);
+        if judge::counts_hold(cells[0], cells[1], cells[2], cells[3]) {
             let next = line.next;
             return read_items(text, next, cells);
         }
-        return Read::Fault(InputCause::CountLimit);
+        return refused(InputCause::CountLimit);
     }
-    Read::Fault(InputCause::Malformed)
+    refused(InputCause::Malformed)
 }

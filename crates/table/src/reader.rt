@@ -1,4 +1,4 @@
-// Text to loaded table. The cells are gathered in an array of our own, so that a refused text leaves the destination as it was.
+// Text to loaded table. The cells are gathered first, so that a refused text leaves the destination as it was.
 use crate::Answer;
 use format::Refusal;
 use format::StateCause;
@@ -26,14 +26,15 @@ pub fn read(text: &[u8], destination: &mut [u16]) -> Answer
     ensures { λ r. ⌜ (r ≡ readAnswer (now (text .entry)) (now (destination .entry)))
         × (now (destination .exit) ≡ readCells (now (text .entry)) (now (destination .entry))) ⌝ }
 {
-    let mut cells = [0u16; 4612];
-    let found = parser::read_table(text, &mut cells);
-    match found {
+    let found = parser::read_table(text);
+    let read = found.read;
+    match read {
         Read::Fault(cause) => Answer::Refused(Refusal::Input(cause)),
         Read::Cells(count) => {
             if destination.len() < count {
                 return Answer::Refused(Refusal::State(StateCause::DestinationShort));
             }
+            let cells = found.cells;
             copy(&cells, count, destination);
             Answer::Done(count)
         }

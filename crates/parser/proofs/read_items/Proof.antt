@@ -1,21 +1,20 @@
-use Prim.Native.Nat.{ℕ, _+_, _-_, _≤_}
+use Prim.Native.Nat.{ℕ, _-_, _≤_}
 use native.Mathlib.Omega.{arith}
-use mathlib.Core.Path.{_≡_, refl, sym, ap, subst, _∙_}
+use mathlib.Core.Path.{_≡_, sym, ap, _∙_}
 use mathlib.Core.Logic.{⊎-elim}
 use mathlib.Core.List.{List}
 use denote.Ref.{now}
 use lib.ListN.{length}
 use borrow.Author.Needs.{needs}
-use Rattle.format.specs.Table.{Counts}
+use Rattle.format.specs.Table.{Table}
 use Rattle.format.specs.Loaded.{countsIn}
 use Rattle.format.specs.Line.{bytesOf}
 use Rattle.judge.specs.Judge.{judged}
-use Rattle.format.specs.Parse.{due, kindFaults}
-use Rattle.parser.specs.Draft.{kindAfter, IsItem, itemKey, itemCells}
-use Rattle.parser.proofs.Told.{line-read, line-bad}
-use Rattle.parser.proofs.Draft.{counts-held, kind-due, kind-one, item-due}
-use Rattle.parser.proofs.Items.{ReadingOn, reading-start, out-missing, out-bad, out-broken, out-end, room, lines-few, reading-more}
-use lib.Seq.{sets}
+use Rattle.format.specs.Parse.{Kind, codeOf, due, kindFaults}
+use Rattle.parser.specs.Draft.{IsItem, itemKey, gathered}
+use Rattle.parser.proofs.Told.{LineRead, line-read, line-bad}
+use Rattle.parser.proofs.Draft.{kind-one}
+use Rattle.parser.proofs.Items.{ReadingOn, reading-start, long, due-code, drafted, item-is, out-missing, out-bad, out-broken, out-end, room, lines-few, reading-more}
 use Rattle.parser.proofs.read_items.Statement.{statement}
 use Rattle.parser.proofs.read_items.Tie as tie
 
@@ -25,29 +24,61 @@ Inv-loop text start cells₀ at₀ lines₀ filled₀ top₀ cells at lines fill
 abbrev μ-loop : tie.MeasureT-loop
 μ-loop text start cells₀ at₀ lines₀ filled₀ top₀ cells at lines filled top = length text - at
 
+-- the table so far, and the kind of the line that is due
+abbrev table : tie.At-loop Inv-loop μ-loop → Table
+table c = c .loop .inv .table
+
+abbrev kind : tie.At-loop Inv-loop μ-loop → Kind
+kind c = due (countsIn (c .before .before .args .counted)) (table c)
+
+-- the line that was scanned
+line : (c : tie.Then1 Inv-loop μ-loop) → LineRead (now (c .before .before .before .before .before .args .text)) (c .before .before .before .loop .at) (c .before .scan .result)
+line c = line-read _ _ (c .before .scan .result) (c .before .before .loop-test .taken) (c .before .scan .ensures) (c .if1 .taken)
+
+abbrev said : tie.Then1 Inv-loop μ-loop → List ℕ
+said c = bytesOf (line c .line .chars)
+
+kind-is : (c : tie.After-kind-due Inv-loop μ-loop) → c .kind-due .result ≡ codeOf (kind (c .before .before .before .before .before .before))
+kind-is c = c .kind-due .ensures ∙ due-code (c .before .before .before .before .before .before .loop .inv)
+
+-- what it earns
+earns : (c : tie.After-item-fault Inv-loop μ-loop)
+    → judged (kindFaults (kind (c .before .before .before .before .before .before .before .before)) (table (c .before .before .before .before .before .before .before .before)) (said (c .before .before .before .before .before)))
+    ≡ c .item-fault .result
+earns c =
+    let here = c .before .before .before .before .before .before .before .before in
+    let L = line (c .before .before .before .before .before) in
+    sym (c .item-fault .ensures _ (table here) (said (c .before .before .before .before .before)) (here .loop .inv .tracks) (kind-is (c .before .before)) (L .bytes-are) (L .count-is))
+
 loop-holds : tie.Need-loop-holds Inv-loop μ-loop
-loop-holds c = reading-start (countsIn (now (c .before .before .args .cells))) (now (c .before .before .args .text)) (c .before .before .args .start) (now (c .before .before .args .cells)) refl (c .before .before .pre .2) (c .before .before .pre .1) (c .before .before .pre .0)
+loop-holds c = reading-start (now (c .before .args .text)) (c .before .args .start) (c .before .args .counted) (c .before .pre .0) (c .before .pre .1) (c .before .pre .2)
 
 scan-requires : tie.Need-scan-requires Inv-loop μ-loop
 scan-requires c κs = search needs
 
+slice-aggregate-kind-due : tie.Need-slice-aggregate-kind-due Inv-loop μ-loop
+slice-aggregate-kind-due c = sym (long (c .before .before .before .before .before .loop .inv))
+
 kind-due-requires : tie.Need-kind-due-requires Inv-loop μ-loop
-kind-due-requires c κs = omega (arith, c .before .before .before .before .before .loop .inv .long)
+kind-due-requires c κs = omega (arith, long (c .before .before .before .before .before .loop .inv))
+
+slice-aggregate-item-fault : tie.Need-slice-aggregate-item-fault Inv-loop μ-loop
+slice-aggregate-item-fault c = sym (long (c .before .before .before .before .before .before .before .loop .inv))
 
 item-fault-requires : tie.Need-item-fault-requires Inv-loop μ-loop
-item-fault-requires c κs = record { counts = countsIn (now (c .before .before .before .before .before .before .before .before .before .before .args .cells)); table = c .before .before .before .before .before .before .before .loop .inv .table; tracks = c .before .before .before .before .before .before .before .loop .inv .tracks; kind-is = (c .before .kind-due .ensures ∙ ap (λ (x : Counts). kindAfter x (c .before .before .before .before .before .before .before .loop .lines)) (counts-held (countsIn (now (c .before .before .before .before .before .before .before .before .before .before .args .cells))) (c .before .before .before .before .before .before .before .loop .inv .table) (c .before .before .before .before .before .before .before .loop .lines) (c .before .before .before .before .before .before .before .loop .filled) (c .before .before .before .before .before .before .before .loop .top) (c .before .before .before .before .before .before .before .loop .cells) (c .before .before .before .before .before .before .before .loop .inv .tracks)) ∙ kind-due (countsIn (now (c .before .before .before .before .before .before .before .before .before .before .args .cells))) (c .before .before .before .before .before .before .before .loop .inv .table) (c .before .before .before .before .before .before .before .loop .lines) (c .before .before .before .before .before .before .before .loop .filled) (c .before .before .before .before .before .before .before .loop .top) (c .before .before .before .before .before .before .before .loop .cells) (c .before .before .before .before .before .before .before .loop .inv .tracks)) }
+item-fault-requires c κs = drafted (c .before .before .before .before .before .before .before .loop .inv) (kind-is (c .before))
 
 enum-known-judged : tie.Need-enum-known-judged Inv-loop μ-loop
 enum-known-judged c = search needs
 
-same-length : tie.Need-same-length Inv-loop μ-loop
-same-length c = c .before .before .before .before .before .before .before .before .before .before .before .loop .inv .long ∙ sym (c .before .before .before .before .before .before .before .before .before .before .before .before .before .before .pre .0)
+refused-requires : tie.Need-refused-requires Inv-loop μ-loop
+refused-requires c κs = search needs
 
 returns : tie.Need-returns Inv-loop μ-loop
 returns c =
-    let L = line-read (now (c .before .before .before .before .before .before .before .before .before .before .before .before .before .before .args .text)) (c .before .before .before .before .before .before .before .before .before .before .before .loop .at) (c .before .before .before .before .before .before .before .before .before .scan .result) (c .before .before .before .before .before .before .before .before .before .before .loop-test .taken) (c .before .before .before .before .before .before .before .before .before .scan .ensures) (c .before .before .before .before .before .before .before .before .if1 .taken) in
-    let J : judged (kindFaults (due (countsIn (now (c .before .before .before .before .before .before .before .before .before .before .before .before .before .before .args .cells))) (c .before .before .before .before .before .before .before .before .before .before .before .loop .inv .table)) (c .before .before .before .before .before .before .before .before .before .before .before .loop .inv .table) (bytesOf (L .line .chars))) ≡ c .before .before .before .item-fault .result = sym (c .before .before .before .item-fault .ensures (countsIn (now (c .before .before .before .before .before .before .before .before .before .before .before .before .before .before .args .cells))) (c .before .before .before .before .before .before .before .before .before .before .before .loop .inv .table) (bytesOf (L .line .chars)) (c .before .before .before .before .before .before .before .before .before .before .before .loop .inv .tracks) (c .before .before .before .before .before .kind-due .ensures ∙ ap (λ (x : Counts). kindAfter x (c .before .before .before .before .before .before .before .before .before .before .before .loop .lines)) (counts-held (countsIn (now (c .before .before .before .before .before .before .before .before .before .before .before .before .before .before .args .cells))) (c .before .before .before .before .before .before .before .before .before .before .before .loop .inv .table) (c .before .before .before .before .before .before .before .before .before .before .before .loop .lines) (c .before .before .before .before .before .before .before .before .before .before .before .loop .filled) (c .before .before .before .before .before .before .before .before .before .before .before .loop .top) (c .before .before .before .before .before .before .before .before .before .before .before .loop .cells) (c .before .before .before .before .before .before .before .before .before .before .before .loop .inv .tracks)) ∙ kind-due (countsIn (now (c .before .before .before .before .before .before .before .before .before .before .before .before .before .before .args .cells))) (c .before .before .before .before .before .before .before .before .before .before .before .loop .inv .table) (c .before .before .before .before .before .before .before .before .before .before .before .loop .lines) (c .before .before .before .before .before .before .before .before .before .before .before .loop .filled) (c .before .before .before .before .before .before .before .before .before .before .before .loop .top) (c .before .before .before .before .before .before .before .before .before .before .before .loop .cells) (c .before .before .before .before .before .before .before .before .before .before .before .loop .inv .tracks)) (L .bytes-are) (L .count-is)) in
-    out-broken (countsIn (now (c .before .before .before .before .before .before .before .before .before .before .before .before .before .before .args .cells))) (now (c .before .before .before .before .before .before .before .before .before .before .before .before .before .before .args .text)) (c .before .before .before .before .before .before .before .before .before .before .before .before .before .before .args .start) (c .before .before .before .before .before .before .before .before .before .before .before .loop .at) (c .before .before .before .before .before .before .before .before .before .before .before .loop .lines) (c .before .before .before .before .before .before .before .before .before .before .before .loop .filled) (c .before .before .before .before .before .before .before .before .before .before .before .loop .top) (c .before .before .before .before .before .before .before .before .before .before .before .loop .cells) (c .before .before .before .before .before .before .before .before .before .before .before .loop .inv) (c .before .before .before .before .before .before .before .before .before .scan .result) L (c .before .judged .given .0 .0) (J ∙ c .before .judged .given .1)
+    let fault = c .before .before .before .before in
+    c .refused .ensures
+    ∙ ap gathered (sym (out-broken (fault .before .before .before .before .before .before .before .before .loop .inv) (line (fault .before .before .before .before .before)) _ (earns fault ∙ c .before .before .judged .given .1)))
 
 enum-told : tie.Need-enum-told Inv-loop μ-loop
 enum-told c = search needs
@@ -55,55 +86,60 @@ enum-told c = search needs
 read-end-requires : tie.Need-read-end-requires Inv-loop μ-loop
 read-end-requires c κs = search needs
 
-same-length-2 : tie.Need-same-length-2 Inv-loop μ-loop
-same-length-2 c = c .before .before .before .before .before .before .before .before .before .before .before .before .loop .inv .long ∙ sym (c .before .before .before .before .before .before .before .before .before .before .before .before .before .before .before .pre .0)
-
 returns-2 : tie.Need-returns-2 Inv-loop μ-loop
 returns-2 c =
-    let L = line-read (now (c .before .before .before .before .before .before .before .before .before .before .before .before .before .before .before .args .text)) (c .before .before .before .before .before .before .before .before .before .before .before .before .loop .at) (c .before .before .before .before .before .before .before .before .before .before .scan .result) (c .before .before .before .before .before .before .before .before .before .before .before .loop-test .taken) (c .before .before .before .before .before .before .before .before .before .before .scan .ensures) (c .before .before .before .before .before .before .before .before .before .if1 .taken) in
-    let J : judged (kindFaults (due (countsIn (now (c .before .before .before .before .before .before .before .before .before .before .before .before .before .before .before .args .cells))) (c .before .before .before .before .before .before .before .before .before .before .before .before .loop .inv .table)) (c .before .before .before .before .before .before .before .before .before .before .before .before .loop .inv .table) (bytesOf (L .line .chars))) ≡ c .before .before .before .before .item-fault .result = sym (c .before .before .before .before .item-fault .ensures (countsIn (now (c .before .before .before .before .before .before .before .before .before .before .before .before .before .before .before .args .cells))) (c .before .before .before .before .before .before .before .before .before .before .before .before .loop .inv .table) (bytesOf (L .line .chars)) (c .before .before .before .before .before .before .before .before .before .before .before .before .loop .inv .tracks) (c .before .before .before .before .before .before .kind-due .ensures ∙ ap (λ (x : Counts). kindAfter x (c .before .before .before .before .before .before .before .before .before .before .before .before .loop .lines)) (counts-held (countsIn (now (c .before .before .before .before .before .before .before .before .before .before .before .before .before .before .before .args .cells))) (c .before .before .before .before .before .before .before .before .before .before .before .before .loop .inv .table) (c .before .before .before .before .before .before .before .before .before .before .before .before .loop .lines) (c .before .before .before .before .before .before .before .before .before .before .before .before .loop .filled) (c .before .before .before .before .before .before .before .before .before .before .before .before .loop .top) (c .before .before .before .before .before .before .before .before .before .before .before .before .loop .cells) (c .before .before .before .before .before .before .before .before .before .before .before .before .loop .inv .tracks)) ∙ kind-due (countsIn (now (c .before .before .before .before .before .before .before .before .before .before .before .before .before .before .before .args .cells))) (c .before .before .before .before .before .before .before .before .before .before .before .before .loop .inv .table) (c .before .before .before .before .before .before .before .before .before .before .before .before .loop .lines) (c .before .before .before .before .before .before .before .before .before .before .before .before .loop .filled) (c .before .before .before .before .before .before .before .before .before .before .before .before .loop .top) (c .before .before .before .before .before .before .before .before .before .before .before .before .loop .cells) (c .before .before .before .before .before .before .before .before .before .before .before .before .loop .inv .tracks)) (L .bytes-are) (L .count-is)) in
-    out-end (countsIn (now (c .before .before .before .before .before .before .before .before .before .before .before .before .before .before .before .args .cells))) (now (c .before .before .before .before .before .before .before .before .before .before .before .before .before .before .before .args .text)) (c .before .before .before .before .before .before .before .before .before .before .before .before .before .before .before .args .start) (c .before .before .before .before .before .before .before .before .before .before .before .before .loop .at) (c .before .before .before .before .before .before .before .before .before .before .before .before .loop .lines) (c .before .before .before .before .before .before .before .before .before .before .before .before .loop .filled) (c .before .before .before .before .before .before .before .before .before .before .before .before .loop .top) (c .before .before .before .before .before .before .before .before .before .before .before .before .loop .cells) (c .before .before .before .before .before .before .before .before .before .before .before .before .loop .inv) (c .before .before .before .before .before .before .before .before .before .before .scan .result) L (J ∙ c .before .before .enum-told .given .1) (c .read-end .result) (kind-one 5 (due (countsIn (now (c .before .before .before .before .before .before .before .before .before .before .before .before .before .before .before .args .cells))) (c .before .before .before .before .before .before .before .before .before .before .before .before .loop .inv .table)) (sym (c .before .if2 .taken) ∙ (c .before .before .before .before .before .before .kind-due .ensures ∙ ap (λ (x : Counts). kindAfter x (c .before .before .before .before .before .before .before .before .before .before .before .before .loop .lines)) (counts-held (countsIn (now (c .before .before .before .before .before .before .before .before .before .before .before .before .before .before .before .args .cells))) (c .before .before .before .before .before .before .before .before .before .before .before .before .loop .inv .table) (c .before .before .before .before .before .before .before .before .before .before .before .before .loop .lines) (c .before .before .before .before .before .before .before .before .before .before .before .before .loop .filled) (c .before .before .before .before .before .before .before .before .before .before .before .before .loop .top) (c .before .before .before .before .before .before .before .before .before .before .before .before .loop .cells) (c .before .before .before .before .before .before .before .before .before .before .before .before .loop .inv .tracks)) ∙ kind-due (countsIn (now (c .before .before .before .before .before .before .before .before .before .before .before .before .before .before .before .args .cells))) (c .before .before .before .before .before .before .before .before .before .before .before .before .loop .inv .table) (c .before .before .before .before .before .before .before .before .before .before .before .before .loop .lines) (c .before .before .before .before .before .before .before .before .before .before .before .before .loop .filled) (c .before .before .before .before .before .before .before .before .before .before .before .before .loop .top) (c .before .before .before .before .before .before .before .before .before .before .before .before .loop .cells) (c .before .before .before .before .before .before .before .before .before .before .before .before .loop .inv .tracks)))) (c .read-end .ensures)
+    let fault = c .before .before .before .before in
+    let here = fault .before .before .before .before .before .before .before .before in
+    out-end (here .loop .inv) (line (fault .before .before .before .before .before)) (earns fault ∙ c .before .before .enum-told .given .1) (c .read-end .result)
+    (kind-one 5 (kind here) (sym (c .before .if2 .taken) ∙ kind-is (fault .before .before))) (c .read-end .ensures)
 
 item-key-requires : tie.Need-item-key-requires Inv-loop μ-loop
 item-key-requires c κs = search needs
 
+slice-aggregate-append : tie.Need-slice-aggregate-append Inv-loop μ-loop
+slice-aggregate-append c = sym (long (c .before .before .before .before .before .before .before .before .before .before .before .before .before .before .loop .inv))
+
 append-requires : tie.Need-append-requires Inv-loop μ-loop
-append-requires c κs = room (countsIn (now (c .before .before .before .before .before .before .before .before .before .before .before .before .before .before .before .before .before .args .cells))) (now (c .before .before .before .before .before .before .before .before .before .before .before .before .before .before .before .before .before .args .text)) (c .before .before .before .before .before .before .before .before .before .before .before .before .before .before .before .before .before .args .start) (c .before .before .before .before .before .before .before .before .before .before .before .before .before .before .loop .at) (c .before .before .before .before .before .before .before .before .before .before .before .before .before .before .loop .lines) (c .before .before .before .before .before .before .before .before .before .before .before .before .before .before .loop .filled) (c .before .before .before .before .before .before .before .before .before .before .before .before .before .before .loop .top) (c .before .before .before .before .before .before .before .before .before .before .before .before .before .before .loop .cells) (c .before .before .before .before .before .before .before .before .before .before .before .before .before .before .loop .inv) (λ z. c .before .before .before .if2 .left ((c .before .before .before .before .before .before .before .before .kind-due .ensures ∙ ap (λ (x : Counts). kindAfter x (c .before .before .before .before .before .before .before .before .before .before .before .before .before .before .loop .lines)) (counts-held (countsIn (now (c .before .before .before .before .before .before .before .before .before .before .before .before .before .before .before .before .before .args .cells))) (c .before .before .before .before .before .before .before .before .before .before .before .before .before .before .loop .inv .table) (c .before .before .before .before .before .before .before .before .before .before .before .before .before .before .loop .lines) (c .before .before .before .before .before .before .before .before .before .before .before .before .before .before .loop .filled) (c .before .before .before .before .before .before .before .before .before .before .before .before .before .before .loop .top) (c .before .before .before .before .before .before .before .before .before .before .before .before .before .before .loop .cells) (c .before .before .before .before .before .before .before .before .before .before .before .before .before .before .loop .inv .tracks)) ∙ kind-due (countsIn (now (c .before .before .before .before .before .before .before .before .before .before .before .before .before .before .before .before .before .args .cells))) (c .before .before .before .before .before .before .before .before .before .before .before .before .before .before .loop .inv .table) (c .before .before .before .before .before .before .before .before .before .before .before .before .before .before .loop .lines) (c .before .before .before .before .before .before .before .before .before .before .before .before .before .before .loop .filled) (c .before .before .before .before .before .before .before .before .before .before .before .before .before .before .loop .top) (c .before .before .before .before .before .before .before .before .before .before .before .before .before .before .loop .cells) (c .before .before .before .before .before .before .before .before .before .before .before .before .before .before .loop .inv .tracks)) ∙ z))
+append-requires c κs =
+    let fault = c .before .before .before .before .before .before in
+    let inv = fault .before .before .before .before .before .before .before .before .loop .inv in
+    omega (arith, long inv, room inv (λ z. c .before .before .before .if2 .left (kind-is (fault .before .before) ∙ z)))
 
 add-lines : tie.Need-add-lines Inv-loop μ-loop
-add-lines c = omega (arith, lines-few (countsIn (now (c .before .before .before .before .before .before .before .before .before .before .before .before .before .before .before .before .before .before .before .before .args .cells))) (now (c .before .before .before .before .before .before .before .before .before .before .before .before .before .before .before .before .before .before .before .before .args .text)) (c .before .before .before .before .before .before .before .before .before .before .before .before .before .before .before .before .before .before .before .before .args .start) (c .before .before .before .before .before .before .before .before .before .before .before .before .before .before .before .before .before .loop .at) (c .before .before .before .before .before .before .before .before .before .before .before .before .before .before .before .before .before .loop .lines) (c .before .before .before .before .before .before .before .before .before .before .before .before .before .before .before .before .before .loop .filled) (c .before .before .before .before .before .before .before .before .before .before .before .before .before .before .before .before .before .loop .top) (c .before .before .before .before .before .before .before .before .before .before .before .before .before .before .before .before .before .loop .cells) (c .before .before .before .before .before .before .before .before .before .before .before .before .before .before .before .before .before .loop .inv))
+add-lines c = omega (arith, lines-few (c .before .before .before .before .before .before .before .before .before .before .before .before .before .before .before .before .loop .inv))
 
 loop-less : tie.Need-loop-less Inv-loop μ-loop
 loop-less c =
-    let L = line-read (now (c .before .before .before .before .before .before .before .before .before .before .before .before .before .before .before .before .before .before .before .before .args .text)) (c .before .before .before .before .before .before .before .before .before .before .before .before .before .before .before .before .before .loop .at) (c .before .before .before .before .before .before .before .before .before .before .before .before .before .before .before .scan .result) (c .before .before .before .before .before .before .before .before .before .before .before .before .before .before .before .before .loop-test .taken) (c .before .before .before .before .before .before .before .before .before .before .before .before .before .before .before .scan .ensures) (c .before .before .before .before .before .before .before .before .before .before .before .before .before .before .if1 .taken) in
+    let L = line (c .before .before .before .before .before .before .before .before .before .before .before .before .before) in
     omega (arith, L .next-after, L .next-inside)
 
 loop-again : tie.Need-loop-again Inv-loop μ-loop
 loop-again c =
-    let L = line-read (now (c .before .before .before .before .before .before .before .before .before .before .before .before .before .before .before .before .before .before .before .before .args .text)) (c .before .before .before .before .before .before .before .before .before .before .before .before .before .before .before .before .before .loop .at) (c .before .before .before .before .before .before .before .before .before .before .before .before .before .before .before .scan .result) (c .before .before .before .before .before .before .before .before .before .before .before .before .before .before .before .before .loop-test .taken) (c .before .before .before .before .before .before .before .before .before .before .before .before .before .before .before .scan .ensures) (c .before .before .before .before .before .before .before .before .before .before .before .before .before .before .if1 .taken) in
-    let J : judged (kindFaults (due (countsIn (now (c .before .before .before .before .before .before .before .before .before .before .before .before .before .before .before .before .before .before .before .before .args .cells))) (c .before .before .before .before .before .before .before .before .before .before .before .before .before .before .before .before .before .loop .inv .table)) (c .before .before .before .before .before .before .before .before .before .before .before .before .before .before .before .before .before .loop .inv .table) (bytesOf (L .line .chars))) ≡ c .before .before .before .before .before .before .before .before .before .item-fault .result = sym (c .before .before .before .before .before .before .before .before .before .item-fault .ensures (countsIn (now (c .before .before .before .before .before .before .before .before .before .before .before .before .before .before .before .before .before .before .before .before .args .cells))) (c .before .before .before .before .before .before .before .before .before .before .before .before .before .before .before .before .before .loop .inv .table) (bytesOf (L .line .chars)) (c .before .before .before .before .before .before .before .before .before .before .before .before .before .before .before .before .before .loop .inv .tracks) (c .before .before .before .before .before .before .before .before .before .before .before .kind-due .ensures ∙ ap (λ (x : Counts). kindAfter x (c .before .before .before .before .before .before .before .before .before .before .before .before .before .before .before .before .before .loop .lines)) (counts-held (countsIn (now (c .before .before .before .before .before .before .before .before .before .before .before .before .before .before .before .before .before .before .before .before .args .cells))) (c .before .before .before .before .before .before .before .before .before .before .before .before .before .before .before .before .before .loop .inv .table) (c .before .before .before .before .before .before .before .before .before .before .before .before .before .before .before .before .before .loop .lines) (c .before .before .before .before .before .before .before .before .before .before .before .before .before .before .before .before .before .loop .filled) (c .before .before .before .before .before .before .before .before .before .before .before .before .before .before .before .before .before .loop .top) (c .before .before .before .before .before .before .before .before .before .before .before .before .before .before .before .before .before .loop .cells) (c .before .before .before .before .before .before .before .before .before .before .before .before .before .before .before .before .before .loop .inv .tracks)) ∙ kind-due (countsIn (now (c .before .before .before .before .before .before .before .before .before .before .before .before .before .before .before .before .before .before .before .before .args .cells))) (c .before .before .before .before .before .before .before .before .before .before .before .before .before .before .before .before .before .loop .inv .table) (c .before .before .before .before .before .before .before .before .before .before .before .before .before .before .before .before .before .loop .lines) (c .before .before .before .before .before .before .before .before .before .before .before .before .before .before .before .before .before .loop .filled) (c .before .before .before .before .before .before .before .before .before .before .before .before .before .before .before .before .before .loop .top) (c .before .before .before .before .before .before .before .before .before .before .before .before .before .before .before .before .before .loop .cells) (c .before .before .before .before .before .before .before .before .before .before .before .before .before .before .before .before .before .loop .inv .tracks)) (L .bytes-are) (L .count-is)) in
-    let k = c .before .before .before .before .before .before .before .before .before .before .before .kind-due .ensures ∙ ap (λ (x : Counts). kindAfter x (c .before .before .before .before .before .before .before .before .before .before .before .before .before .before .before .before .before .loop .lines)) (counts-held (countsIn (now (c .before .before .before .before .before .before .before .before .before .before .before .before .before .before .before .before .before .before .before .before .args .cells))) (c .before .before .before .before .before .before .before .before .before .before .before .before .before .before .before .before .before .loop .inv .table) (c .before .before .before .before .before .before .before .before .before .before .before .before .before .before .before .before .before .loop .lines) (c .before .before .before .before .before .before .before .before .before .before .before .before .before .before .before .before .before .loop .filled) (c .before .before .before .before .before .before .before .before .before .before .before .before .before .before .before .before .before .loop .top) (c .before .before .before .before .before .before .before .before .before .before .before .before .before .before .before .before .before .loop .cells) (c .before .before .before .before .before .before .before .before .before .before .before .before .before .before .before .before .before .loop .inv .tracks)) ∙ kind-due (countsIn (now (c .before .before .before .before .before .before .before .before .before .before .before .before .before .before .before .before .before .before .before .before .args .cells))) (c .before .before .before .before .before .before .before .before .before .before .before .before .before .before .before .before .before .loop .inv .table) (c .before .before .before .before .before .before .before .before .before .before .before .before .before .before .before .before .before .loop .lines) (c .before .before .before .before .before .before .before .before .before .before .before .before .before .before .before .before .before .loop .filled) (c .before .before .before .before .before .before .before .before .before .before .before .before .before .before .before .before .before .loop .top) (c .before .before .before .before .before .before .before .before .before .before .before .before .before .before .before .before .before .loop .cells) (c .before .before .before .before .before .before .before .before .before .before .before .before .before .before .before .before .before .loop .inv .tracks) in
-    let i : IsItem (due (countsIn (now (c .before .before .before .before .before .before .before .before .before .before .before .before .before .before .before .before .before .before .before .before .args .cells))) (c .before .before .before .before .before .before .before .before .before .before .before .before .before .before .before .before .before .loop .inv .table)) = item-due (countsIn (now (c .before .before .before .before .before .before .before .before .before .before .before .before .before .before .before .before .before .before .before .before .args .cells))) (c .before .before .before .before .before .before .before .before .before .before .before .before .before .before .before .before .before .loop .inv .table) (c .before .before .before .before .before .before .before .before .before .before .before .before .before .before .before .before .before .loop .lines) (c .before .before .before .before .before .before .before .before .before .before .before .before .before .before .before .before .before .loop .filled) (c .before .before .before .before .before .before .before .before .before .before .before .before .before .before .before .before .before .loop .top) (c .before .before .before .before .before .before .before .before .before .before .before .before .before .before .before .before .before .loop .cells) (c .before .before .before .before .before .before .before .before .before .before .before .before .before .before .before .before .before .loop .inv .tracks) (λ z. c .before .before .before .before .before .before .if2 .left (k ∙ z)) in
-    let put = c .before .before .append .ensures (due (countsIn (now (c .before .before .before .before .before .before .before .before .before .before .before .before .before .before .before .before .before .before .before .before .args .cells))) (c .before .before .before .before .before .before .before .before .before .before .before .before .before .before .before .before .before .loop .inv .table)) (bytesOf (L .line .chars)) k i (L .bytes-are) in
-    let low : c .before .before .before .before .before .before .before .before .before .before .before .before .before .before .before .before .before .loop .top ≤ c .before .before .before .before .if3 .top = ⊎-elim (λ w. omega arith) (λ w. omega arith) (c .before .before .before .before .if3 .came) in
-    let key : itemKey (due (countsIn (now (c .before .before .before .before .before .before .before .before .before .before .before .before .before .before .before .before .before .before .before .before .args .cells))) (c .before .before .before .before .before .before .before .before .before .before .before .before .before .before .before .before .before .loop .inv .table)) (bytesOf (L .line .chars)) ≤ c .before .before .before .before .if3 .top =
-    ⊎-elim (λ w. omega (arith, c .before .before .before .before .before .item-key .ensures (due (countsIn (now (c .before .before .before .before .before .before .before .before .before .before .before .before .before .before .before .before .before .before .before .before .args .cells))) (c .before .before .before .before .before .before .before .before .before .before .before .before .before .before .before .before .before .loop .inv .table)) (bytesOf (L .line .chars)) k i (L .bytes-are))) (λ w. omega (arith, c .before .before .before .before .before .item-key .ensures (due (countsIn (now (c .before .before .before .before .before .before .before .before .before .before .before .before .before .before .before .before .before .before .before .before .args .cells))) (c .before .before .before .before .before .before .before .before .before .before .before .before .before .before .before .before .before .loop .inv .table)) (bytesOf (L .line .chars)) k i (L .bytes-are))) (c .before .before .before .before .if3 .came) in
-    subst (λ (l : List ℕ). ReadingOn (countsIn (now (c .before .before .before .before .before .before .before .before .before .before .before .before .before .before .before .before .before .before .before .before .args .cells))) (now (c .before .before .before .before .before .before .before .before .before .before .before .before .before .before .before .before .before .before .before .before .args .text)) (c .before .before .before .before .before .before .before .before .before .before .before .before .before .before .before .before .before .before .before .before .args .start) (c .before .before .before .before .before .before .before .before .before .before .before .before .before .before .before .scan .result .next) (c .before .before .before .before .before .before .before .before .before .before .before .before .before .before .before .before .before .loop .lines + 1) (c .before .before .append .result) (c .before .before .before .before .if3 .top) l) (sym (put .1))
-    (subst
-    (λ (n : ℕ). ReadingOn (countsIn (now (c .before .before .before .before .before .before .before .before .before .before .before .before .before .before .before .before .before .before .before .before .args .cells))) (now (c .before .before .before .before .before .before .before .before .before .before .before .before .before .before .before .before .before .before .before .before .args .text)) (c .before .before .before .before .before .before .before .before .before .before .before .before .before .before .before .before .before .before .before .before .args .start) (c .before .before .before .before .before .before .before .before .before .before .before .before .before .before .before .scan .result .next) (c .before .before .before .before .before .before .before .before .before .before .before .before .before .before .before .before .before .loop .lines + 1) n (c .before .before .before .before .if3 .top) (sets (c .before .before .before .before .before .before .before .before .before .before .before .before .before .before .before .before .before .loop .cells) (c .before .before .before .before .before .before .before .before .before .before .before .before .before .before .before .before .before .loop .filled) (itemCells (due (countsIn (now (c .before .before .before .before .before .before .before .before .before .before .before .before .before .before .before .before .before .before .before .before .args .cells))) (c .before .before .before .before .before .before .before .before .before .before .before .before .before .before .before .before .before .loop .inv .table)) (bytesOf (L .line .chars)))))
-    (sym (put .0)) (reading-more (countsIn (now (c .before .before .before .before .before .before .before .before .before .before .before .before .before .before .before .before .before .before .before .before .args .cells))) (now (c .before .before .before .before .before .before .before .before .before .before .before .before .before .before .before .before .before .before .before .before .args .text)) (c .before .before .before .before .before .before .before .before .before .before .before .before .before .before .before .before .before .before .before .before .args .start) (c .before .before .before .before .before .before .before .before .before .before .before .before .before .before .before .before .before .loop .at) (c .before .before .before .before .before .before .before .before .before .before .before .before .before .before .before .before .before .loop .lines) (c .before .before .before .before .before .before .before .before .before .before .before .before .before .before .before .before .before .loop .filled) (c .before .before .before .before .before .before .before .before .before .before .before .before .before .before .before .before .before .loop .top) (c .before .before .before .before .before .before .before .before .before .before .before .before .before .before .before .before .before .loop .cells) (c .before .before .before .before .before .before .before .before .before .before .before .before .before .before .before .before .before .loop .inv) (c .before .before .before .before .before .before .before .before .before .before .before .before .before .before .before .scan .result) L (J ∙ c .before .before .before .before .before .before .before .enum-told .given .1) (c .before .before .before .before .if3 .top) i low key))
+    let fault = c .before .before .before .before .before .before .before .before in
+    let here = fault .before .before .before .before .before .before .before .before in
+    let L = line (fault .before .before .before .before .before) in
+    let b = said (fault .before .before .before .before .before) in
+    let k = kind-is (fault .before .before) in
+    let i : IsItem (kind here) = item-is (here .loop .inv) k (c .before .before .before .before .before .if2 .left) in
+    let new = c .before .before .before .before .item-key .ensures (kind here) b k i (L .bytes-are) in
+    let low : here .loop .top ≤ c .before .before .before .if3 .top = ⊎-elim (λ w. omega arith) (λ w. omega arith) (c .before .before .before .if3 .came) in
+    let key : itemKey (kind here) b ≤ c .before .before .before .if3 .top = ⊎-elim (λ w. omega (arith, new)) (λ w. omega (arith, new)) (c .before .before .before .if3 .came) in
+    reading-more (here .loop .inv) L (earns fault ∙ c .before .before .before .before .before .before .enum-told .given .1) _ _ _ i low key (c .before .append .ensures (kind here) b k i (L .bytes-are))
 
-same-length-3 : tie.Need-same-length-3 Inv-loop μ-loop
-same-length-3 c = c .before .before .before .loop .inv .long ∙ sym (c .before .before .before .before .before .before .pre .0)
+refused-requires-2 : tie.Need-refused-requires-2 Inv-loop μ-loop
+refused-requires-2 c κs = search needs
 
 returns-3 : tie.Need-returns-3 Inv-loop μ-loop
-returns-3 c = out-bad (countsIn (now (c .before .before .before .before .before .before .args .cells))) (now (c .before .before .before .before .before .before .args .text)) (c .before .before .before .before .before .before .args .start) (c .before .before .before .loop .at) (c .before .before .before .loop .lines) (c .before .before .before .loop .filled) (c .before .before .before .loop .top) (c .before .before .before .loop .cells) (c .before .before .before .loop .inv) (line-bad (now (c .before .before .before .before .before .before .args .text)) (c .before .before .before .loop .at) (c .before .scan .result) (c .before .before .loop-test .taken) (c .before .scan .ensures) (c .if1 .left))
+returns-3 c =
+    let scanned = c .before .before in
+    c .refused2 .ensures
+    ∙ ap gathered (sym (out-bad (scanned .before .before .loop .inv) (line-bad _ _ (scanned .scan .result) (scanned .before .loop-test .taken) (scanned .scan .ensures) (c .before .if1 .left))))
 
-same-length-4 : tie.Need-same-length-4 Inv-loop μ-loop
-same-length-4 c = c .before .loop .inv .long ∙ sym (c .before .before .before .before .pre .0)
+refused-requires-3 : tie.Need-refused-requires-3 Inv-loop μ-loop
+refused-requires-3 c κs = search needs
 
 returns-4 : tie.Need-returns-4 Inv-loop μ-loop
-returns-4 c = out-missing (countsIn (now (c .before .before .before .before .args .cells))) (now (c .before .before .before .before .args .text)) (c .before .before .before .before .args .start) (c .before .loop .at) (c .before .loop .lines) (c .before .loop .filled) (c .before .loop .top) (c .before .loop .cells) (c .before .loop .inv) (c .loop-test .left)
+returns-4 c = c .refused3 .ensures ∙ ap gathered (sym (out-missing (c .before .before .loop .inv) (c .before .loop-test .left)))
 
 pub read-items-spec : {M : Type 1} → statement M
 read-items-spec =
@@ -113,21 +149,23 @@ read-items-spec =
     μ-loop
     loop-holds
     scan-requires
+    slice-aggregate-kind-due
     kind-due-requires
+    slice-aggregate-item-fault
     item-fault-requires
     enum-known-judged
-    same-length
+    refused-requires
     returns
     enum-told
     read-end-requires
-    same-length-2
     returns-2
     item-key-requires
+    slice-aggregate-append
     append-requires
     add-lines
     loop-less
     loop-again
-    same-length-3
+    refused-requires-2
     returns-3
-    same-length-4
+    refused-requires-3
     returns-4)
