@@ -2,11 +2,11 @@
 use Prim.Native.Nat.{ℕ, zero, suc, _+_, _≤_, _<_}
 use native.Mathlib.Omega.{arith}
 use mathlib.Core.Path.{_≡_, refl, sym, ap, ap₂, subst, _∙_}
-use mathlib.Core.Bool.{Bool, true, false, cond, _&&_}
-use mathlib.Core.List.{List, [], _∷_, _++_}
+use mathlib.Core.Bool.{Bool, true, false, cond, not, _&&_, true≢false}
+use mathlib.Core.List.{List, [], _∷_}
 use lib.Dec.{eqb}
-use lib.ListN.{length, getD, take, drop, length-append}
-use lib.Seq.{take-at}
+use lib.ListN.{length, getD, take, drop, replicate, length-drop, length-replicate, List·getD-append}
+use lib.Seq.{take-at, take-append-le, drop-append-le}
 use borrow.Author.Tests.{eqb-true, eq-eqb}
 use Rattle.format.specs.declared.InputCause.{InputCause}
 use Rattle.format.specs.declared.InputCause.the-variants.{Malformed, Misplaced}
@@ -16,11 +16,11 @@ use Rattle.format.proofs.Tests.{and-left, and-right}
 use Rattle.format.proofs.All.{All, all-getD}
 use Rattle.format.proofs.Line.{IsByte, line-bytes}
 use Rattle.query.specs.declared.FirstLine.the-variants.{Bad, Says}
-use Rattle.query.specs.declared.Asking.{Asking}
-use Rattle.query.specs.declared.Asking.the-variants.{Fault, Words}
+use Rattle.query.specs.declared.Asking.the-variants.{Fault, Query}
+use Rattle.query.specs.declared.Question.{Question}
 use Rattle.query.specs.Parts.{firstSize}
-use Rattle.query.specs.Query.{Asked, fault, says, upperLength, lowerLength, isQuery, queryOf}
-use Rattle.query.specs.Asking.{firstLineOf, BytesIn, wordsOf, askingOf, QueryIn}
+use Rattle.query.specs.Query.{Asked, fault, says, taskIn, upperLength, lowerLength, upperIn, lowerIn, isQuery, filled, queryOf}
+use Rattle.query.specs.Asking.{firstLineOf, BytesIn, questionOf}
 use Rattle.query.proofs.Parts.{size-some}
 
 -- Bytes.
@@ -47,11 +47,10 @@ no-query b n = go (isQuery b) refl
     go true e = absurd (n (query-facts b e))
     go false e = e
 
-pub words-none : (b : List ℕ) → (IsQuery b → ⊥) → Fault Misplaced ≡ wordsOf b
-words-none b n = sym (ap (λ (x : Bool). cond x (Words (upperLength b) (lowerLength b)) (Fault Misplaced)) (no-query b n))
-
-pub words-some : (b : List ℕ) → IsQuery b → Words (upperLength b) (lowerLength b) ≡ wordsOf b
-words-some b q = sym (ap (λ (x : Bool). cond x (Words (upperLength b) (lowerLength b)) (Fault Misplaced)) (is-query b q))
+-- the kind is right, and another number says the size
+pub query-by : (b : List ℕ) → getD b 0 0 ≡ 16 → (n : ℕ) → n ≡ 4 + upperLength b + lowerLength b → eqb (length b) n ≡ isQuery b
+unfolding isQuery
+query-by b k n e = ap₂ (λ (x : Bool) (m : ℕ). x && eqb (length b) m) (sym (eq-eqb (getD b 0 0) 16 k)) e
 
 -- a query's bytes are at most 514
 pub query-most : (b : List ℕ) → All IsByte b → IsQuery b → length b ≤ 514
@@ -78,29 +77,25 @@ lines-some s n = go (linesOf s) (size-some s (nonzero (length s) n))
     go [] h = absurd (omega arith)
     go (l ∷ ls) h = omega arith
 
--- what the code answers, and leaves in the buffer
-abbrev pub Answers : Asked → List ℕ → Asking → List ℕ → Type 0
-Answers q before r after = (r ≡ askingOf q) × QueryIn q before after
+module _ (ls : List Line) where
+  abbrev Answer : Question → Type 0
+  Answer r = r ≡ questionOf (queryOf ls)
 
-module _ (ls : List Line) (before after : List ℕ) where
-  abbrev Answer : Asking → Type 0
-  Answer r = Answers (queryOf ls) before r after
-
-  pub asks-none : ls ≡ [] → Answer (Fault Misplaced)
+  pub asks-none : ls ≡ [] → (r : Question) → r ≡ questionOf (fault Misplaced) → Answer r
   unfolding queryOf
-  asks-none e = subst (λ (x : List Line). Answers (queryOf x) before (Fault Misplaced) after) (sym e) (refl, tt)
+  asks-none e r k = k ∙ sym (ap (λ (x : List Line). questionOf (queryOf x)) e)
 
-  pub asks-bad : 0 < length ls → Bad ≡ firstLineOf ls → Answer (Fault Malformed)
+  pub asks-bad : 0 < length ls → Bad ≡ firstLineOf ls → (r : Question) → r ≡ questionOf (fault Malformed) → Answer r
   unfolding queryOf firstLineOf
-  asks-bad h f = go ls h f
+  asks-bad h f r k = go ls h f
     where
-      go : (ls : List Line) → 0 < length ls → Bad ≡ firstLineOf ls → Answers (queryOf ls) before (Fault Malformed) after
+      go : (ls : List Line) → 0 < length ls → Bad ≡ firstLineOf ls → r ≡ questionOf (queryOf ls)
       go [] h e = absurd (omega arith)
       go (l ∷ ls) h e = by (malformed l) e
         where
           by : (b : Bool) → Bad ≡ cond b Bad (Says (length (bytesOf (l .chars))) (isEmpty ls))
-              → Answers (cond b (fault Malformed) (cond (isQuery (bytesOf (l .chars)) && isEmpty ls) (says (bytesOf (l .chars))) (fault Misplaced))) before (Fault Malformed) after
-          by true e = (refl, tt)
+              → r ≡ questionOf (cond b (fault Malformed) (cond (isQuery (bytesOf (l .chars)) && isEmpty ls) (says (bytesOf (l .chars))) (fault Misplaced)))
+          by true e = k
           by false e = absurd (let z : _≡_ {A = ℕ} 0 1 = cc in omega arith)
 
   -- the first line is well formed: its bytes
@@ -126,78 +121,133 @@ module _ (ls : List Line) (before after : List ℕ) where
           by false m e = record { line = l; others = ms; lines-are = q; well = m; count-is = cc; alone-is = cc; small = line-bytes l m .1 }
 
   module _ (count : ℕ) (alone : Bool) (S : Said count alone) where
-    abbrev pub saidBytes : List ℕ
+    abbrev saidBytes : List ℕ
     saidBytes = bytesOf (S .line .chars)
 
-    query-is : queryOf ls ≡ cond (isQuery saidBytes && isEmpty (S .others)) (says saidBytes) (fault Misplaced)
+    answer-by : (b : Bool) (r : Question) → (isQuery saidBytes && isEmpty (S .others)) ≡ b → r ≡ questionOf (cond b (says saidBytes) (fault Misplaced)) → Answer r
     unfolding queryOf
-    query-is =
-        ap queryOf (S .lines-are)
-        ∙ ap (λ (b : Bool). cond b (fault Malformed) (cond (isQuery saidBytes && isEmpty (S .others)) (says saidBytes) (fault Misplaced))) (S .well)
-
-    answers-by : (b : Bool) (r : Asking) → (isQuery saidBytes && isEmpty (S .others)) ≡ b → Answers (cond b (says saidBytes) (fault Misplaced)) before r after → Answer r
-    answers-by b r e a =
-        subst (λ (q : Asked). Answers q before r after) (sym (query-is ∙ ap (λ (x : Bool). cond x (says saidBytes) (fault Misplaced)) e)) a
+    answer-by b r e k =
+        k ∙ sym
+        (ap questionOf
+        (ap queryOf (S .lines-are)
+        ∙ ap (λ (x : Bool). cond x (fault Malformed) (cond (isQuery saidBytes && isEmpty (S .others)) (says saidBytes) (fault Misplaced))) (S .well)
+        ∙ ap (λ (x : Bool). cond x (says saidBytes) (fault Misplaced)) e))
 
     nothing : (b : Bool) → (b && false) ≡ false
     nothing true = refl
     nothing false = refl
 
-    pub asks-followed : alone ≡ false → Answer (Fault Misplaced)
-    asks-followed e = answers-by false (Fault Misplaced) (ap (λ (x : Bool). isQuery saidBytes && x) (sym (S .alone-is) ∙ e) ∙ nothing (isQuery saidBytes)) (refl, tt)
+    off : (b : Bool) → not b ≡ true → b ≡ false
+    off true e = absurd (true≢false (sym e))
+    off false e = refl
 
-    other : isQuery saidBytes ≡ false → Answer (Fault Misplaced)
-    other e = answers-by false (Fault Misplaced) (ap (λ (x : Bool). x && isEmpty (S .others)) e) (refl, tt)
+    on : (b : Bool) → not b ≡ false → b ≡ true
+    on true e = refl
+    on false e = absurd (true≢false e)
 
-    pub asks-long : 514 < count → Answer (Fault Misplaced)
-    asks-long h = other (no-query saidBytes (λ q. omega (arith, query-most saidBytes (S .small) q, S .count-is)))
+    module _ (r : Question) (k : r ≡ questionOf (fault Misplaced)) where
+      pub asks-followed : not alone ≡ true → Answer r
+      asks-followed e = answer-by false r (ap (λ (x : Bool). isQuery saidBytes && x) (sym (S .alone-is) ∙ off alone e) ∙ nothing (isQuery saidBytes)) k
 
-    pub asks-words : alone ≡ true → count ≤ length before → BytesIn ls before after → (r : Asking) → r ≡ wordsOf (take count after) → Answer r
-    asks-words e h B r w = go (isQuery saidBytes) refl
-      where
-        stored : after ≡ saidBytes ++ drop (length saidBytes) before
-        stored = subst (λ (x : List Line). BytesIn x before after) (S .lines-are) B (S .well) (omega (arith, S .count-is))
+      other : isQuery saidBytes ≡ false → Answer r
+      other e = answer-by false r (ap (λ (x : Bool). x && isEmpty (S .others)) e) k
 
-        front : take count after ≡ saidBytes
-        front = ap (take count) stored ∙ take-at saidBytes (drop (length saidBytes) before) count (sym (S .count-is))
+      pub asks-long : 514 < count → Answer r
+      asks-long h = other (no-query saidBytes (λ q. omega (arith, query-most saidBytes (S .small) q, S .count-is)))
 
-        words : r ≡ wordsOf saidBytes
-        words = w ∙ ap wordsOf front
+    -- its bytes are at the front of the buffer
+    module _ (after : List ℕ) (B : BytesIn ls (replicate 514 0) after) (few : count ≤ 514) where
+      stored : after ≡ filled saidBytes
+      unfolding filled
+      stored = subst (λ (x : List Line). BytesIn x (replicate 514 0) after) (S .lines-are) B (S .well) (omega (arith, S .count-is, length-replicate {A = ℕ} 514 0))
 
-        go : (b : Bool) → isQuery saidBytes ≡ b → Answer r
-        go true q =
-            answers-by true r (ap₂ _&&_ q (sym (S .alone-is) ∙ e))
-            (words ∙ sym (words-some saidBytes (query-facts saidBytes q)), (q, omega (arith, S .count-is), stored))
-        go false q = subst (λ (x : Asking). Answer x) (sym (words ∙ ap (λ (x : Bool). cond x (Words (upperLength saidBytes) (lowerLength saidBytes)) (Fault Misplaced)) q)) (other q)
+      front : take count after ≡ saidBytes
+      unfolding filled
+      front = ap (take count) stored ∙ take-at saidBytes (drop (length saidBytes) (replicate 514 0)) count (sym (S .count-is))
 
--- What an answer says of the query.
+      pub asks-other : false ≡ isQuery (take count after) → (r : Question) → r ≡ questionOf (fault Misplaced) → Answer r
+      asks-other e r k = other r k (sym (e ∙ ap isQuery front))
 
-pub fault-is : (q : Asked) (cause : InputCause) → Fault cause ≡ askingOf q → q ≡ fault cause
-fault-is (fault c) cause e = let same : c ≡ cause = cc in ap fault same
-fault-is (says b) cause e = absurd (let z : _≡_ {A = ℕ} 0 1 = cc in omega arith)
+      pub asks-query : not alone ≡ false → true ≡ isQuery (take count after) → Answer (record { asking = Query; bytes = after })
+      asks-query a e =
+          answer-by true (record { asking = Query; bytes = after }) (ap₂ _&&_ (sym (e ∙ ap isQuery front)) (sym (S .alone-is) ∙ on alone a))
+          (ap (λ (b : List ℕ). record { asking = Query; bytes = b }) stored)
 
-pub record Asks (q : Asked) (after : List ℕ) (upper lower : ℕ) : Type 0 where
-  pub bytes : List ℕ
-  pub is : q ≡ says bytes
-  pub query : isQuery bytes ≡ true
-  pub upper-is : upper ≡ upperLength bytes
-  pub lower-is : lower ≡ lowerLength bytes
-  pub room : 4 + upper + lower ≤ length after
-  pub stored : take (4 + upper + lower) after ≡ bytes
+-- What a question says of the query, and the array that it holds.
 
-pub asks-is : (q : Asked) (before after : List ℕ) (upper lower : ℕ) → Words upper lower ≡ askingOf q → QueryIn q before after → Asks q after upper lower
-asks-is (fault c) before after upper lower e Q = absurd (let z : _≡_ {A = ℕ} 0 1 = cc in omega arith)
-asks-is (says b) before after upper lower e Q =
-    let u : upper ≡ upperLength b = cc in
-    let l : lower ≡ lowerLength b = cc in
-    let size : length b ≡ 4 + upper + lower = query-facts b (Q .0) .size ∙ omega arith in
-    let all : length after ≡ length b + length (drop (length b) before) = ap length (Q .2) ∙ length-append b (drop (length b) before) in
-    record {
-      bytes = b;
-      is = refl;
-      query = Q .0;
-      upper-is = u;
-      lower-is = l;
-      room = omega arith;
-      stored = ap (take (4 + upper + lower)) (Q .2) ∙ take-at b (drop (length b) before) (4 + upper + lower) size;
-    }
+pub fault-is : (q : Asked) (r : Question) (cause : InputCause) → r ≡ questionOf q → r .asking ≡ Fault cause → q ≡ fault cause
+fault-is (fault c) r cause e f = let same : c ≡ cause = cc (ap (λ (x : Question). x .asking) e) in ap fault same
+fault-is (says b) r cause e f = absurd (let z : _≡_ {A = ℕ} 0 1 = cc (ap (λ (x : Question). x .asking) e) in omega arith)
+
+pub query-whole : (ls : List Line) (b : List ℕ) → queryOf ls ≡ says b → IsQuery b
+unfolding queryOf
+query-whole [] b e = absurd (let z : _≡_ {A = ℕ} 0 1 = cc in omega arith)
+query-whole (l ∷ ls) b e = go (malformed l) e
+  where
+    c : List ℕ
+    c = bytesOf (l .chars)
+
+    is : (x : Bool) → (isQuery c && isEmpty ls) ≡ x → cond x (says c) (fault Misplaced) ≡ says b → IsQuery b
+    is true h e = let same : c ≡ b = cc in subst IsQuery same (query-facts c (and-left (isQuery c) (isEmpty ls) h))
+    is false h e = absurd (let z : _≡_ {A = ℕ} 0 1 = cc in omega arith)
+
+    go : (x : Bool) → cond x (fault Malformed) (cond (isQuery c && isEmpty ls) (says c) (fault Misplaced)) ≡ says b → IsQuery b
+    go true e = absurd (let z : _≡_ {A = ℕ} 0 1 = cc in omega arith)
+    go false e = is (isQuery c && isEmpty ls) refl e
+
+-- a query's parts are the same in the array
+
+module _ (b : List ℕ) (q : IsQuery b) where
+  abbrev rest : List ℕ
+  rest = drop (length b) (replicate 514 0)
+
+  filled-at : (i : ℕ) → i < length b → getD (filled b) i 0 ≡ getD b i 0
+  unfolding filled
+  filled-at i h = List·getD-append b rest 0 i h
+
+  pub task-filled : taskIn (filled b) ≡ taskIn b
+  task-filled = filled-at 1 (omega (arith, q .size))
+
+  upper-length : upperLength (filled b) ≡ upperLength b
+  upper-length = filled-at 2 (omega (arith, q .size))
+
+  lower-length : lowerLength (filled b) ≡ lowerLength b
+  lower-length = ap (λ (n : ℕ). getD (filled b) (3 + n) 0) upper-length ∙ filled-at (3 + upperLength b) (omega (arith, q .size))
+
+  part-filled : (n k : ℕ) → n + k ≤ length b → take n (drop k (filled b)) ≡ take n (drop k b)
+  unfolding filled
+  part-filled n k h = ap (take n) (drop-append-le k b rest (omega arith)) ∙ take-append-le n (drop k b) rest (omega (arith, length-drop k b))
+
+  pub upper-filled : upperIn (filled b) ≡ upperIn b
+  upper-filled = ap (λ (n : ℕ). take n (drop 3 (filled b))) upper-length ∙ part-filled (upperLength b) 3 (omega (arith, q .size))
+
+  pub lower-filled : lowerIn (filled b) ≡ lowerIn b
+  lower-filled =
+      ap₂ (λ (n k : ℕ). take n (drop (4 + k) (filled b))) lower-length upper-length
+      ∙ part-filled (lowerLength b) (4 + upperLength b) (omega (arith, q .size))
+
+-- a question that asks a query
+pub record Asks (ls : List Line) (x : Question) : Type 0 where
+  pub query : List ℕ
+  pub is : queryOf ls ≡ says query
+  pub bytes-are : x .bytes ≡ filled query
+  pub task-is : taskIn (x .bytes) ≡ taskIn query
+  pub upper-is : upperIn (x .bytes) ≡ upperIn query
+  pub lower-is : lowerIn (x .bytes) ≡ lowerIn query
+
+pub asks-is : (ls : List Line) (x : Question) → x ≡ questionOf (queryOf ls) → x .asking ≡ Query → Asks ls x
+asks-is ls x e f = go (queryOf ls) refl e
+  where
+    go : (q : Asked) → queryOf ls ≡ q → x ≡ questionOf q → Asks ls x
+    go (fault c) k e = absurd (let z : _≡_ {A = ℕ} 0 1 = cc (ap (λ (y : Question). y .asking) e) in omega arith)
+    go (says b) k e =
+        let bytes : x .bytes ≡ filled b = ap (λ (y : Question). y .bytes) e in
+        let q = query-whole ls b k in
+        record {
+          query = b;
+          is = k;
+          bytes-are = bytes;
+          task-is = ap taskIn bytes ∙ task-filled b q;
+          upper-is = ap upperIn bytes ∙ upper-filled b q;
+          lower-is = ap lowerIn bytes ∙ lower-filled b q;
+        }

@@ -1,9 +1,9 @@
 -- Document 01, "Lines of the text": "exactly one query: `10`, task, upper length (one byte), upper letters, lower length, lower letters".
 use Prim.Native.Nat.{ℕ, _+_}
 use mathlib.Core.Bool.{Bool, cond, _&&_}
-use mathlib.Core.List.{List, [], _∷_}
+use mathlib.Core.List.{List, [], _∷_, _++_}
 use lib.Dec.{eqb}
-use lib.ListN.{length, getD, take, drop}
+use lib.ListN.{length, getD, take, drop, replicate}
 use Rattle.format.specs.declared.InputCause.{InputCause}
 use Rattle.format.specs.declared.InputCause.the-variants.{Malformed, Misplaced}
 use Rattle.format.specs.Rules.{isEmpty}
@@ -33,6 +33,10 @@ isQuery b = eqb (getD b 0 0) 16 && eqb (length b) (4 + upperLength b + lowerLeng
 pub data Asked : Type 0 where
   fault : InputCause → Asked
   says : List ℕ → Asked
+
+-- bytes from the front of an array of 514, which holds every query (3 + 255 + 1 + 255); the others are 0
+unfoldable pub filled : List ℕ → List ℕ
+filled b = b ++ drop (length b) (replicate 514 0)
 
 -- "a query missing, of wrong kind or length, or followed by text gives 2"; a line that is malformed gives 1
 unfoldable pub queryOf : List Line → Asked

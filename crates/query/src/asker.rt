@@ -1,14 +1,16 @@
 // The query: exactly one line.
 use crate::Asking;
 use crate::FirstLine;
+use crate::Question;
+use crate::wide;
 use format::InputCause;
 use hex::Decoded;
 ghost use mathlib.Core.Path.{_≡_};
 ghost use Prim.Native.Nat.{_<_};
 ghost use lib.ListN.{length};
 ghost use Rattle.format.specs.Line.{linesOf};
-ghost use Rattle.query.specs.Query.{queryOf};
-ghost use Rattle.query.specs.Asking.{firstLineOf, BytesIn, askingOf, wordsOf, QueryIn};
+ghost use Rattle.query.specs.Query.{isQuery, queryOf, fault};
+ghost use Rattle.query.specs.Asking.{firstLineOf, BytesIn, questionOf};
 
 // The bytes of the first line of a text, from the front of a buffer, those for which it has room.
 fn line_bytes(text: &[u8], bytes: &mut [u8]) -> FirstLine
@@ -43,52 +45,58 @@ fn line_bytes(text: &[u8], bytes: &mut [u8]) -> FirstLine
     FirstLine::Bad
 }
 
-fn wide(b: u8) -> usize
-    ensures { λ r. ⌜ (r ≡ b) × (r < 256) ⌝ }
-{
-    b as usize
-}
-
-// The words of a query's bytes: `10`, the task, a length with its letters, a length with its letters, and nothing else.
-fn words(bytes: &[u8]) -> Asking
-    ensures { λ r. ⌜ r ≡ wordsOf (now (bytes .entry)) ⌝ }
+// Whether bytes are a query's: `10`, the task, a length with its letters, a length with its letters, and nothing else.
+fn is_query(bytes: &[u8]) -> bool
+    ensures { λ r. ⌜ r ≡ isQuery (now (bytes .entry)) ⌝ }
 {
     if bytes.len() < 4 {
-        return Asking::Fault(InputCause::Misplaced);
+        return false;
     }
     if bytes[0] != 16 {
-        return Asking::Fault(InputCause::Misplaced);
+        return false;
     }
-    let upper = wide(bytes[2]);
-    let at = 3 + upper;
+    let at = 3 + wide(bytes[2]);
     if bytes.len() <= at {
-        return Asking::Fault(InputCause::Misplaced);
+        return false;
     }
-    let lower = wide(bytes[at]);
-    if bytes.len() != at + 1 + lower {
-        return Asking::Fault(InputCause::Misplaced);
-    }
-    Asking::Words { upper, lower }
+    bytes.len() == at + 1 + wide(bytes[at])
 }
 
-// The query of a text, its bytes from the front of a buffer.
-pub fn query(text: &[u8], bytes: &mut [u8]) -> Asking
-    requires { ⌜ length (now bytes) ≡ 514 ⌝ }
-    ensures { λ r. ⌜ (r ≡ askingOf (queryOf (linesOf (now (text .entry))))) × QueryIn (queryOf (linesOf (now (text .entry)))) (now (bytes .entry)) (now (bytes .exit)) ⌝ }
+// No query, for a cause.
+fn none(cause: InputCause) -> Question
+    ensures { λ r. ⌜ r ≡ questionOf (fault cause) ⌝ }
+{
+    Question {
+        asking: Asking::Fault(cause),
+        bytes: [0u8; 514],
+    }
+}
+
+// The query of a text.
+pub fn query(text: &[u8]) -> Question
+    ensures { λ r. ⌜ r ≡ questionOf (queryOf (linesOf (now (text .entry)))) ⌝ }
 {
     if text.len() == 0 {
-        return Asking::Fault(InputCause::Misplaced);
+        return none(InputCause::Misplaced);
     }
-    let first = line_bytes(text, bytes);
+    let mut bytes = [0u8; 514];
+    let first = line_bytes(text, &mut bytes);
     match first {
-        FirstLine::Bad => Asking::Fault(InputCause::Malformed),
+        FirstLine::Bad => none(InputCause::Malformed),
         FirstLine::Says { count, alone } => {
-            if alone {
-                if count <= 514 {
-                    return words(&bytes[..count]);
-                }
+            if !alone {
+                return none(InputCause::Misplaced);
             }
-            Asking::Fault(InputCause::Misplaced)
+            if 514 < count {
+                return none(InputCause::Misplaced);
+            }
+            if is_query(&bytes[..count]) {
+                return Question {
+                    asking: Asking::Query,
+                    bytes,
+                };
+            }
+            none(InputCause::Misplaced)
         }
     }
 }

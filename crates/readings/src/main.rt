@@ -6,13 +6,11 @@
 //     2E number                    a refusal
 //
 // Where standard input cannot be read or standard output not be written, it says so on standard error and stops.
-use format::Refusal;
 use session::Lined;
 use session::Opening;
 use session::Talk;
 use session::opener;
 use session::speaker;
-ghost use Prim.Native.Nat.{_+_, _≤_};
 ghost use lib.ListN.{length};
 ghost use Rattle.readings.specs.Read.{Within};
 
@@ -62,59 +60,28 @@ fn write_line(line: &[u8]) -> bool {
 
 // The lines of a session that is open, to the last.
 fn speak(
-    table: &[u16],
-    upper: &[u8],
-    lower: &[u8],
+    table: &[u16; 4612],
+    query: &[u8; 514],
     first: Talk,
-    stack: &mut [u32],
-    output: &mut [u8],
-    line: &mut [u8],
+    stack: &mut [u32; 16384],
+    output: &mut [u8; 4096],
+    line: &mut [u8; 8203],
 ) {
     let mut talk = first;
     let mut on = true;
     while on {
-        let lined = speaker::next_line(table, upper, lower, talk, stack, output, line);
+        let lined = speaker::next_line(table, query, talk, stack, output, line);
+        let text = &line[..];
         match lined {
             Lined::More { length, talk: next } => {
-                on = write_line(&line[..length]);
+                on = write_line(&text[..length]);
                 talk = next;
             }
             Lined::Last { length } => {
-                write_line(&line[..length]);
-                return;
-            }
-            Lined::Refused(_) => {
+                write_line(&text[..length]);
                 return;
             }
         }
-    }
-}
-
-// The session of an opening, with a stack of 4,096 frames and 4,096 letters of output.
-fn answer(table: &[u16], query: &[u8], upper: usize, lower: usize, talk: Talk, line: &mut [u8])
-    requires { ⌜ 4 + upper + lower ≤ length (now query) ⌝ }
-{
-    let mut stack = [0u32; 16384];
-    let mut output = [0u8; 4096];
-    let upper_end = 3 + upper;
-    let lower_start = upper_end + 1;
-    let lower_end = lower_start + lower;
-    speak(
-        table,
-        &query[3..upper_end],
-        &query[lower_start..lower_end],
-        talk,
-        &mut stack,
-        &mut output,
-        line,
-    );
-}
-
-// The line of an input that is refused.
-fn refuse(refusal: Refusal, line: &mut [u8]) {
-    let lined = speaker::refused_line(refusal, line);
-    if let Lined::Last { length } = lined {
-        write_line(&line[..length]);
     }
 }
 
@@ -131,10 +98,13 @@ fn main() {
     let opening = opener::begin(&input[..count], &mut table, &mut query);
     match opening {
         Opening::Refused(refusal) => {
-            refuse(refusal, &mut line);
+            let length = speaker::refused_line(refusal, &mut line);
+            write_line(&line[..length]);
         }
-        Opening::Ready { upper, lower, talk } => {
-            answer(&table, &query, upper, lower, talk, &mut line);
+        Opening::Ready(talk) => {
+            let mut stack = [0u32; 16384];
+            let mut output = [0u8; 4096];
+            speak(&table, &query, talk, &mut stack, &mut output, &mut line);
         }
     }
 }

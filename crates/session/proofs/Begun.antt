@@ -1,21 +1,20 @@
--- The opening, part by part: the length, the table, the query, the start, and the room for what is stored.
+-- The opening, part by part: the length, the table, the query, the start.
 use Prim.Native.Nat.{ℕ, _+_, _-_, _≤_, _<_}
 use native.Mathlib.Omega.{arith}
 use mathlib.Core.Path.{_≡_, refl, sym, ap, ap₂, subst, _∙_}
-use mathlib.Core.Bool.{Bool, true, false, cond, _&&_}
+use mathlib.Core.Bool.{Bool, true, false, cond}
 use mathlib.Core.List.{List, [], _++_}
-use lib.Dec.{leb}
 use lib.ListN.{length, take, drop, length-drop}
 use lib.Seq.{take-at, take-all}
-use borrow.Author.Tests.{le-leb, lt-leb, lt-ltb, le-ltb}
+use borrow.Author.Tests.{lt-ltb, le-ltb}
+use Rattle.format.specs.declared.InputCause.{InputCause}
 use Rattle.format.specs.declared.InputCause.the-variants.{CountLimit, IdleCycle}
-use Rattle.format.specs.declared.StateCause.the-variants.{DestinationShort}
 use Rattle.format.specs.declared.Refusal.{Refusal}
-use Rattle.format.specs.declared.Refusal.the-variants.{Input, State}
+use Rattle.format.specs.declared.Refusal.the-variants.{Input}
 use Rattle.table.specs.declared.Answer.the-variants as A
 use Rattle.format.specs.Table.{Table}
 use Rattle.format.specs.Loaded.{cellsOf}
-use Rattle.format.specs.Line.{linesOf}
+use Rattle.format.specs.Line.{Line, linesOf}
 use Rattle.format.specs.Parse.{Parsed, accepted, turnedDown, parsed}
 use Rattle.table.specs.Calls.{readAs, readAnswer, readCells}
 use Rattle.format.proofs.Rules.{table-bounded}
@@ -26,74 +25,45 @@ use Rattle.machine.specs.declared.Run.{Run}
 use Rattle.machine.specs.declared.StartAnswer.{StartAnswer}
 use Rattle.machine.specs.declared.StartAnswer.the-variants as T
 use Rattle.machine.specs.declared.Started.{Started}
-use Rattle.machine.specs.Asked.{Asked, turned, runs, asked}
+use Rattle.machine.specs.Asked as M
 use Rattle.machine.specs.Idle.{hasIdleCycle}
 use Rattle.machine.specs.Start.{firstRun, startedWith, startedAs, started, StartIs}
 use Rattle.query.specs.Parts.{tableText, queryText, tableSize}
-use Rattle.query.specs.Query.{taskIn, upperLength, lowerLength, upperIn, lowerIn, isQuery, queryOf}
+use Rattle.query.specs.declared.Question.{Question}
+use Rattle.query.specs.declared.Asking.the-variants.{Fault, Query}
+use Rattle.query.specs.Query.{taskIn, upperIn, lowerIn, queryOf}
+use Rattle.query.specs.Asking.{questionOf}
 use Rattle.query.proofs.Parts.{size-inside}
-use Rattle.query.proofs.Query.{IsQuery, query-facts}
+use Rattle.query.proofs.Query.{fault-is, Asks, asks-is}
 use Rattle.session.specs.declared.Talk.{Talk}
 use Rattle.session.specs.declared.Opening.{Opening}
 use Rattle.session.specs.declared.Opening.the-variants.{Ready, Refused}
 use Rattle.session.specs.Opened.{Opened, refused, ready, openedAs, startedOn, openedQuery, openedTable, opened}
-use Rattle.session.specs.Begun.{Begun, firstTalk, begunNot, begun, BegunIs}
+use Rattle.session.specs.Begun.{Begun, firstTalk, begun, BegunIs}
 
 -- What is answered and left, by what an input gives.
 
-module _ (o : Opened) (table query : List ℕ) where
-  abbrev Is : Opening → List ℕ → List ℕ → Type 0
-  Is r t q = BegunIs (begun o table query) r t q
+pub begun-same : (x y : Begun) (r : Opening) (t q : List ℕ) → x ≡ y → BegunIs x r t q → BegunIs y r t q
+begun-same x y r t q e i = subst (λ (z : Begun). BegunIs z r t q) e i
 
-  pub begun-refused : (r : Refusal) → o ≡ refused r → Is (Refused r) table query
-  begun-refused r e = subst (λ (x : Opened). BegunIs (begun x table query) (Refused r) table query) (sym e) (refl, refl, refl)
-
-  module _ (cells b : List ℕ) (run : Run) (e : o ≡ ready cells b run) where
-    abbrev stored : Begun
-    stored =
-        record { opening = Ready (upperLength b) (lowerLength b) (firstTalk run); table = cells ++ drop (length cells) table; query = b ++ drop (length b) query }
-
-    by-room : (x : Bool) (r : Opening) (t q : List ℕ) → (leb (length cells) (length table) && leb (length b) (length query)) ≡ x
-        → BegunIs (cond x stored (begunNot (State DestinationShort) table query)) r t q → Is r t q
-    by-room x r t q h i =
-        subst (λ (y : Opened). BegunIs (begun y table query) r t q) (sym e)
-        (subst (λ (y : Bool). BegunIs (cond y stored (begunNot (State DestinationShort) table query)) r t q) (sym h) i)
-
-    nothing : (x : Bool) → (x && false) ≡ false
-    nothing true = refl
-    nothing false = refl
-
-    pub begun-short-table : length table < length cells → Is (Refused (State DestinationShort)) table query
-    begun-short-table h =
-        by-room false (Refused (State DestinationShort)) table query
-        (ap (λ (x : Bool). x && leb (length b) (length query)) (lt-leb (length cells) (length table) h)) (refl, refl, refl)
-
-    pub begun-short-query : length query < length b → Is (Refused (State DestinationShort)) table query
-    begun-short-query h =
-        by-room false (Refused (State DestinationShort)) table query
-        (ap (λ (x : Bool). leb (length cells) (length table) && x) (lt-leb (length b) (length query) h) ∙ nothing (leb (length cells) (length table))) (refl, refl, refl)
-
-    pub begun-ready : length cells ≤ length table → length b ≤ length query → (upper lower : ℕ) (talk : Talk) (t q : List ℕ) → upper ≡ upperLength b → lower ≡ lowerLength b → talk ≡ firstTalk run
-        → t ≡ cells ++ drop (length cells) table → q ≡ b ++ drop (length b) query → Is (Ready upper lower talk) t q
-    begun-ready h g upper lower talk t q u l k i j =
-        by-room true (Ready upper lower talk) t q (ap₂ _&&_ (le-leb (length cells) (length table) h) (le-leb (length b) (length query) g))
-        ((λ x. Ready (u x) (l x) (k x)), i, j)
+pub begun-refused : (o : Opened) (table query : List ℕ) (r : Refusal) → o ≡ refused r → BegunIs (begun o table query) (Refused r) table query
+begun-refused o table query r e = subst (λ (x : Opened). BegunIs (begun x table query) (Refused r) table query) (sym e) (refl, refl, refl)
 
 -- The start.
 
 -- neither answer nor run depends on the cycle that is told
-answer-same : (w : Asked) (task : ℕ) (cycle : List ℕ) → startedAs w task cycle .answer ≡ startedAs w task [] .answer
-answer-same (turned r) task cycle = refl
-answer-same (runs t q) task cycle = go (hasIdleCycle t (q .task))
+answer-same : (w : M.Asked) (task : ℕ) (cycle : List ℕ) → startedAs w task cycle .answer ≡ startedAs w task [] .answer
+answer-same (M.turned r) task cycle = refl
+answer-same (M.runs t q) task cycle = go (hasIdleCycle t (q .task))
   where
     go : (b : Bool) → cond b (startedWith (T.Refused (Input IdleCycle)) (firstRun 0) cycle) (startedWith T.Ready (firstRun task) []) .answer
         ≡ cond b (startedWith (T.Refused (Input IdleCycle)) (firstRun 0) []) (startedWith T.Ready (firstRun task) []) .answer
     go true = refl
     go false = refl
 
-run-same : (w : Asked) (task : ℕ) (cycle : List ℕ) → startedAs w task cycle .run ≡ startedAs w task [] .run
-run-same (turned r) task cycle = refl
-run-same (runs t q) task cycle = go (hasIdleCycle t (q .task))
+run-same : (w : M.Asked) (task : ℕ) (cycle : List ℕ) → startedAs w task cycle .run ≡ startedAs w task [] .run
+run-same (M.turned r) task cycle = refl
+run-same (M.runs t q) task cycle = go (hasIdleCycle t (q .task))
   where
     go : (b : Bool) → cond b (startedWith (T.Refused (Input IdleCycle)) (firstRun 0) cycle) (startedWith T.Ready (firstRun task) []) .run
         ≡ cond b (startedWith (T.Refused (Input IdleCycle)) (firstRun 0) []) (startedWith T.Ready (firstRun task) []) .run
@@ -104,44 +74,42 @@ start-same : (cells : List ℕ) (task : ℕ) (upper lower : List ℕ) (s : Start
     → (s .answer ≡ started cells task upper lower [] .answer) × (s .run ≡ started cells task upper lower [] .run)
 unfolding started
 start-same cells task upper lower s S = (
-  ap (λ (x : Started). x .answer) (S .is) ∙ answer-same (asked cells task upper lower) task (S .cycle),
-  ap (λ (x : Started). x .run) (S .is) ∙ run-same (asked cells task upper lower) task (S .cycle),
+  ap (λ (x : Started). x .answer) (S .is) ∙ answer-same (M.asked cells task upper lower) task (S .cycle),
+  ap (λ (x : Started). x .run) (S .is) ∙ run-same (M.asked cells task upper lower) task (S .cycle),
 )
 
--- the words are parts of the query's bytes
-pub record Parted (b : List ℕ) (upper lower : ℕ) : Type 0 where
-  pub query : IsQuery b
-  pub upper-is : upper ≡ upperLength b
-  pub lower-is : lower ≡ lowerLength b
-  pub size : length b ≡ 4 + upper + lower
+-- The query.
 
-pub parted : (b : List ℕ) (upper lower : ℕ) → (isQuery b ≡ true) × (upper ≡ upperLength b) × (lower ≡ lowerLength b) → Parted b upper lower
-parted b upper lower (e, u, l) = let q = query-facts b e in record { query = q; upper-is = u; lower-is = l; size = omega (arith, q .size) }
+pub query-faults : (cells : List ℕ) (ls : List Line) (x : Question) (cause : InputCause) → x ≡ questionOf (queryOf ls) → x .asking ≡ Fault cause
+    → openedQuery cells (queryOf ls) ≡ refused (Input cause)
+query-faults cells ls x cause e f = ap (openedQuery cells) (fault-is (queryOf ls) x cause e f)
 
-module _ (cells b : List ℕ) (upper lower task : ℕ) (P : Parted b upper lower) (task-is : task ≡ taskIn b) (s : Started)
-    (S : StartIs cells task (take (3 + upper - 3) (drop 3 b)) (take (3 + upper + 1 + lower - (3 + upper + 1)) (drop (3 + upper + 1) b)) s) where
-  upper-part : take (3 + upper - 3) (drop 3 b) ≡ upperIn b
-  upper-part = let n : 3 + upper - 3 ≡ upperLength b = omega (arith, P .upper-is) in ap (λ (k : ℕ). take k (drop 3 b)) n
+module _ (cells : List ℕ) (ls : List Line) (x : Question) (e : x ≡ questionOf (queryOf ls)) (f : x .asking ≡ Query)
+    (task : ℕ) (task-is : task ≡ taskIn (x .bytes)) (upper lower : List ℕ) (upper-is : upper ≡ upperIn (x .bytes)) (lower-is : lower ≡ lowerIn (x .bytes))
+    (s : Started) (S : StartIs cells task upper lower s) where
+  asks : Asks ls x
+  asks = asks-is ls x e f
 
-  lower-part : take (3 + upper + 1 + lower - (3 + upper + 1)) (drop (3 + upper + 1) b) ≡ lowerIn b
-  lower-part =
-      let n : 3 + upper + 1 + lower - (3 + upper + 1) ≡ lowerLength b = omega (arith, P .lower-is) in
-      let from : 3 + upper + 1 ≡ 4 + upperLength b = omega (arith, P .upper-is) in
-      ap₂ (λ (k m : ℕ). take k (drop m b)) n from
-
-  opened-start : startedOn cells b ≡ openedAs cells b (s .answer) (s .run)
+  opened-start : openedQuery cells (queryOf ls) ≡ openedAs cells (asks .query) (s .answer) (s .run)
   unfolding startedOn
   opened-start =
-      let same = start-same cells task _ _ s S in
-      ap₂ (openedAs cells b)
-      (sym (same .0 ∙ (λ i. started cells (task-is i) (upper-part i) (lower-part i) [] .answer)))
-      (sym (same .1 ∙ (λ i. started cells (task-is i) (upper-part i) (lower-part i) [] .run)))
+      let same = start-same cells task upper lower s S in
+      let t = task-is ∙ asks .task-is in
+      let u = upper-is ∙ asks .upper-is in
+      let l = lower-is ∙ asks .lower-is in
+      ap (openedQuery cells) (asks .is)
+      ∙ ap₂ (openedAs cells (asks .query)) (sym (same .0 ∙ (λ i. started cells (t i) (u i) (l i) [] .answer))) (sym (same .1 ∙ (λ i. started cells (t i) (u i) (l i) [] .run)))
 
-  pub start-ready : s .answer ≡ T.Ready → startedOn cells b ≡ ready cells b (s .run)
-  start-ready e = opened-start ∙ ap (λ (x : StartAnswer). openedAs cells b x (s .run)) e
+  pub start-refused : (table query : List ℕ) (r : Refusal) → s .answer ≡ T.Refused r → BegunIs (begun (openedQuery cells (queryOf ls)) table query) (Refused r) table query
+  start-refused table query r g =
+      begun-refused (openedQuery cells (queryOf ls)) table query r (opened-start ∙ ap (λ (a : StartAnswer). openedAs cells (asks .query) a (s .run)) g)
 
-  pub start-refused : (r : Refusal) → s .answer ≡ T.Refused r → startedOn cells b ≡ refused r
-  start-refused r e = opened-start ∙ ap (λ (x : StartAnswer). openedAs cells b x (s .run)) e
+  pub start-ready : (table query : List ℕ) → s .answer ≡ T.Ready → (talk : Talk) (t : List ℕ) → talk ≡ firstTalk (s .run) → t ≡ cells ++ drop (length cells) table
+      → BegunIs (begun (openedQuery cells (queryOf ls)) table query) (Ready talk) t (x .bytes)
+  start-ready table query g talk t k i =
+      begun-same (begun (ready cells (asks .query) (s .run)) table query) (begun (openedQuery cells (queryOf ls)) table query) (Ready talk) t (x .bytes)
+      (sym (ap (λ (o : Opened). begun o table query) (opened-start ∙ ap (λ (a : StartAnswer). openedAs cells (asks .query) a (s .run)) g)))
+      (ap Ready k, i, asks .bytes-are)
 
 -- The input.
 

@@ -2,25 +2,22 @@
 use Prim.Native.Nat.{ℕ, zero, suc, _+_, _≤_, _<_}
 use native.Mathlib.Omega.{arith}
 use mathlib.Core.Path.{_≡_, refl, sym, ap, ap₂, subst, _∙_}
-use mathlib.Core.Bool.{Bool, true, false, cond, _&&_}
+use mathlib.Core.Bool.{Bool, true, false, cond}
 use mathlib.Core.Option.{Option, none, some}
 use mathlib.Core.List.{List, [], _∷_, _++_, map, append-nil}
 use lib.Dec.{leb, ltb}
-use lib.ListN.{length, take, drop, replicate, length-append, length-drop, length-replicate}
-use lib.Seq.{take-nil, take-at, take-append-le, drop-append-le}
-use borrow.Author.Tests.{leb-false, le-leb}
-use Rattle.format.specs.declared.InputCause.the-variants.{CountLimit, Malformed, Misplaced}
+use lib.ListN.{length, take, drop}
+use lib.Seq.{take-nil, take-at}
+use borrow.Author.Tests.{leb-false}
+use Rattle.format.specs.declared.InputCause.the-variants.{CountLimit}
 use Rattle.format.specs.declared.Refusal.{Refusal}
-use Rattle.format.specs.declared.Refusal.the-variants.{Input, State}
-use Rattle.format.specs.declared.StateCause.the-variants.{DestinationShort}
+use Rattle.format.specs.declared.Refusal.the-variants.{Input}
 use Rattle.format.specs.Table.{Table}
-use Rattle.format.specs.Rules.{isEmpty, keepsRules}
+use Rattle.format.specs.Rules.{keepsRules}
 use Rattle.format.specs.Loaded.{cellsOf, loaded}
-use Rattle.format.specs.Line.{Line, linesOf, malformed, bytesOf, lineText}
+use Rattle.format.specs.Line.{linesOf, lineText}
 use Rattle.format.specs.Parse.{Parsed, accepted, turnedDown, parsed}
-use Rattle.format.proofs.Tests.{and-left}
 use Rattle.format.proofs.Loaded.{loaded-cells}
-use Rattle.format.proofs.Line.{line-bytes}
 use Rattle.format.proofs.Determine.{read-text}
 use Rattle.machine.specs.declared.Run.{Run}
 use Rattle.machine.specs.declared.Answer.{Answer}
@@ -31,28 +28,19 @@ use Rattle.machine.specs.Start.{started}
 use Rattle.machine.specs.Asked.{askedTable, asked}
 use Rattle.machine.specs.Reading.{Outcome, outcomeOf, outcome}
 use Rattle.query.specs.Parts.{tableText, queryText}
-use Rattle.query.specs.Query.{Asked, fault, says, taskIn, upperLength, lowerLength, upperIn, lowerIn, isQuery, queryOf}
-use Rattle.query.proofs.Query.{IsQuery, query-facts, query-most}
+use Rattle.query.specs.Query.{Asked, fault, says, taskIn, upperIn, lowerIn, filled, queryOf}
+use Rattle.query.proofs.Query.{IsQuery, query-whole, upper-filled, lower-filled}
 use Rattle.replies.specs.Lines.{readingLine, limitLine, refusalLine, storedLine}
 use Rattle.session.specs.declared.Talk.{Talk}
-use Rattle.session.specs.declared.Opening.{Opening}
-use Rattle.session.specs.declared.Opening.the-variants.{Ready}
 use Rattle.caller.specs.declared.Said.the-variants as S
-use Rattle.session.specs.declared.Lined.the-variants as L
 use Rattle.session.specs.Opened.{Opened, refused, ready, openedAs, startedOn, openedQuery, openedTable, opened}
-use Rattle.session.specs.Begun.{Begun, firstTalk, begunNot, begun, BegunIs}
-use Rattle.session.specs.Session.{told, linesLeft, linesOn, sessionLines}
+use Rattle.session.specs.Begun.{firstTalk, begun}
+use Rattle.session.specs.Session.{told, linesLeft, firstStack, firstOutput, linesOn, sessionLines}
 use Rattle.caller.specs.Heard.{heardBy, heard}
-use Rattle.session.specs.Next.{Spoken, spokenOf, nextLine, Lining, linedAs, liningOf, liningNot, lining, refusalLined, refusalLeft}
+use Rattle.session.specs.Next.{Spoken, spokenOf, nextLine, linedAs, liningOf, lining}
 use Rattle.session.specs.Given.{textsAs, textsBy, spoken, spokenAfter}
-use Rattle.session.proofs.Begun.{cells-most}
-use Rattle.session.proofs.Output.{next-length}
 
 -- A line's text at the front of the line buffer.
-
--- a buffer with room for every line stays one
-stored-room : (b line : List ℕ) → 8203 ≤ length line → 8203 ≤ length (storedLine b line)
-stored-room b line room = omega (arith, length-append (lineText b) (drop (length (lineText b)) line), length-drop (length (lineText b)) line)
 
 stored-front : (b line : List ℕ) → take (length (lineText b)) (storedLine b line) ≡ lineText b
 stored-front b line = take-at (lineText b) (drop (length (lineText b)) line) (length (lineText b)) refl
@@ -75,18 +63,10 @@ texts-lined s line k = go (s .after)
     go (some t) = ap (λ (x : List ℕ). x ∷ k t (s .stack) (s .output) l) (stored-front (s .bytes) line)
 
 -- the line of a refusal alone
-texts-refused : (n : ℕ) (r : Refusal) (line : List ℕ) → 5 ≤ length line
-    → take n (textsAs (refusalLined r line) (refusalLeft r line) (λ t. [])) ≡ map lineText (take n (refusalLine r ∷ []))
-texts-refused n r line room =
-    ap
-    (λ (b : Bool). take n (textsAs (cond b (L.Last (length (lineText (refusalLine r)))) (L.Refused (State DestinationShort))) (cond b (storedLine (refusalLine r) line) line) (λ t. [])))
-    (le-leb 5 (length line) room)
-    ∙ ap (λ (x : List ℕ). take n (x ∷ [])) (stored-front (refusalLine r) line)
-    ∙ one n
-  where
-    one : (n : ℕ) → take n (lineText (refusalLine r) ∷ []) ≡ map lineText (take n (refusalLine r ∷ []))
-    one zero = refl
-    one (suc n) = ap (λ (ls : List (List ℕ)). lineText (refusalLine r) ∷ ls) (take-nil n ∙ sym (ap (map lineText) (take-nil n)))
+texts-refused : (n : ℕ) (r : Refusal) (line : List ℕ)
+    → take n (take (length (lineText (refusalLine r))) (storedLine (refusalLine r) line) ∷ []) ≡ map lineText (take n (refusalLine r ∷ []))
+texts-refused zero r line = refl
+texts-refused (suc n) r line = ap₂ (λ (x : List ℕ) (ls : List (List ℕ)). x ∷ ls) (stored-front (refusalLine r) line) (take-nil n ∙ sym (ap (map lineText) (take-nil n)))
 
 -- The lines that are left, by the next one.
 
@@ -150,38 +130,27 @@ module _ (cells upper lower : List ℕ) where
       go true e = left-limit (talk .calls) (talk .run) stack output (talk .count) e ∙ sym (ap whole (next-limit talk stack output e))
       go false e = left-heard (talk .count) e (talk .calls) (talk .run) stack output ∙ sym (ap whole (next-heard talk stack output e))
 
-  -- where there is room, the call leaves the next line's text
-  lining-next : (talk : Talk) (stack output line : List ℕ) → 8203 ≤ length line → length output ≤ 4096
-      → lining cells upper lower talk stack output line ≡ liningOf (nextLine cells upper lower talk stack output) line
-  unfolding lining
-  lining-next talk stack output line room few =
-      ap (λ (b : Bool). cond b (liningOf (nextLine cells upper lower talk stack output) line) (liningNot stack output line))
-      (ap₂ _&&_ (le-leb 8203 (length line) room) (le-leb (length output) 4096 few))
+-- call after call, the texts are those of the lines left
+spoken-lines : (cells query : List ℕ) (n : ℕ) (talk : Talk) (stack output line : List ℕ)
+    → spoken cells query n talk stack output line ≡ map lineText (take n (linesLeft cells (upperIn query) (lowerIn query) (talk .calls) (talk .run) stack output (talk .count)))
+unfolding spoken lining
+spoken-lines cells query zero talk stack output line = refl
+spoken-lines cells query (suc n) talk stack output line =
+    texts-lined next line (λ t s o l. spoken cells query n t s o l)
+    ∙ ap (λ (ls : List (List ℕ)). lineText (next .bytes) ∷ ls)
+    (rest (next .after) (next .stack) (next .output) (storedLine (next .bytes) line) (λ t s o l. spoken-lines cells query n t s o l))
+    ∙ sym (ap (λ (ls : List (List ℕ)). map lineText (take (suc n) ls)) (left-next cells (upperIn query) (lowerIn query) talk stack output))
+  where
+    next : Spoken
+    next = nextLine cells (upperIn query) (lowerIn query) talk stack output
 
-  -- call after call, the texts are those of the lines left
-  spoken-lines : (n : ℕ) (talk : Talk) (stack output line : List ℕ) → 8203 ≤ length line → length output ≤ 4096
-      → spoken cells upper lower n talk stack output line ≡ map lineText (take n (left (talk .calls) (talk .run) stack output (talk .count)))
-  unfolding spoken
-  spoken-lines zero talk stack output line room few = refl
-  spoken-lines (suc n) talk stack output line room few =
-      ap (λ (x : Lining). textsBy x on) (lining-next talk stack output line room few)
-      ∙ texts-lined next line on
-      ∙ ap (λ (ls : List (List ℕ)). lineText (next .bytes) ∷ ls)
-      (rest (next .after) (next .stack) (next .output) (storedLine (next .bytes) line) (stored-room (next .bytes) line room) (omega (arith, next-length cells upper lower talk stack output))
-      (λ t s o l g h. spoken-lines n t s o l g h))
-      ∙ sym (ap (λ (ls : List (List ℕ)). map lineText (take (suc n) ls)) (left-next talk stack output))
-    where
-      next : Spoken
-      next = nextLine cells upper lower talk stack output
+    lines : Talk → List ℕ → List ℕ → List (List ℕ)
+    lines t s o = linesLeft cells (upperIn query) (lowerIn query) (t .calls) (t .run) s o (t .count)
 
-      on : Talk → List ℕ → List ℕ → List ℕ → List (List ℕ)
-      on t s o l = spoken cells upper lower n t s o l
-
-      rest : (a : Option Talk) (s o l : List ℕ) → 8203 ≤ length l → length o ≤ 4096
-          → ((t : Talk) (s o l : List ℕ) → 8203 ≤ length l → length o ≤ 4096 → spoken cells upper lower n t s o l ≡ map lineText (take n (left (t .calls) (t .run) s o (t .count))))
-          → onward a (λ t. spoken cells upper lower n t s o l) ≡ map lineText (take n (onward a (λ t. left (t .calls) (t .run) s o (t .count))))
-      rest none s o l g h f = sym (ap (map lineText) (take-nil n))
-      rest (some t) s o l g h f = f t s o l g h
+    rest : (a : Option Talk) (s o l : List ℕ) → ((t : Talk) (s o l : List ℕ) → spoken cells query n t s o l ≡ map lineText (take n (lines t s o)))
+        → onward a (λ t. spoken cells query n t s o l) ≡ map lineText (take n (onward a (λ t. lines t s o)))
+    rest none s o l f = sym (ap (map lineText) (take-nil n))
+    rest (some t) s o l f = f t s o l
 
 -- Cells beyond the table play no part.
 
@@ -217,32 +186,11 @@ pub record Whole (cells b : List ℕ) : Type 0 where
   pub table : Table
   pub cells-are : cells ≡ cellsOf table
   pub keeps : keepsRules table ≡ true
-  pub few : length cells ≤ 4612
   pub query : IsQuery b
-  pub short : length b ≤ 514
 
 abbrev WholeIf : Opened → Type 0
 WholeIf (refused r) = Unit {0}
 WholeIf (ready cells b run) = Whole cells b
-
-query-whole : (ls : List Line) (b : List ℕ) → queryOf ls ≡ says b → IsQuery b × (length b ≤ 514)
-unfolding queryOf
-query-whole [] b e = absurd (let z : _≡_ {A = ℕ} 0 1 = cc in omega arith)
-query-whole (l ∷ ls) b e = go (malformed l) refl e
-  where
-    c : List ℕ
-    c = bytesOf (l .chars)
-
-    is : malformed l ≡ false → (x : Bool) → (isQuery c && isEmpty ls) ≡ x → cond x (says c) (fault Misplaced) ≡ says b → IsQuery b × (length b ≤ 514)
-    is m true h e =
-        let same : c ≡ b = cc in
-        let q = query-facts c (and-left (isQuery c) (isEmpty ls) h) in
-        subst (λ (x : List ℕ). IsQuery x × (length x ≤ 514)) same (q, query-most c (line-bytes l m .1) q)
-    is m false h e = absurd (let z : _≡_ {A = ℕ} 0 1 = cc in omega arith)
-
-    go : (x : Bool) → malformed l ≡ x → cond x (fault Malformed) (cond (isQuery c && isEmpty ls) (says c) (fault Misplaced)) ≡ says b → IsQuery b × (length b ≤ 514)
-    go true m e = absurd (let z : _≡_ {A = ℕ} 0 1 = cc in omega arith)
-    go false m e = is m (isQuery c && isEmpty ls) refl e
 
 opened-whole : (input : List ℕ) → WholeIf (opened input)
 unfolding opened startedOn
@@ -259,53 +207,29 @@ opened-whole input = go (ltb 65536 (length input)) (parsed (tableText input)) re
     go false (accepted t) e (fault c) f =
         subst (λ (y : Parsed). WholeIf (openedTable y (linesOf (queryText input)))) (sym e) (subst (λ (y : Asked). WholeIf (openedQuery (cellsOf t) y)) (sym f) tt)
     go false (accepted t) e (says b) f =
-        let w = query-whole (linesOf (queryText input)) b f in
         subst (λ (y : Parsed). WholeIf (openedTable y (linesOf (queryText input)))) (sym e)
         (subst (λ (y : Asked). WholeIf (openedQuery (cellsOf t) y)) (sym f)
         (begins (cellsOf t) b (started (cellsOf t) (taskIn b) (upperIn b) (lowerIn b) [] .answer) (started (cellsOf t) (taskIn b) (upperIn b) (lowerIn b) [] .run)
-        (record {
-          table = t;
-          cells-are = refl;
-          keeps = read-text (tableText input) t e .0;
-          few = cells-most (tableText input) t e;
-          query = w .0;
-          short = w .1;
-        })))
+        (record { table = t; cells-are = refl; keeps = read-text (tableText input) t e .0; query = query-whole (linesOf (queryText input)) b f })))
 
--- the words are where the opening says
-upper-stored : (b rest : List ℕ) → IsQuery b → take (upperLength b) (drop 3 (b ++ rest)) ≡ upperIn b
-upper-stored b rest q =
-    ap (take (upperLength b)) (drop-append-le 3 b rest (omega (arith, q .size)))
-    ∙ take-append-le (upperLength b) (drop 3 b) rest (omega (arith, q .size, length-drop 3 b))
-
-lower-stored : (b rest : List ℕ) → IsQuery b → take (lowerLength b) (drop (4 + upperLength b) (b ++ rest)) ≡ lowerIn b
-lower-stored b rest q =
-    ap (take (lowerLength b)) (drop-append-le (4 + upperLength b) b rest (omega (arith, q .size)))
-    ∙ take-append-le (lowerLength b) (drop (4 + upperLength b) b) rest (omega (arith, q .size, length-drop (4 + upperLength b) b))
-
-module _ (table query line : List ℕ) (room : 4612 ≤ length table) (space : 514 ≤ length query) (long : 8203 ≤ length line) (n : ℕ) where
+module _ (table query line : List ℕ) (n : ℕ) where
   by-opened : (o : Opened) → WholeIf o → spokenAfter n (begun o table query) line ≡ map lineText (take n (linesOn o))
-  by-opened (refused r) w = texts-refused n r line (omega arith)
+  by-opened (refused r) w = texts-refused n r line
   by-opened (ready cells b run) w =
-      ap (λ (x : Begun). spokenAfter n x line)
-      (ap
-      (λ (x : Bool). cond x
-      (record { opening = Ready (upperLength b) (lowerLength b) (firstTalk run); table = cells ++ drop (length cells) table; query = b ++ drop (length b) query })
-      (begunNot (State DestinationShort) table query))
-      (ap₂ _&&_ (le-leb (length cells) (length table) (omega (arith, w .few))) (le-leb (length b) (length query) (omega (arith, w .short)))))
-      ∙ ap₂ (λ (u l : List ℕ). spoken (cells ++ drop (length cells) table) u l n (firstTalk run) (replicate 16384 0) (replicate 4096 0) line)
-      (upper-stored b (drop (length b) query) (w .query)) (lower-stored b (drop (length b) query) (w .query))
-      ∙ spoken-lines (cells ++ drop (length cells) table) (upperIn b) (lowerIn b) n (firstTalk run) (replicate 16384 0) (replicate 4096 0) line long few
+      spoken-lines (cells ++ rest) (filled b) n (firstTalk run) firstStack firstOutput line
       ∙ ap (λ (ls : List (List ℕ)). map lineText (take n ls)) same
     where
-      few : length {A = ℕ} (replicate 4096 0) ≤ 4096
-      few = omega (arith, length-replicate {A = ℕ} 4096 0)
+      rest : List ℕ
+      rest = drop (length cells) table
 
-      same : linesLeft (cells ++ drop (length cells) table) (upperIn b) (lowerIn b) 65536 run (replicate 16384 0) (replicate 4096 0) 0 ≡ linesOn (ready cells b run)
+      lines : (cells upper lower : List ℕ) → List (List ℕ)
+      lines cells upper lower = linesLeft cells upper lower 65536 run firstStack firstOutput 0
+
+      same : lines (cells ++ rest) (upperIn (filled b)) (lowerIn (filled b)) ≡ lines cells (upperIn b) (lowerIn b)
       same =
-          ap (λ (c : List ℕ). linesLeft (c ++ drop (length cells) table) (upperIn b) (lowerIn b) 65536 run (replicate 16384 0) (replicate 4096 0) 0) (w .cells-are)
-          ∙ left-same (w .table) (w .keeps) (drop (length cells) table) (upperIn b) (lowerIn b) 65536 run (replicate 16384 0) (replicate 4096 0) 0
-          ∙ ap (λ (c : List ℕ). linesLeft c (upperIn b) (lowerIn b) 65536 run (replicate 16384 0) (replicate 4096 0) 0) (sym (w .cells-are))
+          (λ i. lines (w .cells-are i ++ rest) (upper-filled b (w .query) i) (lower-filled b (w .query) i))
+          ∙ left-same (w .table) (w .keeps) rest (upperIn b) (lowerIn b) 65536 run firstStack firstOutput 0
+          ∙ ap (λ (c : List ℕ). lines c (upperIn b) (lowerIn b)) (sym (w .cells-are))
 
   pub lines-spoken : (input : List ℕ) → spokenAfter n (begun (opened input) table query) line ≡ map lineText (take n (sessionLines input))
   unfolding sessionLines
@@ -340,25 +264,4 @@ lines-few input = go (opened input)
   where
     go : (o : Opened) → length (linesOn o) ≤ 1001
     go (refused r) = omega arith
-    go (ready cells b run) = omega (arith, left-few cells (upperIn b) (lowerIn b) 65536 run (replicate 16384 0) (replicate 4096 0) 0 (omega arith))
-
--- Where the opening is ready, the words are within the bytes for the query.
-
-pub ready-inside : (input table query : List ℕ) (r : Opening) (t q : List ℕ) → BegunIs (begun (opened input) table query) r t q
-    → (upper lower : ℕ) (talk : Talk) → r ≡ Ready upper lower talk → 4 + upper + lower ≤ length q
-ready-inside input table query r t q I upper lower talk e = go (opened input) (opened-whole input) I
-  where
-    go : (o : Opened) → WholeIf o → BegunIs (begun o table query) r t q → 4 + upper + lower ≤ length q
-    go (refused c) w I = absurd (let z : _≡_ {A = ℕ} 0 1 = cc (sym e ∙ I .0) in omega arith)
-    go (ready cells b run) w I = by (leb (length cells) (length table) && leb (length b) (length query)) I
-      where
-        by : (x : Bool)
-            → BegunIs
-            (cond x (record { opening = Ready (upperLength b) (lowerLength b) (firstTalk run); table = cells ++ drop (length cells) table; query = b ++ drop (length b) query })
-            (begunNot (State DestinationShort) table query)) r t q
-            → 4 + upper + lower ≤ length q
-        by true I =
-            let u : upper ≡ upperLength b = cc (sym e ∙ I .0) in
-            let l : lower ≡ lowerLength b = cc (sym e ∙ I .0) in
-            omega (arith, w .query .size, ap length (I .2), length-append b (drop (length b) query))
-        by false I = absurd (let z : _≡_ {A = ℕ} 0 1 = cc (sym e ∙ I .0) in omega arith)
+    go (ready cells b run) = omega (arith, left-few cells (upperIn b) (lowerIn b) 65536 run firstStack firstOutput 0 (omega arith))

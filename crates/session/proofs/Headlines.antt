@@ -22,12 +22,12 @@ unfolding joinLines flatten
 join-texts [] = refl
 join-texts (b ∷ ls) = ap (λ (l : List ℕ). lineText b ++ l) (join-texts ls)
 
--- For every input, whatever the cells for the table, the bytes for the query and the line buffer held, and however long they are beyond what is
--- asked here, and for every number of calls. Fixed are the stack and the output buffer of the first call: 16,384 and 4,096 zeros.
-module _ (input table query line : List ℕ) (room : 4612 ≤ length table) (space : 514 ≤ length query) (long : 8203 ≤ length line) where
+-- For every input, whatever the cells for the table, the bytes for the query and the line buffer held, and for every number of calls. The stack and
+-- the output buffer of the first call are zeros.
+module _ (input table query line : List ℕ) where
   -- The opening, and then at most n calls, give the texts of the session's lines, from the first on.
   pub session-lines : (n : ℕ) → spokenAfter n (begun (opened input) table query) line ≡ map lineText (take n (sessionLines input))
-  session-lines n = lines-spoken table query line room space long n input
+  session-lines n = lines-spoken table query line n input
 
   -- 1,001 calls give all of them
   pub session-all : spokenAfter 1001 (begun (opened input) table query) line ≡ map lineText (sessionLines input)

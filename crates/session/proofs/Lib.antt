@@ -2,7 +2,6 @@
 pub mod Copying
 pub mod Begun
 pub mod Next
-pub mod Output
 pub mod Given
 pub mod Headlines
 pub mod Cases

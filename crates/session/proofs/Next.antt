@@ -2,15 +2,13 @@
 use Prim.Native.Nat.{ℕ, zero, suc, _+_, _≤_, _<_}
 use native.Mathlib.Omega.{arith}
 use mathlib.Core.Path.{_≡_, refl, sym, ap, ap₂, subst, subst₂, _∙_}
-use mathlib.Core.Bool.{Bool, true, false, cond, _&&_}
+use mathlib.Core.Bool.{Bool, true, false, cond}
 use mathlib.Core.Option.{Option, none, some}
 use mathlib.Core.List.{List, [], _∷_}
 use lib.Dec.{leb}
 use lib.ListN.{length, take, drop, length-append}
 use borrow.Author.Tests.{le-leb, lt-leb}
 use Rattle.format.specs.declared.Refusal.{Refusal}
-use Rattle.format.specs.declared.Refusal.the-variants.{State}
-use Rattle.format.specs.declared.StateCause.the-variants.{DestinationShort}
 use Rattle.format.specs.Refusal.{numberOf}
 use Rattle.format.specs.Line.{lineText}
 use Rattle.machine.specs.declared.Run.{Run}
@@ -22,6 +20,7 @@ use Rattle.machine.specs.Asked.{Asked, turned, runs, asked}
 use Rattle.machine.specs.Transducer.{machine}
 use Rattle.machine.specs.Stack.{store}
 use Rattle.machine.specs.Reading.{heldOf, answerAs, outputAs, outcomeOf, Outcome, outcome}
+use Rattle.query.specs.Query.{upperIn, lowerIn}
 use Rattle.replies.specs.Lines.{readingLine, endLine, limitLine, refusalLine, storedLine}
 use Rattle.session.specs.declared.Talk.{Talk}
 use Rattle.caller.specs.declared.Said.{Said}
@@ -29,7 +28,7 @@ use Rattle.caller.specs.declared.Said.the-variants as S
 use Rattle.session.specs.declared.Lined.{Lined}
 use Rattle.session.specs.declared.Lined.the-variants as L
 use Rattle.caller.specs.Heard.{Heard, heardBy, heard}
-use Rattle.session.specs.Next.{Spoken, bytesSaid, Fits, talkAfter, spokenOf, nextLine, linedAs, liningOf, liningNot, lining, LiningIs, refusalLined, refusalLeft}
+use Rattle.session.specs.Next.{Spoken, bytesSaid, Fits, talkAfter, spokenOf, nextLine, linedAs, liningOf, lining, LiningIs}
 
 -- A reading's letters are in the buffer.
 
@@ -103,55 +102,38 @@ module _ (said : Said) (count : ℕ) (output line : List ℕ) (size : ℕ) (afte
 
 -- What the call leaves.
 
-module _ (cells upper lower : List ℕ) (talk : Talk) (stack output line : List ℕ) where
+module _ (cells query : List ℕ) (talk : Talk) (stack output line : List ℕ) where
   abbrev Is : Lined → List ℕ → List ℕ → List ℕ → Type 0
-  Is r s o l = LiningIs (lining cells upper lower talk stack output line) r s o l
+  Is r s o l = LiningIs (lining cells query talk stack output line) r s o l
 
   abbrev spoken : Spoken
-  spoken = nextLine cells upper lower talk stack output
+  spoken = nextLine cells (upperIn query) (lowerIn query) talk stack output
 
-  by-room : (x : Bool) (r : Lined) (s o l : List ℕ) → (leb 8203 (length line) && leb (length output) 4096) ≡ x
-      → LiningIs (cond x (liningOf spoken line) (liningNot stack output line)) r s o l → Is r s o l
+  by-spoken : (w : Spoken) (r : Lined) (s o l : List ℕ) → spoken ≡ w → LiningIs (liningOf w line) r s o l → Is r s o l
   unfolding lining
-  by-room x r s o l e i = subst (λ (b : Bool). LiningIs (cond b (liningOf spoken line) (liningNot stack output line)) r s o l) (sym e) i
+  by-spoken w r s o l e i = subst (λ (x : Spoken). LiningIs (liningOf x line) r s o l) (sym e) i
 
-  nothing : (x : Bool) → (x && false) ≡ false
-  nothing true = refl
-  nothing false = refl
+  limit-spoken : 1000 ≤ talk .count → spoken ≡ spokenOf (talk .count) (record { said = S.Spent; stack = stack; output = output })
+  unfolding nextLine
+  limit-spoken h = simp (le-leb 1000 (talk .count) h)
 
-  pub lining-short : length line < 8203 → Is (L.Refused (State DestinationShort)) stack output line
-  lining-short h = by-room false _ _ _ _ (ap (λ (x : Bool). x && leb (length output) 4096) (lt-leb 8203 (length line) h)) (refl, refl, refl, refl)
+  abbrev listened : List ℕ → List ℕ → Heard
+  listened upper lower = heard cells upper lower (talk .calls) (talk .run) stack output
 
-  pub lining-long : 4096 < length output → Is (L.Refused (State DestinationShort)) stack output line
-  lining-long h =
-      by-room false _ _ _ _ (ap (λ (x : Bool). leb 8203 (length line) && x) (lt-leb (length output) 4096 h) ∙ nothing (leb 8203 (length line))) (refl, refl, refl, refl)
+  heard-spoken : talk .count < 1000 → spoken ≡ spokenOf (talk .count) (listened (upperIn query) (lowerIn query))
+  unfolding nextLine
+  heard-spoken h = simp (lt-leb 1000 (talk .count) h)
 
-  module _ (room : 8203 ≤ length line) (few : length output ≤ 4096) where
-    roomy : (leb 8203 (length line) && leb (length output) 4096) ≡ true
-    roomy = ap₂ _&&_ (le-leb 8203 (length line) room) (le-leb (length output) 4096 few)
+  pub lining-limit : 1000 ≤ talk .count → (size : ℕ) (after : List ℕ) → (size ≡ length (lineText (limitLine (talk .count)))) × (after ≡ storedLine (limitLine (talk .count)) line)
+      → Is (L.Last size) stack output after
+  lining-limit h size after w = by-spoken _ (L.Last size) stack output after (limit-spoken h) (ap L.Last (w .0), refl, refl, w .1)
 
-    by-spoken : (w : Spoken) (r : Lined) (s o l : List ℕ) → spoken ≡ w → LiningIs (liningOf w line) r s o l → Is r s o l
-    by-spoken w r s o l e i = by-room true r s o l roomy (subst (λ (x : Spoken). LiningIs (liningOf x line) r s o l) (sym e) i)
-
-    limit-spoken : 1000 ≤ talk .count → spoken ≡ spokenOf (talk .count) (record { said = S.Spent; stack = stack; output = output })
-    unfolding nextLine
-    limit-spoken h = simp (le-leb 1000 (talk .count) h)
-
-    heard-spoken : talk .count < 1000 → spoken ≡ spokenOf (talk .count) (heard cells upper lower (talk .calls) (talk .run) stack output)
-    unfolding nextLine
-    heard-spoken h = simp (lt-leb 1000 (talk .count) h)
-
-    pub lining-limit : 1000 ≤ talk .count → (size : ℕ) (after : List ℕ) → (size ≡ length (lineText (limitLine (talk .count)))) × (after ≡ storedLine (limitLine (talk .count)) line)
-        → Is (L.Last size) stack output after
-    lining-limit h size after w = by-spoken _ (L.Last size) stack output after (limit-spoken h) (ap L.Last (w .0), refl, refl, w .1)
-
-    pub lining-told : talk .count < 1000 → (said : Said) (s o : List ℕ) → said ≡ heard cells upper lower (talk .calls) (talk .run) stack output .said
-        → s ≡ heard cells upper lower (talk .calls) (talk .run) stack output .stack → o ≡ heard cells upper lower (talk .calls) (talk .run) stack output .output
-        → (r : Lined) (l : List ℕ) → TellIs said (talk .count) o line r l → Is r s o l
-    lining-told h said s o p q e r l t =
-        let w : Heard = heard cells upper lower (talk .calls) (talk .run) stack output in
-        let t₂ : TellIs (w .said) (talk .count) (w .output) line r l = subst (λ (x : List ℕ). TellIs (w .said) (talk .count) x line r l) e (subst (λ (x : Said). TellIs x (talk .count) o line r l) p t) in
-        by-spoken (spokenOf (talk .count) w) r s o l (heard-spoken h) (t₂ .0, q, e, t₂ .1)
+  pub lining-told : talk .count < 1000 → (upper lower : List ℕ) → upper ≡ upperIn query → lower ≡ lowerIn query → (said : Said) (s o : List ℕ)
+      → (said ≡ listened upper lower .said) × (s ≡ listened upper lower .stack) × (o ≡ listened upper lower .output)
+      → (r : Lined) (l : List ℕ) → TellIs said (talk .count) o line r l → Is r s o l
+  lining-told h upper lower u v said s o (p, q, e) r l t =
+      let t₂ : TellIs (listened upper lower .said) (talk .count) (listened upper lower .output) line r l = subst₂ (λ (x : Said) (y : List ℕ). TellIs x (talk .count) y line r l) p e t in
+      by-spoken (spokenOf (talk .count) (listened upper lower)) r s o l (heard-spoken h ∙ sym (ap₂ (λ (x y : List ℕ). spokenOf (talk .count) (listened x y)) u v)) (t₂ .0, q, e, t₂ .1)
 
 -- What an answer says of the line, and of the calls left.
 
@@ -191,57 +173,38 @@ module _ (cells upper lower : List ℕ) where
 stored-inside : (b line l : List ℕ) → l ≡ storedLine b line → length (lineText b) ≤ length l
 stored-inside b line l e = omega (arith, ap length e, length-append (lineText b) (drop (length (lineText b)) line))
 
-module _ (cells upper lower : List ℕ) (talk : Talk) (stack output line : List ℕ) (r : Lined) (s o l : List ℕ)
-    (I : LiningIs (lining cells upper lower talk stack output line) r s o l) where
+module _ (cells query : List ℕ) (talk : Talk) (stack output line : List ℕ) (r : Lined) (s o l : List ℕ)
+    (I : LiningIs (lining cells query talk stack output line) r s o l) where
   abbrev next : Spoken
-  next = nextLine cells upper lower talk stack output
+  next = nextLine cells (upperIn query) (lowerIn query) talk stack output
 
   -- the line is in the buffer, and fewer calls are left
   pub more-inside : (n : ℕ) (t : Talk) → r ≡ L.More n t → (n ≤ length l) × (t .calls < talk .calls)
   unfolding lining
-  more-inside n t e = go (leb 8203 (length line) && leb (length output) 4096) (sym e ∙ I .0) (I .3)
+  more-inside n t e = go (next .after) refl (sym e ∙ I .0)
     where
-      after : (a : Option Talk) → next .after ≡ a → L.More n t ≡ linedAs a (length (lineText (next .bytes))) → l ≡ storedLine (next .bytes) line → (n ≤ length l) × (t .calls < talk .calls)
-      after none q p w = absurd (let z : _≡_ {A = ℕ} 0 1 = cc in omega arith)
-      after (some t′) q p w =
+      go : (a : Option Talk) → next .after ≡ a → L.More n t ≡ linedAs a (length (lineText (next .bytes))) → (n ≤ length l) × (t .calls < talk .calls)
+      go none q p = absurd (let z : _≡_ {A = ℕ} 0 1 = cc in omega arith)
+      go (some t′) q p =
           let size : n ≡ length (lineText (next .bytes)) = cc in
           let same : t′ ≡ t = cc in
-          let inside = stored-inside (next .bytes) line l w in
-          (omega arith, next-fewer cells upper lower talk stack output t (q ∙ ap some same))
-
-      go : (b : Bool) → L.More n t ≡ cond b (liningOf next line) (liningNot stack output line) .lined → l ≡ cond b (liningOf next line) (liningNot stack output line) .line
-          → (n ≤ length l) × (t .calls < talk .calls)
-      go true p w = after (next .after) refl p w
-      go false p w = absurd (let z : _≡_ {A = ℕ} 0 1 = cc in omega arith)
+          let inside = stored-inside (next .bytes) line l (I .3) in
+          (omega arith, next-fewer cells (upperIn query) (lowerIn query) talk stack output t (q ∙ ap some same))
 
   pub last-inside : (n : ℕ) → r ≡ L.Last n → n ≤ length l
   unfolding lining
-  last-inside n e = go (leb 8203 (length line) && leb (length output) 4096) (sym e ∙ I .0) (I .3)
+  last-inside n e = go (next .after) (sym e ∙ I .0)
     where
-      after : (a : Option Talk) → L.Last n ≡ linedAs a (length (lineText (next .bytes))) → l ≡ storedLine (next .bytes) line → n ≤ length l
-      after none p w = let size : n ≡ length (lineText (next .bytes)) = cc in let inside = stored-inside (next .bytes) line l w in omega arith
-      after (some t) p w = absurd (let z : _≡_ {A = ℕ} 0 1 = cc in omega arith)
-
-      go : (b : Bool) → L.Last n ≡ cond b (liningOf next line) (liningNot stack output line) .lined → l ≡ cond b (liningOf next line) (liningNot stack output line) .line → n ≤ length l
-      go true p w = after (next .after) p w
-      go false p w = absurd (let z : _≡_ {A = ℕ} 0 1 = cc in omega arith)
+      go : (a : Option Talk) → L.Last n ≡ linedAs a (length (lineText (next .bytes))) → n ≤ length l
+      go none p = let size : n ≡ length (lineText (next .bytes)) = cc in let inside = stored-inside (next .bytes) line l (I .3) in omega arith
+      go (some t) p = absurd (let z : _≡_ {A = ℕ} 0 1 = cc in omega arith)
 
 -- The line of a refusal alone.
 
-module _ (c : Refusal) (line : List ℕ) where
-  pub refusal-short : length line < 5 → (L.Refused (State DestinationShort) ≡ refusalLined c line) × (line ≡ refusalLeft c line)
-  refusal-short h = let e = lt-leb 5 (length line) h in (sym (simp e), sym (simp e))
+module _ (c : Refusal) (line : List ℕ) (size : ℕ) (after : List ℕ) where
+  pub refusal-told : (k : ℕ) → k ≡ numberOf c → (size ≡ length (lineText (46 ∷ k ∷ []))) × (after ≡ storedLine (46 ∷ k ∷ []) line)
+      → (size ≡ length (lineText (refusalLine c))) × (after ≡ storedLine (refusalLine c) line)
+  refusal-told k q w = subst (λ (m : ℕ). (size ≡ length (lineText (46 ∷ m ∷ []))) × (after ≡ storedLine (46 ∷ m ∷ []) line)) q w
 
-  pub refusal-fits : 5 ≤ length line → (k size : ℕ) (after : List ℕ) → k ≡ numberOf c → (size ≡ length (lineText (46 ∷ k ∷ []))) × (after ≡ storedLine (46 ∷ k ∷ []) line)
-      → (L.Last size ≡ refusalLined c line) × (after ≡ refusalLeft c line)
-  refusal-fits h k size after q w =
-      let e = le-leb 5 (length line) h in
-      let v : (size ≡ length (lineText (refusalLine c))) × (after ≡ storedLine (refusalLine c) line) = subst (λ (m : ℕ). (size ≡ length (lineText (46 ∷ m ∷ []))) × (after ≡ storedLine (46 ∷ m ∷ []) line)) q w in
-      (simp e (ap L.Last (v .0)), simp e (v .1))
-
-  pub refusal-inside : (r : Lined) (l : List ℕ) → r ≡ refusalLined c line → l ≡ refusalLeft c line → (n : ℕ) → r ≡ L.Last n → n ≤ length l
-  refusal-inside r l p w n e = go (leb 5 (length line)) (sym e ∙ p) w
-    where
-      go : (b : Bool) → L.Last n ≡ cond b (L.Last (length (lineText (refusalLine c)))) (L.Refused (State DestinationShort)) → l ≡ cond b (storedLine (refusalLine c) line) line → n ≤ length l
-      go true p w = let size : n ≡ length (lineText (refusalLine c)) = cc in let inside = stored-inside (refusalLine c) line l w in omega arith
-      go false p w = absurd (let z : _≡_ {A = ℕ} 0 1 = cc in omega arith)
+  pub refusal-inside : (size ≡ length (lineText (refusalLine c))) × (after ≡ storedLine (refusalLine c) line) → size ≤ length after
+  refusal-inside w = let inside = stored-inside (refusalLine c) line after (w .1) in omega (arith, w .0)

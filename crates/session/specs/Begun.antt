@@ -1,16 +1,11 @@
--- What the opening answers, and leaves in the cells for the table and the bytes for the query: the refusals of Opened, then 24. Where it is
--- refused both are as they were; else each is written from the front, and is untouched beyond that.
+-- What the opening answers, and leaves in the cells for the table and the bytes for the query. Where it is refused both are as they were; else
+-- the table is written from the front and is untouched beyond that, and the bytes are the query's, then zeros.
 use Prim.Native.Nat.{ℕ}
 use mathlib.Core.Path.{_≡_}
-use mathlib.Core.Bool.{cond, _&&_}
 use mathlib.Core.List.{List, _++_}
-use lib.Dec.{leb}
 use lib.ListN.{length, drop}
-use Rattle.format.specs.declared.Refusal.{Refusal}
-use Rattle.format.specs.declared.Refusal.the-variants.{State}
-use Rattle.format.specs.declared.StateCause.the-variants.{DestinationShort}
 use Rattle.machine.specs.declared.Run.{Run}
-use Rattle.query.specs.Query.{upperLength, lowerLength}
+use Rattle.query.specs.Query.{filled}
 use Rattle.session.specs.declared.Talk.{Talk}
 use Rattle.session.specs.declared.Opening.{Opening}
 use Rattle.session.specs.declared.Opening.the-variants.{Ready, Refused}
@@ -25,20 +20,9 @@ pub record Begun : Type 0 where
 abbrev pub firstTalk : Run → Talk
 firstTalk run = record { run = run; count = 0; calls = 65536 }
 
--- a refusal leaves all as it was
-abbrev pub begunNot : Refusal → List ℕ → List ℕ → Begun
-begunNot r table query = record { opening = Refused r; table = table; query = query }
-
 abbrev pub begun : Opened → List ℕ → List ℕ → Begun
-begun (refused r) table query = begunNot r table query
-begun (ready cells b run) table query =
-    cond (leb (length cells) (length table) && leb (length b) (length query))
-    (record {
-      opening = Ready (upperLength b) (lowerLength b) (firstTalk run);
-      table = cells ++ drop (length cells) table;
-      query = b ++ drop (length b) query;
-    })
-    (begunNot (State DestinationShort) table query)
+begun (refused r) table query = record { opening = Refused r; table = table; query = query }
+begun (ready cells b run) table query = record { opening = Ready (firstTalk run); table = cells ++ drop (length cells) table; query = filled b }
 
 -- the answer, and the lent cells and bytes at exit
 abbrev pub BegunIs : Begun → Opening → List ℕ → List ℕ → Type 0

@@ -1,16 +1,13 @@
 -- One line of a session at a time. The headline theorem says that these lines, one after another, are those of Session.
 use Prim.Native.Nat.{ℕ, _+_, _≤_}
 use mathlib.Core.Path.{_≡_}
-use mathlib.Core.Bool.{cond, _&&_}
+use mathlib.Core.Bool.{cond}
 use mathlib.Core.Option.{Option, none, some}
 use mathlib.Core.List.{List}
 use lib.Dec.{leb}
 use lib.ListN.{length, take}
-use Rattle.format.specs.declared.Refusal.{Refusal}
-use Rattle.format.specs.declared.Refusal.the-variants.{State}
-use Rattle.format.specs.declared.StateCause.the-variants.{DestinationShort}
 use Rattle.format.specs.Line.{lineText}
-use Rattle.machine.specs.declared.Answer.the-variants.{Ended, Refused}
+use Rattle.query.specs.Query.{upperIn, lowerIn}
 use Rattle.caller.specs.Heard.{Heard, heard}
 use Rattle.replies.specs.Lines.{readingLine, endLine, limitLine, refusalLine, storedLine}
 use Rattle.session.specs.declared.Talk.{Talk}
@@ -81,22 +78,10 @@ liningOf s line =
       line = storedLine (s .bytes) line;
     }
 
--- 24, before any call: the line has less room than the longest line needs, or the output is longer than the session's 4,096 letters
-abbrev pub liningNot : List ℕ → List ℕ → List ℕ → Lining
-liningNot stack output line = record { lined = L.Refused (State DestinationShort); stack = stack; output = output; line = line }
-
-unfoldable pub lining : (cells upper lower : List ℕ) → Talk → List ℕ → List ℕ → List ℕ → Lining
-lining cells upper lower talk stack output line =
-    cond (leb 8203 (length line) && leb (length output) 4096) (liningOf (nextLine cells upper lower talk stack output) line) (liningNot stack output line)
+-- the words are those of the query's bytes
+unfoldable pub lining : (cells query : List ℕ) → Talk → List ℕ → List ℕ → List ℕ → Lining
+lining cells query talk stack output line = liningOf (nextLine cells (upperIn query) (lowerIn query) talk stack output) line
 
 -- the answer, and what is lent at exit
 abbrev pub LiningIs : Lining → Lined → List ℕ → List ℕ → List ℕ → Type 0
 LiningIs x r s o l = (r ≡ x .lined) × (s ≡ x .stack) × (o ≡ x .output) × (l ≡ x .line)
-
--- The line of a refusal alone: 24 where the buffer has no room for its five characters.
-
-abbrev pub refusalLined : Refusal → List ℕ → Lined
-refusalLined r line = cond (leb 5 (length line)) (L.Last (length (lineText (refusalLine r)))) (L.Refused (State DestinationShort))
-
-abbrev pub refusalLeft : Refusal → List ℕ → List ℕ
-refusalLeft r line = cond (leb 5 (length line)) (storedLine (refusalLine r) line) line

@@ -29,10 +29,17 @@ linesLeft cells upper lower (suc calls) run stack output count =
     (told (outcome cells upper lower run stack 1000 output .called .answer) (outcome cells upper lower run stack 1000 output) count
     (λ r s o n. linesLeft cells upper lower calls r s o n))
 
+-- "4,096 stack frames, 4,096 letters of output", all 0; a frame has four cells
+abbrev pub firstStack : List ℕ
+firstStack = replicate 16384 0
+
+abbrev pub firstOutput : List ℕ
+firstOutput = replicate 4096 0
+
 -- a refused input gives the refusal's line alone
 abbrev pub linesOn : Opened → List (List ℕ)
 linesOn (refused r) = refusalLine r ∷ []
-linesOn (ready cells b run) = linesLeft cells (upperIn b) (lowerIn b) 65536 run (replicate 16384 0) (replicate 4096 0) 0
+linesOn (ready cells b run) = linesLeft cells (upperIn b) (lowerIn b) 65536 run firstStack firstOutput 0
 
 -- the whole output, as the bytes of its lines and as characters
 unfoldable pub sessionLines : List ℕ → List (List ℕ)

@@ -5,13 +5,9 @@ pub mod speaker;
 use format::Refusal;
 use machine::Run;
 
-// What an opening answers: the lengths of the query's words and the talk to begin with, or a refusal.
+// What an opening answers: the talk to begin with, or a refusal.
 pub enum Opening {
-    Ready {
-        upper: usize,
-        lower: usize,
-        talk: Talk,
-    },
+    Ready(Talk),
     Refused(Refusal),
 }
 
@@ -22,9 +18,8 @@ pub struct Talk {
     pub calls: u32,
 }
 
-// A line's length, and the talk to go on with where another line follows; or a refusal, and no line.
+// A line's length, and the talk to go on with where another line follows.
 pub enum Lined {
     More { length: usize, talk: Talk },
     Last { length: usize },
-    Refused(Refusal),
 }

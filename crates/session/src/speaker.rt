@@ -3,25 +3,26 @@ use crate::Lined;
 use crate::Talk;
 use caller::Said;
 use format::Refusal;
-use format::StateCause;
+use query::words;
 ghost use mathlib.Core.Path.{_≡_};
-ghost use Prim.Native.Nat.{_≤_, _<_};
+ghost use Prim.Native.Nat.{_<_};
 ghost use lib.ListN.{length};
 ghost use Rattle.format.specs.Line.{lineText};
-ghost use Rattle.replies.specs.Lines.{storedLine};
-ghost use Rattle.session.specs.Next.{Fits, bytesSaid, talkAfter, linedAs, lining, LiningIs, refusalLined, refusalLeft};
+ghost use Rattle.replies.specs.Lines.{refusalLine, storedLine};
+ghost use Rattle.session.specs.Next.{Fits, bytesSaid, talkAfter, linedAs, lining, LiningIs};
 
 // What is told where the calls have come to something.
-fn tell(said: Said, count: u16, output: &[u8], line: &mut [u8]) -> Lined
-    requires { ⌜ (count < 1000) × (length (now output) ≤ 4096) × (8203 ≤ length (now line)) × Fits said (now output) ⌝ }
+fn tell(said: Said, count: u16, output: &[u8; 4096], line: &mut [u8; 8203]) -> Lined
+    requires { ⌜ (count < 1000) × Fits said (now output) ⌝ }
     ensures { λ r. ⌜ (r ≡ linedAs (talkAfter said count) (length (lineText (bytesSaid said count (now (output .entry))))))
         × (now (line .exit) ≡ storedLine (bytesSaid said count (now (output .entry))) (now (line .entry))) ⌝ }
 {
     match said {
         Said::Reading { length, run, calls } => {
             let n = length as usize;
+            let letters = &output[..];
             let ordinal = count + 1;
-            let size = replies::reading_line(line, ordinal, &output[..n]);
+            let size = replies::reading_line(line, ordinal, &letters[..n]);
             Lined::More {
                 length: size,
                 talk: Talk {
@@ -45,40 +46,30 @@ fn tell(said: Said, count: u16, output: &[u8], line: &mut [u8]) -> Lined
 
 // The next line of a session, from the front of `line`.
 pub fn next_line(
-    table: &[u16],
-    upper: &[u8],
-    lower: &[u8],
+    table: &[u16; 4612],
+    query: &[u8; 514],
     talk: Talk,
-    stack: &mut [u32],
-    output: &mut [u8],
-    line: &mut [u8],
+    stack: &mut [u32; 16384],
+    output: &mut [u8; 4096],
+    line: &mut [u8; 8203],
 ) -> Lined
-    ensures { λ r. ⌜ LiningIs (lining (now (table .entry)) (now (upper .entry)) (now (lower .entry)) talk (now (stack .entry)) (now (output .entry)) (now (line .entry))) r (now (stack .exit)) (now (output .exit)) (now (line .exit)) ⌝ }
+    ensures { λ r. ⌜ LiningIs (lining (now (table .entry)) (now (query .entry)) talk (now (stack .entry)) (now (output .entry)) (now (line .entry))) r (now (stack .exit)) (now (output .exit)) (now (line .exit)) ⌝ }
 {
-    if line.len() < 8203 {
-        return Lined::Refused(Refusal::State(StateCause::DestinationShort));
-    }
-    if 4096 < output.len() {
-        return Lined::Refused(Refusal::State(StateCause::DestinationShort));
-    }
     let count = talk.count;
     if 1000 <= count {
         return Lined::Last {
             length: replies::count_line(line, 45, count),
         };
     }
+    let upper = words::upper(query);
+    let lower = words::lower(query);
     let said = caller::ask(table, upper, lower, talk.run, talk.calls, stack, output);
     tell(said, count, output, line)
 }
 
-// The line of a session that is refused when it is opened, from the front of `line`.
-pub fn refused_line(refusal: Refusal, line: &mut [u8]) -> Lined
-    ensures { λ r. ⌜ (r ≡ refusalLined refusal (now (line .entry))) × (now (line .exit) ≡ refusalLeft refusal (now (line .entry))) ⌝ }
+// The line of a session that is refused when it is opened, from the front of `line`; how many characters it has.
+pub fn refused_line(refusal: Refusal, line: &mut [u8; 8203]) -> usize
+    ensures { λ r. ⌜ (r ≡ length (lineText (refusalLine refusal))) × (now (line .exit) ≡ storedLine (refusalLine refusal) (now (line .entry))) ⌝ }
 {
-    if line.len() < 5 {
-        return Lined::Refused(Refusal::State(StateCause::DestinationShort));
-    }
-    Lined::Last {
-        length: replies::refusal_line(line, format::number(refusal)),
-    }
+    replies::refusal_line(line, format::number(refusal))
 }

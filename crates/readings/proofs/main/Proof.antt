@@ -1,20 +1,13 @@
--- What was read is within the input, and the words are within the query's bytes.
+-- What was read is within the input, and a refusal's line within the buffer.
+use borrow.Author.Needs.{needs}
 use mathlib.Core.Path.{sym, subst}
 use lib.ListN.{length, replicate}
 use lib.Seq.{length-take-le}
-use borrow.Author.Needs.{needs}
-use Rattle.session.proofs.Given.{ready-inside}
+use Rattle.session.proofs.Next.{refusal-inside}
 use Rattle.readings.specs.declared.Got.{Got}
 use Rattle.readings.specs.Read.{Within}
 use Rattle.readings.proofs.main.Statement.{statement}
 use Rattle.readings.proofs.main.Tie as tie
-use Rattle.readings.proofs.main.Reads as reads
-use Rattle.readings.proofs.main.Lts as lts
-use Rattle.io.proofs.write_all.Reads as write-all-reads
-use Rattle.readings.proofs.answer.Reads as answer-reads
-use Rattle.readings.proofs.read_input.Reads as read-input-reads
-use Rattle.readings.proofs.refuse.Reads as refuse-reads
-use Rattle.session.proofs.opener.begin.Reads as begin-reads
 
 slice-aggregate-read-input : tie.Need-slice-aggregate-read-input
 slice-aggregate-read-input c = search needs
@@ -43,38 +36,29 @@ array-share-prefix-input c = subst (λ (g : Got). Within g (length (c .before .b
 slice-aggregate-begin : tie.Need-slice-aggregate-begin
 slice-aggregate-begin c = sym (length-take-le _ _ (subst (λ (g : Got). Within g (length (c .before .before .before .before .before .read-input .last .0))) (c .before .before .got .given .1) (c .before .before .before .before .before .read-input .ensures)))
 
-slice-aggregate-begin-2 : tie.Need-slice-aggregate-begin-2
-slice-aggregate-begin-2 c = search needs
-
-slice-aggregate-begin-3 : tie.Need-slice-aggregate-begin-3
-slice-aggregate-begin-3 c = search needs
-
 begin-requires : tie.Need-begin-requires
 begin-requires c κs = search needs
 
 enum-known-opening : tie.Need-enum-known-opening
 enum-known-opening c = search needs
 
-slice-aggregate-refuse : tie.Need-slice-aggregate-refuse
-slice-aggregate-refuse c = search needs
+refused-line-requires : tie.Need-refused-line-requires
+refused-line-requires c κs = search needs
 
-refuse-requires : tie.Need-refuse-requires
-refuse-requires c κs = search needs
+array-share-prefix-line : tie.Need-array-share-prefix-line
+array-share-prefix-line c = refusal-inside (c .before .before .before .opening .given .0 .0) (replicate 8203 0) (c .refused-line .result) _ (c .refused-line .ensures)
+
+slice-aggregate-write-line : tie.Need-slice-aggregate-write-line
+slice-aggregate-write-line c = sym (length-take-le _ _ (refusal-inside (c .before .before .before .before .opening .given .0 .0) (replicate 8203 0) (c .before .refused-line .result) _ (c .before .refused-line .ensures)))
+
+write-line-requires : tie.Need-write-line-requires
+write-line-requires c κs = search needs
 
 enum-known-opening-2 : tie.Need-enum-known-opening-2
 enum-known-opening-2 c = search needs
 
-slice-aggregate-answer : tie.Need-slice-aggregate-answer
-slice-aggregate-answer c = search needs
-
-slice-aggregate-answer-2 : tie.Need-slice-aggregate-answer-2
-slice-aggregate-answer-2 c = search needs
-
-slice-aggregate-answer-3 : tie.Need-slice-aggregate-answer-3
-slice-aggregate-answer-3 c = search needs
-
-answer-requires : tie.Need-answer-requires
-answer-requires c κs = ready-inside _ (replicate 4612 0) (replicate 514 0) (c .before .before .before .before .before .before .before .before .begin .result) (c .before .before .before .before .before .before .before .before .begin .last .1 .0) (c .before .before .before .before .before .before .before .before .begin .last .1 .1 .0) (c .before .before .before .before .before .before .before .before .begin .ensures) _ _ _ (c .before .before .before .before .opening2 .given .1)
+speak-requires : tie.Need-speak-requires
+speak-requires c κs = search needs
 
 returns-2 : tie.Need-returns-2
 returns-2 c = search needs
@@ -95,16 +79,13 @@ main-spec =
     returns
     array-share-prefix-input
     slice-aggregate-begin
-    slice-aggregate-begin-2
-    slice-aggregate-begin-3
     begin-requires
     enum-known-opening
-    slice-aggregate-refuse
-    refuse-requires
+    refused-line-requires
+    array-share-prefix-line
+    slice-aggregate-write-line
+    write-line-requires
     enum-known-opening-2
-    slice-aggregate-answer
-    slice-aggregate-answer-2
-    slice-aggregate-answer-3
-    answer-requires
+    speak-requires
     returns-2
     returns-3)

@@ -1,25 +1,25 @@
 -- The length, the table's faults, then what follows the table.
+use borrow.Author.Needs.{needs}
 use Prim.Native.Nat.{ℕ}
-use mathlib.Core.Path.{sym, subst, _∙_}
+use mathlib.Core.Path.{sym, ap, _∙_}
 use lib.ListN.{replicate, length-replicate}
 use lib.Seq.{length-take-le}
-use borrow.Author.Needs.{needs}
 use native.Mathlib.Omega.{arith}
 use denote.Ref.{now}
 use Rattle.session.specs.Opened.{Opened, opened}
-use Rattle.session.specs.Begun.{begun, BegunIs}
-use Rattle.session.proofs.Begun.{begun-refused, opened-long, end-inside, table-refused, count-inside, table-read}
+use Rattle.session.specs.Begun.{begun}
+use Rattle.session.proofs.Begun.{begun-refused, begun-same, opened-long, end-inside, table-refused, count-inside, table-read}
 use Rattle.session.proofs.opener.begin.Statement.{statement}
 use Rattle.session.proofs.opener.begin.Tie as tie
 
 returns : tie.Need-returns
-returns c = begun-refused (opened (now (c .before .before .before .before .args .input))) (now (c .before .before .before .before .args .table)) (now (c .before .before .before .before .args .query)) _ (opened-long (now (c .before .before .before .before .args .input)) (c .if1 .taken))
+returns c = begun-refused (opened (now (c .before .before .args .input))) (now (c .before .before .args .table)) (now (c .before .before .args .query)) _ (opened-long (now (c .before .before .args .input)) (c .if1 .taken))
 
 table-end-requires : tie.Need-table-end-requires
 table-end-requires c κs = search needs
 
 slice-aggregate-read : tie.Need-slice-aggregate-read
-slice-aggregate-read c = sym (length-take-le _ _ (end-inside (now (c .before .before .before .before .before .before .args .input)) (c .before .table-end .result) (c .before .table-end .ensures) (c .before .before .if1 .left) (replicate 4612 0) (length-replicate {A = ℕ} 4612 0)))
+slice-aggregate-read c = sym (length-take-le _ _ (end-inside (now (c .before .before .before .before .args .input)) (c .before .table-end .result) (c .before .table-end .ensures) (c .before .before .if1 .left) (replicate 4612 0) (length-replicate {A = ℕ} 4612 0)))
 
 slice-aggregate-read-2 : tie.Need-slice-aggregate-read-2
 slice-aggregate-read-2 c = search needs
@@ -34,36 +34,28 @@ enum-known-answer-2 : tie.Need-enum-known-answer-2
 enum-known-answer-2 c = search needs
 
 sub-begin-query : tie.Need-sub-begin-query
-sub-begin-query c = let e = end-inside (now (c .before .before .before .before .before .before .before .before .before .before .before .before .args .input)) (c .before .before .before .before .before .before .before .table-end .result) (c .before .before .before .before .before .before .before .table-end .ensures) (c .before .before .before .before .before .before .before .before .if1 .left) (replicate 4612 0) (length-replicate {A = ℕ} 4612 0) in omega arith
+sub-begin-query c = let e = end-inside (now (c .before .before .before .before .before .before .before .before .before .before .args .input)) (c .before .before .before .before .before .before .before .table-end .result) (c .before .before .before .before .before .before .before .table-end .ensures) (c .before .before .before .before .before .before .before .before .if1 .left) (replicate 4612 0) (length-replicate {A = ℕ} 4612 0) in omega arith
 
 part-begin-query-start : tie.Need-part-begin-query-start
-part-begin-query-start c = let e = end-inside (now (c .before .before .before .before .before .before .before .before .before .before .before .before .args .input)) (c .before .before .before .before .before .before .before .table-end .result) (c .before .before .before .before .before .before .before .table-end .ensures) (c .before .before .before .before .before .before .before .before .if1 .left) (replicate 4612 0) (length-replicate {A = ℕ} 4612 0) in omega arith
+part-begin-query-start c = let e = end-inside (now (c .before .before .before .before .before .before .before .before .before .before .args .input)) (c .before .before .before .before .before .before .before .table-end .result) (c .before .before .before .before .before .before .before .table-end .ensures) (c .before .before .before .before .before .before .before .before .if1 .left) (replicate 4612 0) (length-replicate {A = ℕ} 4612 0) in omega arith
 
 part-begin-query-end : tie.Need-part-begin-query-end
-part-begin-query-end c = let e = end-inside (now (c .before .before .before .before .before .before .before .before .before .before .before .before .args .input)) (c .before .before .before .before .before .before .before .table-end .result) (c .before .before .before .before .before .before .before .table-end .ensures) (c .before .before .before .before .before .before .before .before .if1 .left) (replicate 4612 0) (length-replicate {A = ℕ} 4612 0) in omega arith
+part-begin-query-end c = search needs
 
 array-share-prefix-cells : tie.Need-array-share-prefix-cells
-array-share-prefix-cells c = count-inside (now (c .before .before .before .before .before .before .before .before .before .before .before .before .before .args .input)) (c .before .before .before .before .before .before .before .before .table-end .result) (c .before .before .before .before .before .before .before .before .table-end .ensures) (c .before .before .before .before .before .before .before .before .before .if1 .left) (replicate 4612 0) (length-replicate {A = ℕ} 4612 0) (c .before .before .answer2 .given .0 .0) (c .before .before .before .before .before .read .last .1 .0) (sym (c .before .before .answer2 .given .1) ∙ c .before .before .before .before .before .read .ensures .0) (c .before .before .before .before .before .read .ensures .1)
+array-share-prefix-cells c = count-inside (now (c .before .before .before .before .before .before .before .before .before .before .before .args .input)) (c .before .before .before .before .before .before .before .before .table-end .result) (c .before .before .before .before .before .before .before .before .table-end .ensures) (c .before .before .before .before .before .before .before .before .before .if1 .left) (replicate 4612 0) (length-replicate {A = ℕ} 4612 0) (c .before .before .answer2 .given .0 .0) (c .before .before .before .before .before .read .last .1 .0) (sym (c .before .before .answer2 .given .1) ∙ c .before .before .before .before .before .read .ensures .0) (c .before .before .before .before .before .read .ensures .1)
 
 slice-aggregate-begin-query : tie.Need-slice-aggregate-begin-query
-slice-aggregate-begin-query c = sym (length-take-le _ _ (count-inside (now (c .before .before .before .before .before .before .before .before .before .before .before .before .before .before .args .input)) (c .before .before .before .before .before .before .before .before .before .table-end .result) (c .before .before .before .before .before .before .before .before .before .table-end .ensures) (c .before .before .before .before .before .before .before .before .before .before .if1 .left) (replicate 4612 0) (length-replicate {A = ℕ} 4612 0) (c .before .before .before .answer2 .given .0 .0) (c .before .before .before .before .before .before .read .last .1 .0) (sym (c .before .before .before .answer2 .given .1) ∙ c .before .before .before .before .before .before .read .ensures .0) (c .before .before .before .before .before .before .read .ensures .1)))
+slice-aggregate-begin-query c = sym (length-take-le _ _ (count-inside (now (c .before .before .before .before .before .before .before .before .before .before .before .before .args .input)) (c .before .before .before .before .before .before .before .before .before .table-end .result) (c .before .before .before .before .before .before .before .before .before .table-end .ensures) (c .before .before .before .before .before .before .before .before .before .before .if1 .left) (replicate 4612 0) (length-replicate {A = ℕ} 4612 0) (c .before .before .before .answer2 .given .0 .0) (c .before .before .before .before .before .before .read .last .1 .0) (sym (c .before .before .before .answer2 .given .1) ∙ c .before .before .before .before .before .before .read .ensures .0) (c .before .before .before .before .before .before .read .ensures .1)))
 
 begin-query-requires : tie.Need-begin-query-requires
-begin-query-requires c κs = search needs
+begin-query-requires c κs = let n = count-inside (now (c .before .before .before .before .before .before .before .before .before .before .before .before .before .before .args .input)) (c .before .before .before .before .before .before .before .before .before .before .before .table-end .result) (c .before .before .before .before .before .before .before .before .before .before .before .table-end .ensures) (c .before .before .before .before .before .before .before .before .before .before .before .before .if1 .left) (replicate 4612 0) (length-replicate {A = ℕ} 4612 0) (c .before .before .before .before .before .answer2 .given .0 .0) (c .before .before .before .before .before .before .before .before .read .last .1 .0) (sym (c .before .before .before .before .before .answer2 .given .1) ∙ c .before .before .before .before .before .before .before .before .read .ensures .0) (c .before .before .before .before .before .before .before .before .read .ensures .1) in omega (arith, length-take-le (c .before .before .before .before .before .answer2 .given .0 .0) (c .before .before .before .before .before .before .before .before .read .last .1 .0) n, c .before .before .before .before .before .before .before .before .read .kept)
 
 returns-2 : tie.Need-returns-2
-returns-2 c = begun-refused (opened (now (c .before .before .before .before .before .before .before .before .before .before .before .before .args .input))) (now (c .before .before .before .before .before .before .before .before .before .before .before .before .args .table)) (now (c .before .before .before .before .before .before .before .before .before .before .before .before .args .query)) _ (table-refused (now (c .before .before .before .before .before .before .before .before .before .before .before .before .args .input)) (c .before .before .before .before .before .before .before .table-end .result) (c .before .before .before .before .before .before .before .table-end .ensures) (c .before .before .before .before .before .before .before .before .if1 .left) (replicate 4612 0) (length-replicate {A = ℕ} 4612 0) _ (sym (c .before .answer .given .1) ∙ c .before .before .before .before .read .ensures .0))
-
-same-length : tie.Need-same-length
-same-length c = search needs
-
-same-length-2 : tie.Need-same-length-2
-same-length-2 c = search needs
+returns-2 c = begun-refused (opened (now (c .before .before .before .before .before .before .before .before .before .before .args .input))) (now (c .before .before .before .before .before .before .before .before .before .before .args .table)) (now (c .before .before .before .before .before .before .before .before .before .before .args .query)) _ (table-refused (now (c .before .before .before .before .before .before .before .before .before .before .args .input)) (c .before .before .before .before .before .before .before .table-end .result) (c .before .before .before .before .before .before .before .table-end .ensures) (c .before .before .before .before .before .before .before .before .if1 .left) (replicate 4612 0) (length-replicate {A = ℕ} 4612 0) _ (sym (c .before .answer .given .1) ∙ c .before .before .before .before .read .ensures .0))
 
 returns-3 : tie.Need-returns-3
-returns-3 c =
-    subst (λ (o : Opened). BegunIs (begun o (now (c .before .before .before .before .before .before .before .before .before .before .before .before .before .before .before .before .before .before .before .before .before .args .table)) (now (c .before .before .before .before .before .before .before .before .before .before .before .before .before .before .before .before .before .before .before .before .before .args .query))) (c .before .before .before .before .begin-query .result) (c .before .before .before .before .begin-query .last .1 .1 .0) (c .before .before .before .before .begin-query .last .1 .1 .1 .0))
-    (sym (table-read (now (c .before .before .before .before .before .before .before .before .before .before .before .before .before .before .before .before .before .before .before .before .before .args .input)) (c .before .before .before .before .before .before .before .before .before .before .before .before .before .before .before .before .table-end .result) (c .before .before .before .before .before .before .before .before .before .before .before .before .before .before .before .before .table-end .ensures) (c .before .before .before .before .before .before .before .before .before .before .before .before .before .before .before .before .before .if1 .left) (replicate 4612 0) (length-replicate {A = ℕ} 4612 0) (c .before .before .before .before .before .before .before .before .before .before .answer2 .given .0 .0) (c .before .before .before .before .before .before .before .before .before .before .before .before .before .read .last .1 .0) (sym (c .before .before .before .before .before .before .before .before .before .before .answer2 .given .1) ∙ c .before .before .before .before .before .before .before .before .before .before .before .before .before .read .ensures .0) (c .before .before .before .before .before .before .before .before .before .before .before .before .before .read .ensures .1))) (c .before .before .before .before .begin-query .ensures)
+returns-3 c = begun-same _ _ _ _ _ (ap (λ (o : Opened). begun o (now (c .before .before .before .before .before .before .before .before .before .before .before .before .before .before .before .args .table)) (now (c .before .before .before .before .before .before .before .before .before .before .before .before .before .before .before .args .query))) (sym (table-read (now (c .before .before .before .before .before .before .before .before .before .before .before .before .before .before .before .args .input)) (c .before .before .before .before .before .before .before .before .before .before .before .before .table-end .result) (c .before .before .before .before .before .before .before .before .before .before .before .before .table-end .ensures) (c .before .before .before .before .before .before .before .before .before .before .before .before .before .if1 .left) (replicate 4612 0) (length-replicate {A = ℕ} 4612 0) (c .before .before .before .before .before .before .answer2 .given .0 .0) (c .before .before .before .before .before .before .before .before .before .read .last .1 .0) (sym (c .before .before .before .before .before .before .answer2 .given .1) ∙ c .before .before .before .before .before .before .before .before .before .read .ensures .0) (c .before .before .before .before .before .before .before .before .before .read .ensures .1)))) (c .begin-query .ensures)
 
 pub begin-spec : {M : Type 1} → statement M
 begin-spec =
@@ -83,6 +75,4 @@ begin-spec =
     slice-aggregate-begin-query
     begin-query-requires
     returns-2
-    same-length
-    same-length-2
     returns-3)
