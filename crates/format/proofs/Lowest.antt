@@ -14,7 +14,7 @@ use Rattle.format.specs.Table.{Table}
 use Rattle.format.specs.Rules.{unless, countsHold, stateHolds, letterHolds, initialIsNew, terminalRises, sourceHolds, arcIsNew, headerFaults, initialFaults, terminalFaults, arcFaults}
 use Rattle.format.specs.Line.{Line, malformed, bytesOf}
 use Rattle.format.specs.Text.{linesBefore}
-use Rattle.format.specs.Parse.{inPlace, isHeader, Kind, initial, terminal, arc, end, numberAt, countsFrom, arcFrom, isOf, due, emptyTable, Progress, opening, within, closed, itemFaults, bytesFaults, lineFaults}
+use Rattle.format.specs.Parse.{inPlace, isHeader, Kind, initial, terminal, arc, end, numberAt, countsFrom, arcFrom, isOf, due, Progress, opening, within, closed, itemFaults, bytesFaults, lineFaults}
 use Rattle.format.proofs.Tests.{and-left, and-right}
 
 -- each refusal's number is below the next one's
