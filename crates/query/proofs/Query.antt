@@ -29,16 +29,12 @@ pub record IsQuery (b : List ℕ) : Type 0 where
   pub kind : getD b 0 0 ≡ 16
   pub size : length b ≡ 4 + upperLength b + lowerLength b
 
-pub query-facts : (b : List ℕ) → isQuery b ≡ true → IsQuery b
+query-facts : (b : List ℕ) → isQuery b ≡ true → IsQuery b
 unfolding isQuery
 query-facts b e =
     let k : Bool = eqb (getD b 0 0) 16 in
     let s : Bool = eqb (length b) (4 + upperLength b + lowerLength b) in
     record { kind = eqb-true (getD b 0 0) 16 (and-left k s e); size = eqb-true (length b) (4 + upperLength b + lowerLength b) (and-right k s e) }
-
-pub is-query : (b : List ℕ) → IsQuery b → isQuery b ≡ true
-unfolding isQuery
-is-query b q = ap₂ _&&_ (eq-eqb (getD b 0 0) 16 (q .kind)) (eq-eqb (length b) (4 + upperLength b + lowerLength b) (q .size))
 
 pub no-query : (b : List ℕ) → (IsQuery b → ⊥) → isQuery b ≡ false
 no-query b n = go (isQuery b) refl
@@ -53,7 +49,7 @@ unfolding isQuery
 query-by b k n e = ap₂ (λ (x : Bool) (m : ℕ). x && eqb (length b) m) (sym (eq-eqb (getD b 0 0) 16 k)) e
 
 -- a query's bytes are at most 514
-pub query-most : (b : List ℕ) → All IsByte b → IsQuery b → length b ≤ 514
+query-most : (b : List ℕ) → All IsByte b → IsQuery b → length b ≤ 514
 query-most b a q =
     let u : upperLength b < 256 = all-getD IsByte b 2 0 (omega arith) a in
     let l : lowerLength b < 256 = all-getD IsByte b (3 + upperLength b) 0 (omega arith) a in
@@ -61,7 +57,7 @@ query-most b a q =
 
 -- A text, by what its first line says.
 
-pub nonzero : (n : ℕ) → (n ≡ 0 → ⊥) → 0 < n
+nonzero : (n : ℕ) → (n ≡ 0 → ⊥) → 0 < n
 nonzero zero h = absurd (h refl)
 nonzero (suc n) h = omega arith
 
@@ -205,7 +201,7 @@ module _ (b : List ℕ) (q : IsQuery b) where
   unfolding filled
   filled-at i h = List·getD-append b rest 0 i h
 
-  pub task-filled : taskIn (filled b) ≡ taskIn b
+  task-filled : taskIn (filled b) ≡ taskIn b
   task-filled = filled-at 1 (omega (arith, q .size))
 
   upper-length : upperLength (filled b) ≡ upperLength b

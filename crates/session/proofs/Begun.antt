@@ -1,5 +1,5 @@
 -- The opening, part by part: the length, the table, the query, the start.
-use Prim.Native.Nat.{ℕ, _+_, _-_, _≤_, _<_}
+use Prim.Native.Nat.{ℕ, _-_, _≤_, _<_}
 use native.Mathlib.Omega.{arith}
 use mathlib.Core.Path.{_≡_, refl, sym, ap, ap₂, subst, _∙_}
 use mathlib.Core.Bool.{Bool, true, false, cond}
@@ -21,7 +21,6 @@ use Rattle.format.proofs.Rules.{table-bounded}
 use Rattle.format.proofs.Loaded.{length-cells}
 use Rattle.format.proofs.Determine.{read-text}
 use Rattle.table.proofs.Calls.{read-done, read-fits, read-length}
-use Rattle.machine.specs.declared.Run.{Run}
 use Rattle.machine.specs.declared.StartAnswer.{StartAnswer}
 use Rattle.machine.specs.declared.StartAnswer.the-variants as T
 use Rattle.machine.specs.declared.Started.{Started}

@@ -1,4 +1,5 @@
-// A session: a table and one query in, readings out, one line at a time. Nothing here reads or writes but what it is lent.
+// A session: a table and one query in, readings out, one line at a time. Nothing here reads or writes but what it is lent: 4,612 cells hold
+// every table, 514 bytes every query, 8,203 characters every line (5 + 4,096 bytes, two digits each, and a line feed), so nothing is too short.
 pub mod opener;
 pub mod speaker;
 

@@ -9,9 +9,6 @@ use Rattle.readings.specs.declared.Got.{Got}
 use Rattle.readings.specs.Read.{Within}
 use Rattle.readings.proofs.read_input.Statement.{statement}
 use Rattle.readings.proofs.read_input.Tie as tie
-use Rattle.readings.proofs.read_input.Reads as reads
-use Rattle.readings.proofs.read_input.Lts as lts
-use Rattle.readings.proofs.read_some.Reads as read-some-reads
 
 nonzero : (n : ℕ) → (n ≡ 0 → ⊥) → 0 < n
 nonzero zero h = absurd (h refl)

@@ -5,7 +5,7 @@ use Prim.Native.Nat.{ℕ, _+_}
 use mathlib.Core.Path.{_≡_, sym, ap, _∙_}
 use mathlib.Core.List.{List}
 use denote.Ref.{now}
-use lib.ListN.{length, getD}
+use lib.ListN.{getD}
 use Rattle.query.specs.Query.{upperLength, lowerLength}
 use Rattle.query.proofs.Query.{no-query, query-by}
 use Rattle.query.proofs.asker.is_query.Statement.{statement}

@@ -1,12 +1,11 @@
 -- No line, a malformed one, one that is followed, one that is too long, and whether the bytes of the others are a query's.
 use borrow.Author.Needs.{needs}
 use mathlib.Core.Path.{sym, _∙_}
-use lib.ListN.{length}
 use lib.Seq.{length-take-le}
 use native.Mathlib.Omega.{arith}
 use denote.Ref.{now}
 use Rattle.format.specs.Line.{linesOf}
-use Rattle.query.proofs.Query.{nonzero, lines-none, lines-some, said, asks-none, asks-bad, asks-followed, asks-long, asks-other, asks-query}
+use Rattle.query.proofs.Query.{lines-none, lines-some, said, asks-none, asks-bad, asks-followed, asks-long, asks-other, asks-query}
 use Rattle.query.proofs.asker.query.Statement.{statement}
 use Rattle.query.proofs.asker.query.Tie as tie
 
