@@ -50,7 +50,7 @@ itemKey terminal b = 0
 itemKey arc b = arcKey (arcFrom b)
 itemKey end b = 0
 
--- the cells hold the draft of a table whose items so far keep the rules; each list is full before the next begins
+-- the cells hold the draft of a table whose items so far keep the rules, and 0 after it; each list is full before the next begins
 pub record Tracks (c : Counts) (t : Table) (lines filled top : ℕ) (cells : List ℕ) : Type 0 where
   pub counts : countsHold c ≡ true
   pub states-is : t .states ≡ c .states
@@ -79,10 +79,10 @@ pub record Drafted (lines filled top : ℕ) (cells : List ℕ) (kind : ℕ) : Ty
 abbrev pub ArcsReady : ℕ → List ℕ → ℕ → Type 0
 ArcsReady states before top = Whole before × ((arcsKeep states (arcsAs before) ≡ true) × (largest arcKey (arcsAs before) ≤ top))
 
--- what the reader makes of a text
+-- what the reader makes of a text: every cell of one that it refuses is 0
 abbrev pub gathered : Parsed → Gathered
 gathered (accepted t) = record { read = Cells (length (cellsOf t)); cells = filledUp (cellsOf t) }
-gathered (turnedDown cause) = record { read = Fault cause; cells = filledUp [] }
+gathered (turnedDown cause) = record { read = Fault cause; cells = replicate 4612 0 }
 
 -- the parse of the lines after a header line with these counts
 abbrev pub itemsParsed : Counts → List ℕ → Parsed
