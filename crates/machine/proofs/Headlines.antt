@@ -283,23 +283,17 @@ module _ (cells upper lower : List ℕ) where
           × (received upper lower (s .run) (lentAll cells upper lower (s .run) [] ks) ≡ readings (machine t q) (tour (machine t q)))
 
     pub end-comes : s .answer ≡ Ready → (t : Table) × (q : Query) × EndComes t q
-    unfolding demand-three
-    end-comes e = (t, q, record { asked-is = R .is; few = few; ends = ends; by-size = live.ample-by-size t q B; asks-end = asks-end })
+    unfolding demand-three start-to-end
+    end-comes e = (t, q, record { asked-is = start-to-end cells task upper lower s S e .2; few = few; ends = ends; by-size = live.ample-by-size t q B; asks-end = asks-end })
       where
-        R : starts.ReadyFacts (asked cells task upper lower) task s
-        R = starts.ready-facts cells task upper lower s S e
-
         t : Table
-        t = R .table
+        t = start-to-end cells task upper lower s S e .0
 
         q : Query
-        q = R .query
-
-        F : asks.AskedFacts t q task upper lower
-        F = asks.asked-facts cells task upper lower t q (R .is)
+        q = start-to-end cells task upper lower s S e .1
 
         B : Bounded (machine t q)
-        B = bound t (F .keeps-rules) q (idles.none-found t (q .task) (ruled t (F .keeps-rules)) (R .no-cycle))
+        B = let E = start-to-end cells task upper lower s S e in bound t (E .3) q (E .4)
 
         D : (xs : List Lent) → Handed upper lower cells (s .run) [] xs → Demand3 upper lower t q (s .run) xs
         D = demand-three cells task upper lower s S e .3
@@ -315,7 +309,7 @@ module _ (cells upper lower : List ℕ) where
             → LastEnds upper lower (s .run) (lentAll cells upper lower (s .run) [] ks)
             × (received upper lower (s .run) (lentAll cells upper lower (s .run) [] ks) ≡ readings (machine t q) (tour (machine t q)))
         asks-end ks A =
-            ends (lentAll cells upper lower (s .run) [] ks) (handed-there ks (s .run) (ap (λ (r : Run). r .depth) (R .run-is))) (length ks) (handed.asks-ample t q B cells upper lower ks (s .run) [] A)
+            ends (lentAll cells upper lower (s .run) [] ks) (handed-there ks (s .run) (ap (λ (r : Run). r .depth) (starts.ready-facts cells task upper lower s S e .run-is))) (length ks) (handed.asks-ample t q B cells upper lower ks (s .run) [] A)
 
 -- An instance: table K, synthesis of 01 02, three calls. The start is ready, the calls are handed on as demand 3 says, and the last answers Ended.
 pub instance-k : (started cases.cellsK 2 (1 ∷ 2 ∷ []) [] [] .answer ≡ Ready) × Handed (1 ∷ 2 ∷ []) [] cases.cellsK (firstRun 2) [] cases.lentK × LastEnds (1 ∷ 2 ∷ []) [] (firstRun 2) cases.lentK
