@@ -20,20 +20,22 @@ use Rattle.format.specs.Parse.{accepted, turnedDown, parsed}
 use Rattle.table.specs.Calls.{checked, readAnswer, readCells, writeAnswer, writeText}
 use Rattle.table.proofs.Calls as calls
 
--- THE CHECK passes exactly the cells that hold a table that keeps the rules. Which those are says `loads`, format/proofs/Headlines.
+-- THE CHECK: "20. The loaded table breaks a rule above." It passes exactly the cells that hold a table that keeps the rules (`loads`,
+-- format/proofs/Headlines).
 pub check-is : (c : List ℕ) → (checked c .ok ≡ true) ↔ ((t : Table) × (loaded c ≡ some t))
 check-is = calls.check-is
 
 -- THE READER, on any text and destination.
 module _ (x d : List ℕ) where
-  -- it is done exactly where the text is that of a table that keeps the rules and there is room for its cells, which it tells and leaves
+  -- done, exactly where the text is that of a table that keeps the rules and there is room for its cells, whose number is told
   pub read-is : (n : ℕ) → (readAnswer x d ≡ Done n) ↔ ((t : Table) × (keepsRules t ≡ true) × (x ≡ textOf t) × (n ≡ length (cellsOf t)) × (n ≤ length d))
   read-is = calls.read-is x d
 
+  -- "A longer one is untouched beyond that."
   pub read-leaves : (t : Table) → keepsRules t ≡ true → x ≡ textOf t → length (cellsOf t) ≤ length d → readCells x d ≡ cellsOf t ++ drop (length (cellsOf t)) d
   read-leaves = calls.read-leaves x d
 
-  -- a text's own refusals come first; "24 comes last"
+  -- "24 comes last": a text's own refusals come first
   pub read-turned : (c : InputCause) → (readAnswer x d ≡ Refused (Input c)) ↔ (parsed x ≡ turnedDown c)
   read-turned = calls.read-turned x d
 
