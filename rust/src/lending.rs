@@ -25,6 +25,7 @@ use crate::{Answer, Refusal, StartRefused};
 
 /// The kinds of a reply.
 mod kind {
+    pub const DONE: u32 = 0;
     pub const FOUND: u32 = 1;
     pub const PAUSED: u32 = 2;
     pub const ENDED: u32 = 3;
@@ -87,9 +88,13 @@ impl Reply {
         is_refused.then(|| Refusal::of(self.number).expect("a refusal's number"))
     }
 
-    /// The answer of [`table_read`] or [`table_write`]: how many cells or bytes were written.
+    /// The answer of [`table_read`] or [`table_write`]: how many cells or bytes were written. Panics on a reply of [`next`] that was not
+    /// refused.
     pub fn done(self) -> Result<usize, Refusal> {
-        self.refusal().map_or(Ok(self.length as usize), Err)
+        match self.kind {
+            kind::DONE => Ok(self.length as usize),
+            _ => Err(self.refusal().expect("a reply of another call than `next`")),
+        }
     }
 
     /// The answer of [`next`]. Panics on a reply of another call that was done.

@@ -87,6 +87,17 @@ fn kinds() {
     assert_eq!(reply(4).done(), Err(refusal));
 }
 
+/// An answer of `next` is not taken for one of the other calls.
+#[test]
+#[should_panic(expected = "a reply of another call than `next`")]
+fn a_pause_is_not_done() {
+    let pause = Reply {
+        kind: 2,
+        ..Reply::default()
+    };
+    let _ = pause.done();
+}
+
 #[test]
 fn limits_and_sizes() {
     let limits = [
