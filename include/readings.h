@@ -5,12 +5,13 @@
  * one with the same contents to the next. Every function is proved to answer and to leave what the definitions in crates/ say, for
  * any contents of what it is lent; a table that breaks a rule, and a run or stack that is no place in a search, is refused.
  *
- * Pointers. A pointer must not be null, even where its length is 0, and must be aligned for its type. Lengths count elements. Two
- * buffers of one call must not overlap where one of them is written (those without const). All cells must be readable, and those
- * without const must be the caller's to write for the time of the call.
+ * Pointers. A pointer must not be null, even where its length is 0 (what malloc(0) gives may be), and must be aligned for its type.
+ * Lengths count elements. Two buffers of one call must not overlap where one of them is written (those without const). All cells must be
+ * readable, and those without const must be the caller's to write for the time of the call.
  *
  * Threads. A call works on what it is lent and on nothing else, so calls may run on several threads at the same time. They may share
- * what is const, such as a table; what a call writes must be lent to no other call until it returns.
+ * what is const, such as a table; what a call writes must be lent to no other call until it returns. Of its
+ * thread's stack rd_table_read uses less than 32 KiB, each of the others less than 8 KiB.
  *
  * Cells that are not told are untouched: a destination beyond the length told, the stack beyond what the steps use, the output beyond
  * the letters told, and with a refusal everything that is lent, but for what steps before the refused one have done to run and stack.
@@ -118,12 +119,13 @@ typedef struct {
     uint32_t depth;
 } rd_run;
 
-/* Reads a table's text of n bytes into cells: four counts (states, initials, terminals, arcs), the initial states, the terminal states,
- * four cells an arc (source, upper letter, lower letter, target). length: cells of the table. Refusals: 1 to 9, 24. */
+/* Reads a table's text of n bytes, whose lines README.md shows under "What goes in", into cells: four counts (states, initials,
+ * terminals, arcs), the initial states, the terminal states, four cells an arc (source, upper letter, lower letter, target). length:
+ * cells of the table. Refusals: 1 to 9, 24. */
 rd_answer rd_table_read(const uint8_t *text, size_t n, uint16_t *table, size_t m);
 
-/* Writes the text of a loaded table of n cells; cells beyond the table's own are not looked at. length: bytes of the text. Refusals:
- * 20, 24. */
+/* Writes the text of a loaded table of n cells; here and in the calls below, cells beyond the table's own are not looked at. length:
+ * bytes of the text. Refusals: 20, 24. */
 rd_answer rd_table_write(const uint16_t *table, size_t n, uint8_t *text, size_t m);
 
 /* Begins a search. The task may be any number. A start that passes sets the run to the task, 0 started and depth 0; one that is refused
@@ -133,7 +135,8 @@ rd_started rd_start(const uint16_t *table, size_t n, uint32_t task, const uint8_
 
 /* Goes on with a search, for at most allowance steps, to the next reading. Table and words are those of the start; run and stack are as
  * the call before left them. The stack has s cells, RD_FRAME_CELLS a frame; a new stack may hold anything. length: letters of the
- * output. Refusals: 20, 11, 10, 21, 22, 23; steps made before a refused one stand, and no reading is lost by it.
+ * output, in recognition 0, so that o may be 0 there. Refusals: 20, 11, 10, 21, 22, 23; steps made before a refused one stand, and no
+ * reading is lost by it.
  *
  * After 22 the same run goes on with a longer stack that begins with the same used frames, the first run->depth ones. A stack of
  * RD_STACK_FRAMES(letters to read, states) frames never gets 22.
