@@ -12,10 +12,15 @@ fn include() -> PathBuf {
 
 /// A C compiler finds that each expression has its value, or says which has not.
 fn check(name: &str, values: &[(String, usize)]) -> Result<(), String> {
-    let mut program = "#include \"readings.h\"\n".to_string();
-    for (expression, value) in values {
-        program += &format!("_Static_assert({expression} == {value}, \"{value}\");\n");
-    }
+    let lines = values.iter().map(|(expression, value)| {
+        format!("_Static_assert({expression} == {value}, \"{value}\");\n")
+    });
+    takes(name, &lines.collect::<String>())
+}
+
+/// A C compiler takes these lines after the header's, or says why not.
+fn takes(name: &str, lines: &str) -> Result<(), String> {
+    let program = format!("#include \"readings.h\"\n{lines}");
     let path = Path::new(env!("CARGO_TARGET_TMPDIR")).join(name);
     fs::write(&path, program).expect("a C program");
     let checked = Command::new("cc")
@@ -148,6 +153,22 @@ fn layouts() {
         ("sizeof(RD_NO_LETTERS)", size_of::<*const u8>()),
     ];
     check("layouts.c", &named(&layouts)).unwrap();
+}
+
+/// The calls have the types that `lending` gives them.
+#[test]
+fn calls() {
+    let table_write = "rd_answer (*w)(const uint16_t *, size_t, uint8_t *, size_t)";
+    let types = format!(
+        "rd_answer (*r)(const uint8_t *, size_t, uint16_t *, size_t) = rd_table_read;
+         {table_write} = rd_table_write;
+         rd_started (*s)(const uint16_t *, size_t, uint32_t, const uint8_t *, size_t, const uint8_t *, size_t,
+                         rd_run *) = rd_start;
+         rd_answer (*n)(const uint16_t *, size_t, const uint8_t *, size_t, const uint8_t *, size_t, rd_run *,
+                        uint32_t *, size_t, uint32_t, uint8_t *, size_t) = rd_next;\n"
+    );
+    takes("calls.c", &types).unwrap();
+    takes("other.c", &format!("{table_write} = rd_table_read;\n")).unwrap_err();
 }
 
 #[test]
