@@ -10,8 +10,8 @@
  * readable, and those without const must be the caller's to write for the time of the call.
  *
  * Threads. A call works on what it is lent and on nothing else, so calls may run on several threads at the same time. They may share
- * what is const, such as a table; what a call writes must be lent to no other call until it returns. Of its thread's stack
- * rd_table_read uses less than 32 KiB, each of the others less than 8 KiB.
+ * what is const, such as a table; what a call writes must be lent to no other call until it returns. A thread's stack of 64 KiB is
+ * enough for every call.
  *
  * Cells that are not told are untouched: a destination beyond the length told, the stack beyond what the steps use, the output beyond
  * the letters told, and with a refusal everything that is lent, but for what steps before the refused one have done to run and stack.

@@ -100,3 +100,23 @@ fn any_number_may_be_given_as_task() {
         assert_eq!(run, Run::of(77));
     }
 }
+
+/// All four calls, on the largest chain.
+fn all_calls() {
+    let (table, word) = (chain(256), [1; 64]);
+    let mut text = vec![0; limits::TEXT_BYTES];
+    let length = lending::table_write(&table, &mut text).done();
+    text.truncate(length.expect("a table's text"));
+    let mut cells = vec![0; limits::TABLE_CELLS];
+    let length = lending::table_read(&text, &mut cells).done();
+    assert_eq!(cells[..length.expect("a text's table")], table);
+    let (answer, _) = first_call(&cells, &word, limits::stack_frames(64, 256), 16_639);
+    assert!(matches!(answer, Answer::Found { length: 16_639, .. }));
+}
+
+#[test]
+fn a_thread_of_64_kib() {
+    let thread = std::thread::Builder::new().stack_size(64 << 10);
+    let calls = thread.spawn(all_calls).expect("a thread");
+    calls.join().expect("all is found");
+}
