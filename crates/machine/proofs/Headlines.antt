@@ -31,7 +31,7 @@ use Rattle.machine.specs.Transducer.{arcAt, Passed, lettersToRead, writt
 use Rattle.machine.specs.Idle.{IdleWalk, NoIdleCycle, CycleStates, hasIdleCycle}
 use Rattle.machine.specs.Stack.{framesIn}
 use Rattle.machine.specs.Answer.{found, refused, startNumber}
-use Rattle.machine.specs.Asked.{runs, asked}
+use Rattle.machine.specs.Asked.{Asked, runs, asked}
 use Rattle.machine.specs.Start.{firstRun, started, StartIs}
 use Rattle.machine.specs.Reading.{Outcome, kindBy, outcome, CallBy, RefusedLeaves}
 use Rattle.machine.specs.Demand.{Lent, CallTells, Ample, AmpleCalls, Handed, received, stepsTold, unended, LastEnds, Demand3}
@@ -365,6 +365,10 @@ module _ (cells upper lower : List ℕ) (run : Run) (stack : List ℕ) (n : ℕ)
 pub refused-leaves : (cells upper lower : List ℕ) (run : Run) (stack : List ℕ) (n : ℕ) (buffer : List ℕ) (m : ℕ)
     → kindBy (outcome cells upper lower run stack n buffer) ≡ refused m → RefusedLeaves (asked cells (run .task) upper lower) run stack buffer (outcome cells upper lower run stack n buffer)
 refused-leaves = calls.refused-leaves
+
+-- What it says has one solution.
+pub refused-leaves-one : (w : Asked) (run : Run) (stack buffer : List ℕ) (o v : Outcome) → RefusedLeaves w run stack buffer o → RefusedLeaves w run stack buffer v → o ≡ v
+refused-leaves-one = calls.refused-leaves-one
 
 -- AFTER 23 a buffer of as many letters as frames are in use is enough for the refused step: the next call finds the reading with its first step.
 

@@ -1,7 +1,7 @@
 -- The call for a reading: replies as answers, and what a refused call leaves.
-use Prim.Native.Nat.{ℕ, _≤_}
+use Prim.Native.Nat.{ℕ, suc, _+_, _≤_}
 use native.Mathlib.Omega.{arith}
-use mathlib.Core.Path.{_≡_, refl, sym, ap, subst, _∙_}
+use mathlib.Core.Path.{_≡_, refl, sym, ap, ap₂, subst, _∙_}
 use mathlib.Core.Logic.{_↔_, inl, inr, ⊎-elim}
 use mathlib.Core.Bool.{Bool, true, false}
 use mathlib.Core.List.{List, [], _++_}
@@ -14,10 +14,11 @@ use Rattle.format.specs.Table.{Table}
 use Rattle.format.specs.Loaded.{loaded}
 use Rattle.format.specs.Refusal.{numberOf}
 use Rattle.machine.specs.declared.Run.{Run}
+use Rattle.machine.specs.declared.Answer.{Answer}
 use Rattle.machine.specs.declared.Answer.the-variants.{Refused}
 use Rattle.machine.specs.Query.{Query}
-use Rattle.machine.specs.Machine.{Path, accepts, output, Allowed}
-use Rattle.machine.specs.Frames.{placeHolds}
+use Rattle.machine.specs.Machine.{Machine, Path, accepts, output, Allowed}
+use Rattle.machine.specs.Frames.{Frame, Store, Held, placeHolds}
 use Rattle.machine.specs.Place.{Good, InSearch}
 use Rattle.machine.specs.Call.{Reply, entered, call}
 use Rattle.machine.specs.Call as R
@@ -26,10 +27,10 @@ use Rattle.machine.specs.Transducer.{machine}
 use Rattle.machine.specs.Stack.{roomIn, store}
 use Rattle.machine.specs.Answer.{found, paused, ended, refused, kindOf, stepsOf, outputTold}
 use Rattle.machine.specs.Asked.{Asked, turned, runs, asked}
-use Rattle.machine.specs.Reading.{Outcome, kindBy, heldOf, answerAs, outputAs, outcomeAs, outcomeOf, outcome, RefusedLeaves, CallBy, no-place, goes-on}
+use Rattle.machine.specs.Reading.{Outcome, kindBy, heldOf, answerAs, outputAs, outcomeAs, outcomeOf, outcome, Unchanged, BeforeStep, RefusedLeaves, CallBy, no-place, goes-on}
 use Rattle.machine.proofs.Frames.{place-placed, placed-place}
 use Rattle.machine.proofs.Call.{EndLaw, outs, no-place-call, in-place-call, place-call}
-use Rattle.machine.proofs.Stops.{step-full, steps-good, advance-stops, stops-advance}
+use Rattle.machine.proofs.Stops.{step-full, steps-good, advance-stops, stops-advance, stops-one}
 use Rattle.machine.proofs.Held.{GoodStep, step-good}
 use Rattle.machine.proofs.Stack.{same-is, store-laws}
 use Rattle.machine.proofs.Asked.{TurnedBy, turned-by, same-asked}
@@ -136,7 +137,7 @@ leaves-by t q run stack n buffer m (no-place f) e = (refl, refl, inl (f, (refl, 
 leaves-by t q run stack n buffer m (goes-on I (R.at-end s k z)) e = absurd (let y : _≡_ {A = ℕ} 0 1 = cc in omega arith)
 leaves-by t q run stack n buffer m (goes-on I (R.at-reading w s k z)) e = absurd (let y : _≡_ {A = ℕ} 0 1 = cc in omega arith)
 leaves-by t q run stack n buffer m (goes-on I (R.at-allowance s z)) e = absurd (let y : _≡_ {A = ℕ} 0 1 = cc in omega arith)
-leaves-by t q run stack n buffer m (goes-on I (R.at-refusal c s k z)) e = (refl, refl, inr (record { refusal = c; told = refl; steps-made = s; refused-there = z }))
+leaves-by t q run stack n buffer m (goes-on I (R.at-refusal c s k z)) e = (refl, refl, inr (I, record { refusal = c; told = refl; steps-made = s; refused-there = z }))
 
 pub refused-leaves : (cells upper lower : List ℕ) (run : Run) (stack : List ℕ) (n : ℕ) (buffer : List ℕ) (m : ℕ)
     → kindBy (outcome cells upper lower run stack n buffer) ≡ refused m → RefusedLeaves (asked cells (run .task) upper lower) run stack buffer (outcome cells upper lower run stack n buffer)
@@ -146,6 +147,39 @@ refused-leaves cells upper lower run stack n buffer m e = go (asked cells (run .
     go : (w : Asked) → kindBy (outcomeOf w run stack n buffer) ≡ refused m → RefusedLeaves w run stack buffer (outcomeOf w run stack n buffer)
     go (turned r) e = (refl, (refl, refl, refl))
     go (runs t q) e = leaves-by t q run stack n buffer m (call-by t q run stack n buffer) e
+
+-- And nothing else is left so.
+
+-- an outcome by its answer, the run's task, the rest of the run with the stack, and the buffer
+abbrev whole : Answer → ℕ → Held (List ℕ) → List ℕ → Outcome
+whole a task h b = record { called = record { answer = a; run = record { task = task; started = h .started; depth = h .depth } }; stack = h .cells; output = b }
+
+same-parts : (o v : Outcome) → o .called .answer ≡ v .called .answer → o .called .run .task ≡ v .called .run .task
+    → heldOf (o .called .run) (o .stack) ≡ heldOf (v .called .run) (v .stack) → o .output ≡ v .output → o ≡ v
+same-parts o v a k h b =
+    ap (λ (x : Answer). whole x (o .called .run .task) (heldOf (o .called .run) (o .stack)) (o .output)) a
+    ∙ ap (λ (x : ℕ). whole (v .called .answer) x (heldOf (o .called .run) (o .stack)) (o .output)) k
+    ∙ ap (λ (x : Held (List ℕ)). whole (v .called .answer) (v .called .run .task) x (o .output)) h
+    ∙ ap (λ (x : List ℕ). whole (v .called .answer) (v .called .run .task) (heldOf (v .called .run) (v .stack)) x) b
+
+unchanged-one : (c : Refusal) (run : Run) (stack : List ℕ) (o v : Outcome) → Unchanged c run stack o → Unchanged c run stack v → o .output ≡ v .output → o ≡ v
+unchanged-one c run stack o v O W b =
+    same-parts o v (O .0 ∙ sym (W .0)) (ap (λ (r : Run). r .task) (O .1 ∙ sym (W .1))) (ap₂ heldOf (O .1 ∙ sym (W .1)) (O .2 ∙ sym (W .2))) b
+
+before-one : (M : Machine) (S : Store (Frame (M .D))) (l : ℕ) (h d e : Held (S .Cells)) (a b : Answer) → BeforeStep M S l h d a → BeforeStep M S l h e b → (a ≡ b) × (d ≡ e)
+before-one M S l h d e a b A B =
+    let z = stops-one M S l {n = suc (stepsOf a + stepsOf b)} (R.at-refusal (A .refusal) (A .steps-made) (omega arith) (A .refused-there))
+    (R.at-refusal (B .refusal) (B .steps-made) (omega arith) (B .refused-there)) in
+    let k : stepsOf a ≡ stepsOf b = ap (λ (r : R.Told (S .Cells)). r .steps) z in
+    let y : R.refused (A .refusal) ≡ R.refused (B .refusal) = ap (λ (r : R.Told (S .Cells)). r .reply) z in
+    let c : A .refusal ≡ B .refusal = cc in (A .told ∙ ap₂ Refused k c ∙ sym (B .told), ap (λ (r : R.Told (S .Cells)). r .after) z)
+
+pub refused-leaves-one : (w : Asked) (run : Run) (stack buffer : List ℕ) (o v : Outcome) → RefusedLeaves w run stack buffer o → RefusedLeaves w run stack buffer v → o ≡ v
+refused-leaves-one (turned c) run stack buffer o v O W = unchanged-one c run stack o v (O .1) (W .1) (O .0 ∙ sym (W .0))
+refused-leaves-one (runs t q) run stack buffer o v O W =
+    ⊎-elim (λ x. ⊎-elim (λ y. unchanged-one (State Place) run stack o v (x .1) (y .1) (O .0 ∙ sym (W .0))) (λ y. absurd (x .0 (y .0))) (W .2))
+    (λ x. ⊎-elim (λ y. absurd (y .0 (x .0))) (λ y. let z = before-one (machine t q) store (length buffer) (heldOf run stack) (heldOf (o .called .run) (o .stack)) (heldOf (v .called .run) (v .stack)) (o .called .answer) (v .called .answer) (x .1) (y .1) in same-parts o v (z .0) (O .1 ∙ sym (W .1)) (z .1) (O .0 ∙ sym (W .0))) (W .2))
+    (O .2)
 
 -- 23 is given only where some reading is longer than the buffer
 pub never-full : (t : Table) (q : Query) (run : Run) (stack : List ℕ) (n : ℕ) (buffer : List ℕ) {o : Outcome} → CallBy t q run stack n buffer o

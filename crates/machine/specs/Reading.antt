@@ -97,10 +97,10 @@ pub record BeforeStep (M : Machine) (S : Store (Frame (M .D))) (l : ℕ) (h d : 
   pub refused-there : step M S l d ≡ refuses refusal
 
 -- what a call that is refused leaves, by what was asked: 20, 11 or 10; else 21, where it is no place in a search, or what a step is refused
--- with
+-- with, where it is one. It has one solution (`refused-leaves-one`).
 abbrev pub RefusedLeaves : Asked → Run → List ℕ → List ℕ → Outcome → Type 0
 RefusedLeaves (turned c) run stack buffer o = (o .output ≡ buffer) × Unchanged c run stack o
 RefusedLeaves (runs t q) run stack buffer o =
     (o .output ≡ buffer)
     × (o .called .run .task ≡ run .task)
-    × (((InSearch t q run stack → ⊥) × Unchanged (State Place) run stack o) ⊎ BeforeStep (machine t q) store (length buffer) (heldOf run stack) (heldOf (o .called .run) (o .stack)) (o .called .answer))
+    × (((InSearch t q run stack → ⊥) × Unchanged (State Place) run stack o) ⊎ (InSearch t q run stack × BeforeStep (machine t q) store (length buffer) (heldOf run stack) (heldOf (o .called .run) (o .stack)) (o .called .answer)))
