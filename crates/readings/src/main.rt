@@ -102,8 +102,8 @@ fn main() {
             write_line(&line[..length]);
         }
         Opening::Ready(talk) => {
-            let mut stack = [0u32; 16384];
-            let mut output = [0u8; 4096];
+            let mut stack = speaker::first_stack();
+            let mut output = speaker::first_output();
             speak(&table, &query, talk, &mut stack, &mut output, &mut line);
         }
     }

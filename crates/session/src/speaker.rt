@@ -9,7 +9,22 @@ ghost use Prim.Native.Nat.{_<_};
 ghost use lib.ListN.{length};
 ghost use Rattle.format.specs.Line.{lineText};
 ghost use Rattle.replies.specs.Lines.{refusalLine, storedLine};
+ghost use Rattle.session.specs.Session.{firstStack, firstOutput};
 ghost use Rattle.session.specs.Next.{Fits, bytesSaid, talkAfter, linedAs, lining, LiningIs};
+
+// The stack that the first call of `next_line` is lent: 4,096 frames.
+pub fn first_stack() -> [u32; 16384]
+    ensures { λ r. ⌜ r ≡ firstStack ⌝ }
+{
+    [0u32; 16384]
+}
+
+// The output buffer that it is lent: 4,096 letters.
+pub fn first_output() -> [u8; 4096]
+    ensures { λ r. ⌜ r ≡ firstOutput ⌝ }
+{
+    [0u8; 4096]
+}
 
 // What is told where the calls have come to something.
 fn tell(said: Said, count: u16, output: &[u8; 4096], line: &mut [u8; 8203]) -> Lined

@@ -57,6 +57,12 @@ write-line-requires c κs = search needs
 enum-known-opening-2 : tie.Need-enum-known-opening-2
 enum-known-opening-2 c = search needs
 
+first-stack-requires : tie.Need-first-stack-requires
+first-stack-requires c κs = search needs
+
+first-output-requires : tie.Need-first-output-requires
+first-output-requires c κs = search needs
+
 speak-requires : tie.Need-speak-requires
 speak-requires c κs = search needs
 
@@ -86,6 +92,8 @@ main-spec =
     slice-aggregate-write-line
     write-line-requires
     enum-known-opening-2
+    first-stack-requires
+    first-output-requires
     speak-requires
     returns-2
     returns-3)
