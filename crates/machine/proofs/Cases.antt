@@ -1,7 +1,9 @@
 -- The starred cases hold, by computing.
 use mathlib.Core.Path.{_≡_, refl}
 use mathlib.Core.List.{List, [], _∷_}
-use Prim.Native.Nat.{ℕ}
+use Prim.Native.Nat.{ℕ, zero, suc}
+use native.Mathlib.Omega.{arith}
+use lib.ListN.{replicate}
 use lib.Dec.{T}
 use Rattle.hex.specs.Hex.{valueOf, joined, decoded}
 use Rattle.format.specs.Line.{linesOf, malformed, bytesOf}
@@ -16,8 +18,8 @@ use Rattle.machine.specs.Idle.{hasIdleCycle}
 use Rattle.machine.specs.Asked.{asked}
 use Rattle.machine.specs.Start.{started, firstRun}
 use Rattle.machine.specs.Reading.{outcome}
-use Rattle.machine.specs.Demand.{Lent, Handed, LastEnds}
-use Rattle.machine.specs.Cases.{rows, rowsHold, tableK, textK, big, lentAll}
+use Rattle.machine.specs.Demand.{Lent, Handed, unended, LastEnds}
+use Rattle.machine.specs.Cases.{AsksAmple, rows, rowsHold, tableK, textK, ask, big, lentAll}
 use Rattle.machine.proofs.Handed.{handed-there}
 
 pub cases-hold : T (rowsHold rows)
@@ -47,3 +49,20 @@ handed-k = handed-there cellsK (1 ∷ 2 ∷ []) [] (big ∷ big ∷ big ∷ []) 
 pub ends-k : LastEnds (1 ∷ 2 ∷ []) [] (firstRun 2) lentK
 unfolding outcome asked loaded tableIn arcsIn cellsOf arcsCells keepsRules headerFaults countsHold initialFaults terminalFaults arcFaults each call placeHolds advance step move
 ends-k = refl
+
+-- Calls that are just enough for it.
+pub least-k : (n : ℕ) → AsksAmple 9 (replicate n (ask 1 9 8))
+least-k zero = tt
+least-k (suc n) = ((omega arith, omega arith, omega arith), least-k n)
+
+-- Calls of every kind: Paused, Found, 22, 21, Found, Ended, Ended.
+abbrev pub storyK : List Lent
+storyK = lentAll cellsK (1 ∷ 2 ∷ []) [] (firstRun 2) [] (ask 0 9 8 ∷ ask 1000 3 8 ∷ ask 1000 3 8 ∷ ask 1000 2 8 ∷ ask 1000 9 8 ∷ ask 1000 9 8 ∷ ask 1 9 8 ∷ [])
+
+pub unended-k : unended (1 ∷ 2 ∷ []) [] (firstRun 2) storyK ≡ 5
+unfolding outcome asked loaded tableIn arcsIn cellsOf arcsCells keepsRules headerFaults countsHold initialFaults terminalFaults arcFaults each call placeHolds advance step move
+unended-k = refl
+
+pub story-ends-k : LastEnds (1 ∷ 2 ∷ []) [] (firstRun 2) storyK
+unfolding outcome asked loaded tableIn arcsIn cellsOf arcsCells keepsRules headerFaults countsHold initialFaults terminalFaults arcFaults each call placeHolds advance step move
+story-ends-k = refl

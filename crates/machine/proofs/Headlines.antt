@@ -7,7 +7,7 @@ use mathlib.Core.Logic.{_↔_}
 use mathlib.Core.Bool.{true, false}
 use mathlib.Core.Option.{some}
 use mathlib.Core.List.{List, [], _∷_, List·Memᴰ}
-use lib.ListN.{length, take, drop}
+use lib.ListN.{length, take, drop, replicate}
 use lib.Dec.{T}
 use Rattle.format.specs.Table.{Arc, Table}
 use Rattle.format.specs.Rules.{keepsRules}
@@ -34,10 +34,10 @@ use Rattle.machine.specs.Answer.{found, refused, startNumber}
 use Rattle.machine.specs.Asked.{Asked, runs, asked}
 use Rattle.machine.specs.Start.{firstRun, started, StartIs}
 use Rattle.machine.specs.Reading.{Outcome, kindBy, outcome, CallBy, RefusedLeaves}
-use Rattle.machine.specs.Demand.{Lent, CallTells, Ample, AmpleCalls, Handed, received, stepsTold, unended, LastEnds, Demand3}
+use Rattle.machine.specs.Demand.{Lent, CallTells, Ample, AmpleCalls, other, Handed, received, stepsTold, unended, LastEnds, Demand3}
 use Rattle.machine.specs.Report.{LocallyFinite, _∘_, Word, α, upperAlone, lowerAlone, Output, Cell, arcsOf, kernel, Noetherian, Finite, Solves}
 use Rattle.machine.specs.Agree.{inputOf, outputOf, TraceFor, Same}
-use Rattle.machine.specs.Cases.{Ask, lentAll, AsksAmple, tableK, textK, rows, rowsHold}
+use Rattle.machine.specs.Cases.{Ask, lentAll, AsksAmple, tableK, textK, ask, rows, rowsHold}
 use Rattle.machine.proofs.Tour as tours
 use Rattle.machine.proofs.Order as order
 use Rattle.machine.proofs.Transducer as transducer
@@ -97,6 +97,10 @@ label-finite = finite.label-finite
 
 pub all-infinite : LocallyFinite {A = Word} {B = Word} (λ v w. Unit {0}) → ⊥
 all-infinite = finite.all-infinite
+
+-- and a machine with it on an arc is not finite
+pub all-not-finite : (t : Table) (a : Arc) → List·Memᴰ a (t .arcs) → Finite (record { Data = Word; table = t; relation = λ b v w. Unit {0} }) → ⊥
+all-not-finite t a m F = finite.all-infinite (F .locally-finite a m)
 
 -- IDLE CYCLES, for any table that keeps the rules and any task.
 
@@ -276,6 +280,8 @@ module _ (cells upper lower : List ℕ) where
       pub few : (xs : List Lent) → Handed upper lower cells (s .run) [] xs → (m : ℕ) → AmpleCalls t q m xs → m + unended upper lower (s .run) xs ≤ length xs + treeSize (machine t q)
       pub ends : (xs : List Lent) → Handed upper lower cells (s .run) [] xs → (m : ℕ) → AmpleCalls t q m xs → treeSize (machine t q) < m
           → LastEnds upper lower (s .run) xs × (received upper lower (s .run) xs ≡ readings (machine t q) (tour (machine t q)))
+      -- whatever is lent to it, a call can stand between the others
+      pub between : (x : Lent) (xs : List Lent) (m : ℕ) → AmpleCalls t q m xs → AmpleCalls t q m (x ∷ xs)
       -- room enough by numbers alone: no reading has (letters to read + 1) × states letters; and lists of calls that have it
       pub by-size : (x : Lent) → (lettersToRead q + 1) * t .states ≤ framesIn (x .stack) → 0 < x .allowance → (lettersToRead q + 1) * t .states ≤ length (x .buffer) + 1 → Ample t q x
       pub asks-end : (ks : List Ask) → AsksAmple ((lettersToRead q + 1) * t .states) ks → treeSize (machine t q) < length ks
@@ -284,7 +290,11 @@ module _ (cells upper lower : List ℕ) where
 
     pub end-comes : s .answer ≡ Ready → (t : Table) × (q : Query) × EndComes t q
     unfolding demand-three start-to-end
-    end-comes e = (t, q, record { asked-is = start-to-end cells task upper lower s S e .2; few = few; ends = ends; by-size = live.ample-by-size t q B; asks-end = asks-end })
+    end-comes e = (
+      t,
+      q,
+      record { asked-is = start-to-end cells task upper lower s S e .2; few = few; ends = ends; between = λ x xs m C. other C; by-size = live.ample-by-size t q B; asks-end = asks-end },
+    )
       where
         t : Table
         t = start-to-end cells task upper lower s S e .0
@@ -314,6 +324,14 @@ module _ (cells upper lower : List ℕ) where
 -- An instance: table K, synthesis of 01 02, three calls. The start is ready, the calls are handed on as demand 3 says, and the last answers Ended.
 pub instance-k : (started cases.cellsK 2 (1 ∷ 2 ∷ []) [] [] .answer ≡ Ready) × Handed (1 ∷ 2 ∷ []) [] cases.cellsK (firstRun 2) [] cases.lentK × LastEnds (1 ∷ 2 ∷ []) [] (firstRun 2) cases.lentK
 instance-k = (cases.ready-k, cases.handed-k, cases.ends-k)
+
+-- On table K, calls that are just enough, any number of them; and calls of every kind, of which five do not answer Ended: Paused, Found, 22, 21 and
+-- Found again, before the last two do.
+pub least-k : (n : ℕ) → AsksAmple ((lettersToRead refuted.queryK + 1) * tableK [] .states) (replicate n (ask 1 9 8))
+least-k = cases.least-k
+
+pub story-k : (unended (1 ∷ 2 ∷ []) [] (firstRun 2) cases.storyK ≡ 5) × LastEnds (1 ∷ 2 ∷ []) [] (firstRun 2) cases.storyK
+story-k = (cases.unended-k, cases.story-ends-k)
 
 -- A CALL IS ITS STEPS, FOR ANY RUN, STACK, ALLOWANCE AND BUFFER: where 20, 11 and 10 are not given, the outcome is the one that the step rule tells
 -- (`CallBy`, of `Steps` and `Stops`), with every field of the run, every cell of the stack and of the buffer.
