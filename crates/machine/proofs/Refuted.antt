@@ -4,6 +4,7 @@ use native.Mathlib.Omega.{arith}
 use mathlib.Core.Path.{_≡_, refl, sym, ap, _∙_}
 use mathlib.Core.List.{List, [], _∷_}
 use Rattle.format.specs.Table.{Table}
+use Rattle.format.specs.Loaded.{cellsOf}
 use Rattle.format.specs.declared.Refusal.the-variants.{State}
 use Rattle.format.specs.declared.StateCause.the-variants.{OutputFull}
 use Rattle.machine.specs.declared.Run.{Run}
@@ -29,7 +30,7 @@ abbrev pub queryK : Query
 queryK = record { task = synthesis; upperWord = 1 ∷ 2 ∷ []; lowerWord = [] }
 
 abbrev pub firstK : Lent
-firstK = lentFor [] big []
+firstK = lentFor (cellsOf (tableK [])) big []
 
 first-finds : kindBy (outcomeOf (runs (tableK []) queryK) (firstRun 2) (firstK .stack) (firstK .allowance) (firstK .buffer)) ≡ found 2
 unfolding call placeHolds advance step move
