@@ -5,10 +5,10 @@ use mathlib.Core.Path.{_≡_}
 use mathlib.Core.List.{List}
 use Rattle.table.specs.declared.Answer.the-variants.{Done}
 use Rattle.table.specs.Calls.{readAnswer, writeAnswer}
-use Rattle.format.proofs.Rules.{table-bounded}
-use Rattle.format.proofs.Loaded.{length-cells, cells-loaded}
-use Rattle.format.proofs.Text.{length-text}
-use Rattle.format.proofs.Determine.{read-text}
+use Rattle.table_format.proofs.Rules.{table-bounded}
+use Rattle.table_format.proofs.Loaded.{length-cells, cells-loaded}
+use Rattle.table_format.proofs.Text.{length-text}
+use Rattle.table_format.proofs.Determine.{read-text}
 use Rattle.table.proofs.Calls.{read-done, write-done}
 
 pub read-small : (text destination : List ℕ) (n : ℕ) → readAnswer text destination ≡ Done n → n < 2 ^ 32

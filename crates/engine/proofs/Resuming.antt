@@ -7,10 +7,10 @@ use mathlib.Core.Option.{Option, some}
 use mathlib.Core.List.{List}
 use lib.ListN.{length, take, drop}
 use Rattle.table.specs.declared.Layout.{Layout}
-use Rattle.format.specs.declared.Refusal.{Refusal}
-use Rattle.format.specs.Table.{Table}
-use Rattle.format.specs.Rules.{keepsRules}
-use Rattle.format.specs.Loaded.{countsIn, tableIn}
+use Rattle.table_format.specs.declared.Refusal.{Refusal}
+use Rattle.table_format.specs.Table.{Table}
+use Rattle.table_format.specs.Rules.{keepsRules}
+use Rattle.table_format.specs.Loaded.{countsIn, tableIn}
 use Rattle.table.specs.Calls.{LaidOut, layoutOf, checkedAs, checked}
 use Rattle.table.proofs.Parts.{initials-part, terminals-part, arcs-part, arcs-whole, index-part, laid-out}
 use Rattle.table.proofs.Written.{Holding, holding}
@@ -24,10 +24,10 @@ use Rattle.machine.specs.Transducer.{machine}
 use Rattle.machine.specs.Stack.{store}
 use Rattle.machine.specs.Asked.{Asked, turned, asked}
 use Rattle.machine.specs.Reading.{Outcome, heldOf, outcomeAs, outcomeOf, outcome}
-use Rattle.frames.specs.declared.Setup.{Setup}
-use Rattle.step.specs.Setting.{taskBy, queryBy, tableBy, machineBy, Prepared}
-use Rattle.search.specs.Searching.{calledWith, SearchIs}
-use Rattle.admission.proofs.Words.{Asks}
+use Rattle.engine_frames.specs.declared.Setup.{Setup}
+use Rattle.engine_step.specs.Setting.{taskBy, queryBy, tableBy, machineBy, Prepared}
+use Rattle.engine_search.specs.Searching.{calledWith, SearchIs}
+use Rattle.engine_admission.proofs.Words.{Asks}
 use Rattle.engine.specs.Advancing.{OutcomeIs, Admitted}
 
 -- 20, 11 and 10 leave all as it was

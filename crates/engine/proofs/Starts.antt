@@ -6,15 +6,15 @@ use mathlib.Core.Bool.{Bool, true, false, true≢false, cond}
 use mathlib.Core.Option.{some}
 use mathlib.Core.List.{List, [], _∷_}
 use lib.ListN.{length}
-use Rattle.format.specs.declared.Refusal.{Refusal}
-use Rattle.format.specs.declared.Refusal.the-variants.{Input}
-use Rattle.format.specs.declared.InputCause.the-variants.{IdleCycle}
+use Rattle.table_format.specs.declared.Refusal.{Refusal}
+use Rattle.table_format.specs.declared.Refusal.the-variants.{Input}
+use Rattle.table_format.specs.declared.InputCause.the-variants.{IdleCycle}
 use Rattle.table.specs.declared.Checked.{Checked}
 use Rattle.table.specs.declared.Layout.{Layout}
-use Rattle.format.specs.Loaded.{countsIn, tableIn}
+use Rattle.table_format.specs.Loaded.{countsIn, tableIn}
 use Rattle.table.specs.Calls.{layoutOf, LaidOut, checked}
 use Rattle.table.proofs.Parts.{arcsPart, arcs-part}
-use Rattle.format.proofs.Ruled.{Ruled, ruled}
+use Rattle.table_format.proofs.Ruled.{Ruled, ruled}
 use Rattle.machine.specs.declared.Run.{Run}
 use Rattle.machine.specs.declared.Started.{Started}
 use Rattle.machine.specs.declared.StartAnswer.the-variants.{Ready, Refused}
@@ -23,10 +23,10 @@ use Rattle.machine.specs.Idle.{CycleStates, hasIdleCycle}
 use Rattle.machine.specs.Asked.{Asked, turned, asked}
 use Rattle.machine.specs.Start.{firstRun, startedWith, startedAs, started, TellsCycle, StartIs}
 use Rattle.machine.proofs.Asked.{loaded-rules}
-use Rattle.idle.specs.declared.Cycle.{Cycle}
-use Rattle.idle.specs.Graph.{Graph, FoundCycle, CycleOrNone, cycleCells}
-use Rattle.admission.proofs.Words.{Asks}
-use Rattle.idle.proofs.TableGraph.{loaded-laid, loaded-index, graph-of, found-none, found-some, found-states}
+use Rattle.engine_idle.specs.declared.Cycle.{Cycle}
+use Rattle.engine_idle.specs.Graph.{Graph, FoundCycle, CycleOrNone, cycleCells}
+use Rattle.engine_admission.proofs.Words.{Asks}
+use Rattle.engine_idle.proofs.TableGraph.{loaded-laid, loaded-index, graph-of, found-none, found-some, found-states}
 
 module _ (cells : List ℕ) (task : ℕ) (upper lower : List ℕ) where
   -- 20, 11 and 10

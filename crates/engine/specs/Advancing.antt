@@ -3,8 +3,8 @@ use Prim.Native.Nat.{ℕ}
 use mathlib.Core.Path.{_≡_}
 use mathlib.Core.Option.{some}
 use mathlib.Core.List.{List}
-use Rattle.format.specs.Loaded.{tableIn, loaded}
-use Rattle.format.specs.Index.{firstArcs}
+use Rattle.table_format.specs.Loaded.{tableIn, loaded}
+use Rattle.table_format.specs.Index.{firstArcs}
 use Rattle.machine.specs.declared.Called.{Called}
 use Rattle.machine.specs.Query.{Task, taskOf}
 use Rattle.machine.specs.Asked.{runs, asked}

@@ -1,12 +1,12 @@
 // The core of a call for a reading: the run goes in by value, and comes back by value.
-use admission::Admission;
-use frames::Setup;
+use engine_admission::Admission;
+use engine_frames::Setup;
 use machine::Called;
 use machine::Run;
 use table::Layout;
 use table::checker;
 ghost use mathlib.Core.Path.{_≡_};
-ghost use Rattle.format.specs.Loaded.{countsIn};
+ghost use Rattle.table_format.specs.Loaded.{countsIn};
 ghost use Rattle.table.specs.Calls.{layoutOf};
 ghost use Rattle.machine.specs.Reading.{outcome};
 ghost use Rattle.engine.specs.Advancing.{OutcomeIs, Admitted};
@@ -34,10 +34,10 @@ fn resume(
     let task = run.task;
     let setup = Setup {
         states: at.states,
-        up: admission::reads_upper(task),
-        low: admission::reads_lower(task),
+        up: engine_admission::reads_upper(task),
+        low: engine_admission::reads_lower(task),
     };
-    search::call(
+    engine_search::call(
         setup,
         first,
         &table[initials..terminals],
@@ -68,9 +68,9 @@ pub fn advance(
 {
     let checked = checker::check(table);
     let task = run.task;
-    let asking = admission::asked(checked.ok, task, upper, lower);
+    let asking = engine_admission::asked(checked.ok, task, upper, lower);
     match asking {
-        Admission::Refused(refusal) => search::refused(0, refusal, run),
+        Admission::Refused(refusal) => engine_search::refused(0, refusal, run),
         Admission::Passes => {
             let at = checked.layout;
             resume(

@@ -1,7 +1,7 @@
 // The start of a search: 20, 11, 10, then 12.
-use admission::Admission;
-use format::InputCause;
-use format::Refusal;
+use engine_admission::Admission;
+use table_format::InputCause;
+use table_format::Refusal;
 use machine::Run;
 use machine::StartAnswer;
 use machine::Started;
@@ -50,7 +50,7 @@ pub fn start(table: &[u16], task: u32, upper: &[u8], lower: &[u8]) -> Started
     ensures { λ r. ⌜ StartIs (now (table .entry)) task (now (upper .entry)) (now (lower .entry)) r ⌝ }
 {
     let checked = table::checker::check(table);
-    let asking = admission::asked(checked.ok, task, upper, lower);
+    let asking = engine_admission::asked(checked.ok, task, upper, lower);
     if let Admission::Refused(refusal) = asking {
         return refused(refusal);
     }
@@ -59,12 +59,12 @@ pub fn start(table: &[u16], task: u32, upper: &[u8], lower: &[u8]) -> Started
     let states = at.states as usize;
     let arcs = at.arcs;
     let end = at.end;
-    let found = idle::find(
+    let found = engine_idle::find(
         &table[arcs..end],
         &first,
         states,
-        admission::reads_upper(task),
-        admission::reads_lower(task),
+        engine_admission::reads_upper(task),
+        engine_admission::reads_lower(task),
     );
     if found.length == 0 {
         return ready(task);

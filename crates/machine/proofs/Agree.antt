@@ -9,9 +9,9 @@ use mathlib.Core.List.{[], _∷_, _++_, append-nil}
 use lib.ListN.{length, getD, length-drop}
 use lib.Seq.{drop-length}
 use borrow.Author.Tests.{eqb-true, eq-eqb}
-use Rattle.format.specs.Table.{Table}
-use Rattle.format.proofs.Tests.{and-left, and-right, and-both}
-use Rattle.format.proofs.Ruled.{Ruled}
+use Rattle.table_format.specs.Table.{Table}
+use Rattle.table_format.proofs.Tests.{and-left, and-right, and-both}
+use Rattle.table_format.proofs.Ruled.{Ruled}
 use Rattle.machine.specs.Query.{Task, recognition, synthesis, analysis, Side, upperSide, lowerSide, reads, Query}
 use Rattle.machine.specs.Transducer.{arcAt, member, sideWrites, sideDone, sideToRead, Passed, followArc, doneOn, machine}
 use Rattle.machine.specs.Machine.{Path, start, more, final, datum, listed, tested, accepts, output, Allowed}

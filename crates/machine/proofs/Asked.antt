@@ -10,15 +10,15 @@ use mathlib.Core.List.{List}
 use lib.ListN.{length}
 use lib.Dec.{leb}
 use borrow.Author.Tests.{leb-true}
-use Rattle.format.specs.declared.Refusal.{Refusal}
-use Rattle.format.specs.declared.Refusal.the-variants.{Input}
-use Rattle.format.specs.declared.InputCause.the-variants.{WordFault, TaskFault}
-use Rattle.format.specs.Table.{Table}
-use Rattle.format.specs.Refusal.{numberOf}
-use Rattle.format.specs.Rules.{keepsRules}
-use Rattle.format.specs.Loaded.{countsIn, extent, tableIn, loaded}
-use Rattle.format.proofs.Tests.{and-left, and-right}
-use Rattle.format.proofs.Ruled.{Ruled}
+use Rattle.table_format.specs.declared.Refusal.{Refusal}
+use Rattle.table_format.specs.declared.Refusal.the-variants.{Input}
+use Rattle.table_format.specs.declared.InputCause.the-variants.{WordFault, TaskFault}
+use Rattle.table_format.specs.Table.{Table}
+use Rattle.table_format.specs.Refusal.{numberOf}
+use Rattle.table_format.specs.Rules.{keepsRules}
+use Rattle.table_format.specs.Loaded.{countsIn, extent, tableIn, loaded}
+use Rattle.table_format.proofs.Tests.{and-left, and-right}
+use Rattle.table_format.proofs.Ruled.{Ruled}
 use Rattle.machine.specs.Query.{Task, Side, upperSide, lowerSide, reads, taskOf, Query, word, wordHolds, wordsHold, sidesHold}
 use Rattle.machine.specs.Transducer.{sideToRead, toReadOn, lettersToRead}
 use Rattle.machine.specs.Asked.{Asked, turned, runs, askedWords, askedTask, askedTable, asked}

@@ -10,8 +10,8 @@ use native.Mathlib.Nat.{mul-le-mul-right}
 use lib.ListN.{length, getD}
 use lib.Dec.{eqb}
 use borrow.Author.Tests.{eqb-true}
-use Rattle.format.specs.Table.{Arc, Table}
-use Rattle.format.proofs.Ruled.{Ruled}
+use Rattle.table_format.specs.Table.{Arc, Table}
+use Rattle.table_format.proofs.Ruled.{Ruled}
 use Rattle.machine.specs.Query.{Task, Side, upperSide, lowerSide, reads, letter, word, Query}
 use Rattle.machine.specs.Transducer.{noArc, arcAt, sideFollow, sideToRead, Passed, passed, nothingPassed, followArc, toReadOn, lettersToRead, machine}
 use Rattle.machine.specs.Machine.{Path, start, more, final, datum, size, Allowed, Bounded}

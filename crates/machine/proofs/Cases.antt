@@ -6,10 +6,10 @@ use native.Mathlib.Omega.{arith}
 use lib.ListN.{replicate}
 use lib.Dec.{T}
 use Rattle.hex.specs.Hex.{valueOf, joined, decoded}
-use Rattle.format.specs.Line.{linesOf, malformed, bytesOf}
-use Rattle.format.specs.Parse.{accepted, itemFaults, bytesFaults, lineFaults, onward, parseFrom, parsed}
-use Rattle.format.specs.Rules.{each, countsHold, headerFaults, initialFaults, terminalFaults, arcFaults, keepsRules}
-use Rattle.format.specs.Loaded.{arcsCells, cellsOf, arcsIn, tableIn, loaded}
+use Rattle.table_format.specs.Line.{linesOf, malformed, bytesOf}
+use Rattle.table_format.specs.Parse.{accepted, itemFaults, bytesFaults, lineFaults, onward, parseFrom, parsed}
+use Rattle.table_format.specs.Rules.{each, countsHold, headerFaults, initialFaults, terminalFaults, arcFaults, keepsRules}
+use Rattle.table_format.specs.Loaded.{arcsCells, cellsOf, arcsIn, tableIn, loaded}
 use Rattle.machine.specs.declared.StartAnswer.the-variants.{Ready}
 use Rattle.machine.specs.Frames.{placeHolds}
 use Rattle.machine.specs.Step.{move, step}

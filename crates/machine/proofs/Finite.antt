@@ -9,7 +9,7 @@ use mathlib.Core.List.{List, [], _∷_, _++_, List·Memᴰ, List·Memᴰ·head, 
 use lib.ListN.{length, replicate, length-replicate}
 use lib.Dec.{eqb}
 use borrow.Author.Tests.{eqb-true, eqb-false}
-use Rattle.format.specs.Table.{Arc}
+use Rattle.table_format.specs.Table.{Arc}
 use Rattle.machine.specs.Query.{Task, recognition, synthesis, analysis}
 use Rattle.machine.specs.Report.{Rel, identity, _⊗_, LocallyFinite, Word, L⁻¹, reading, writing, α}
 

@@ -8,7 +8,7 @@ use mathlib.Core.List.{List, [], _∷_, _++_}
 use lib.ListN.{length, getD}
 use lib.Dec.{eqb, ltb, leb}
 use borrow.Author.Tests.{eqb-true, ltb-true, leb-true, lt-ltb, le-leb, lt-leb, eq-eqb}
-use Rattle.format.proofs.Tests.{and-left, and-right, and-both}
+use Rattle.table_format.proofs.Tests.{and-left, and-right, and-both}
 use Rattle.machine.specs.Machine.{Machine, more, size, datum, tested, accepts, output, Bounded}
 use Rattle.machine.specs.Frames.{Frame, Store, Held, framesOf, walkTo, viewOf, bottomHolds, nextHolds, linkHolds, chainHolds, framesHold, placeHolds}
 use Rattle.machine.specs.Place.{Placed}

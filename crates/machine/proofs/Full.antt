@@ -8,11 +8,11 @@ use mathlib.Core.List.{List, tail}
 use lib.ListN.{length}
 use lib.Dec.{ltb}
 use borrow.Author.Tests.{ltb-true, le-ltb}
-use Rattle.format.specs.Table.{Table}
-use Rattle.format.specs.Refusal.{numberOf}
-use Rattle.format.specs.declared.Refusal.{Refusal}
-use Rattle.format.specs.declared.Refusal.the-variants.{State}
-use Rattle.format.specs.declared.StateCause.the-variants.{StackFull, OutputFull}
+use Rattle.table_format.specs.Table.{Table}
+use Rattle.table_format.specs.Refusal.{numberOf}
+use Rattle.table_format.specs.declared.Refusal.{Refusal}
+use Rattle.table_format.specs.declared.Refusal.the-variants.{State}
+use Rattle.table_format.specs.declared.StateCause.the-variants.{StackFull, OutputFull}
 use Rattle.machine.specs.declared.Run.{Run}
 use Rattle.machine.specs.declared.Answer.the-variants.{Found}
 use Rattle.machine.specs.Query.{Query}

@@ -9,13 +9,13 @@ use mathlib.Core.Option.{some}
 use mathlib.Core.List.{List, [], _∷_, List·Memᴰ}
 use lib.ListN.{length, take, drop, replicate}
 use lib.Dec.{T}
-use Rattle.format.specs.Table.{Arc, Table}
-use Rattle.format.specs.Rules.{keepsRules}
-use Rattle.format.specs.Loaded.{loaded}
-use Rattle.format.specs.Parse.{accepted, parsed}
-use Rattle.format.specs.declared.Refusal.the-variants.{State}
-use Rattle.format.specs.declared.StateCause.the-variants.{Place}
-use Rattle.format.proofs.Ruled.{Ruled, ruled}
+use Rattle.table_format.specs.Table.{Arc, Table}
+use Rattle.table_format.specs.Rules.{keepsRules}
+use Rattle.table_format.specs.Loaded.{loaded}
+use Rattle.table_format.specs.Parse.{accepted, parsed}
+use Rattle.table_format.specs.declared.Refusal.the-variants.{State}
+use Rattle.table_format.specs.declared.StateCause.the-variants.{Place}
+use Rattle.table_format.proofs.Ruled.{Ruled, ruled}
 use Rattle.machine.specs.declared.Run.{Run}
 use Rattle.machine.specs.declared.Answer.the-variants.{Found, Refused}
 use Rattle.machine.specs.declared.StartAnswer.the-variants.{Ready}

@@ -9,11 +9,11 @@ use mathlib.Core.List.{List, [], _∷_, List·Memᴰ, List·Memᴰ·head, List·
 use lib.ListN.{length}
 use lib.Dec.{eqb}
 use borrow.Author.Tests.{eqb-true, eqb-false, eq-eqb}
-use Rattle.format.specs.Table.{Arc, Table}
-use Rattle.format.specs.Rules.{isEmpty, any}
-use Rattle.format.proofs.Tests.{and-left, and-right, and-both}
-use Rattle.format.proofs.Any.{any-found, any-mem}
-use Rattle.format.proofs.Ruled.{Ruled}
+use Rattle.table_format.specs.Table.{Arc, Table}
+use Rattle.table_format.specs.Rules.{isEmpty, any}
+use Rattle.table_format.proofs.Tests.{and-left, and-right, and-both}
+use Rattle.table_format.proofs.Any.{any-found, any-mem}
+use Rattle.table_format.proofs.Ruled.{Ruled}
 use Rattle.machine.specs.Query.{Task}
 use Rattle.machine.specs.Transducer.{member}
 use Rattle.machine.specs.Idle.{idle, IdleWalk, one, andThen, NoIdleCycle, IdleArc, Through, Distinct, CycleStates, leads, keepIf, movable, upTo, live, hasIdleCycle}

@@ -6,9 +6,9 @@ use mathlib.Core.Bool.{Bool, true, false}
 use mathlib.Core.Logic.{⊎-elim}
 use mathlib.Core.List.{List, [], _∷_, _++_, append-nil, List·Memᴰ·not-nil, List·Memᴰ·cases-cons}
 use lib.ListN.{length}
-use Rattle.format.specs.Table.{Arc, Table}
-use Rattle.format.proofs.Tests.{and-left, and-right}
-use Rattle.format.proofs.Ruled.{Ruled}
+use Rattle.table_format.specs.Table.{Arc, Table}
+use Rattle.table_format.proofs.Tests.{and-left, and-right}
+use Rattle.table_format.proofs.Ruled.{Ruled}
 use Rattle.machine.specs.Query.{Task, Side, upperSide, lowerSide, reads, letter, Query}
 use Rattle.machine.specs.Machine.{Path, start, more, size}
 use Rattle.machine.specs.Transducer.{sideWrites, nothingPassed, machine}

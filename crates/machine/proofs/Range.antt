@@ -7,9 +7,9 @@ use mathlib.Core.List.{List, [], _∷_}
 use lib.ListN.{length}
 use lib.Dec.{ltb}
 use borrow.Author.Tests.{ltb-true, ltb-false}
-use Rattle.format.specs.Table.{Arc, Table}
-use Rattle.format.specs.Index.{below}
-use Rattle.format.proofs.Ruled.{Ruled}
+use Rattle.table_format.specs.Table.{Arc, Table}
+use Rattle.table_format.specs.Index.{below}
+use Rattle.table_format.proofs.Ruled.{Ruled}
 use Rattle.machine.specs.Query.{Side, Query}
 use Rattle.machine.specs.Machine.{Path, start, more, final, Allowed}
 use Rattle.machine.specs.Frames.{Frame, walkTo}

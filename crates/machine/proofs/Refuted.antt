@@ -3,10 +3,10 @@ use Prim.Native.Nat.{ℕ}
 use native.Mathlib.Omega.{arith}
 use mathlib.Core.Path.{_≡_, refl, sym, ap, _∙_}
 use mathlib.Core.List.{List, [], _∷_}
-use Rattle.format.specs.Table.{Table}
-use Rattle.format.specs.Loaded.{cellsOf}
-use Rattle.format.specs.declared.Refusal.the-variants.{State}
-use Rattle.format.specs.declared.StateCause.the-variants.{OutputFull}
+use Rattle.table_format.specs.Table.{Table}
+use Rattle.table_format.specs.Loaded.{cellsOf}
+use Rattle.table_format.specs.declared.Refusal.the-variants.{State}
+use Rattle.table_format.specs.declared.StateCause.the-variants.{OutputFull}
 use Rattle.machine.specs.declared.Run.{Run}
 use Rattle.machine.specs.declared.Answer.the-variants.{Refused}
 use Rattle.machine.specs.Query.{Query, synthesis}

@@ -8,8 +8,8 @@ use lib.ListN.{length, getD, set, take, length-set}
 use lib.Seq.{getD-set-same, getD-set-other, getD-take, set-getD}
 use lib.Dec.{eqb}
 use borrow.Author.Tests.{eqb-true, eq-eqb}
-use Rattle.format.specs.Table.{Table}
-use Rattle.format.proofs.Tests.{and-left, and-right, and-both}
+use Rattle.table_format.specs.Table.{Table}
+use Rattle.table_format.proofs.Tests.{and-left, and-right, and-both}
 use Rattle.machine.specs.Query.{Query}
 use Rattle.machine.specs.Frames.{Frame, framesOf}
 use Rattle.machine.specs.Step.{triedOf}

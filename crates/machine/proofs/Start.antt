@@ -8,13 +8,13 @@ use mathlib.Core.Option.{some}
 use mathlib.Core.List.{List, [], _∷_, List·Memᴰ·cases-cons, List·Memᴰ·not-nil}
 use lib.ListN.{length, take, replicate, length-append, length-replicate}
 use lib.Seq.{take-append-seam}
-use Rattle.format.specs.declared.Refusal.{Refusal}
-use Rattle.format.specs.declared.Refusal.the-variants.{Input}
-use Rattle.format.specs.declared.InputCause.the-variants.{IdleCycle}
-use Rattle.format.specs.Table.{Table}
-use Rattle.format.specs.Refusal.{numberOf}
-use Rattle.format.specs.Loaded.{loaded}
-use Rattle.format.proofs.Ruled.{Ruled, ruled}
+use Rattle.table_format.specs.declared.Refusal.{Refusal}
+use Rattle.table_format.specs.declared.Refusal.the-variants.{Input}
+use Rattle.table_format.specs.declared.InputCause.the-variants.{IdleCycle}
+use Rattle.table_format.specs.Table.{Table}
+use Rattle.table_format.specs.Refusal.{numberOf}
+use Rattle.table_format.specs.Loaded.{loaded}
+use Rattle.table_format.proofs.Ruled.{Ruled, ruled}
 use Rattle.machine.specs.declared.StartAnswer.the-variants.{Ready, Refused}
 use Rattle.machine.specs.declared.Started.{Started}
 use Rattle.machine.specs.Query.{Task, Query}

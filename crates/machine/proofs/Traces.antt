@@ -9,8 +9,8 @@ use lib.ListN.{length, getD, drop}
 use lib.Seq.{drop-cons}
 use lib.Dec.{eqb}
 use borrow.Author.Tests.{eqb-true, eq-eqb}
-use Rattle.format.specs.Table.{Arc, Table}
-use Rattle.format.proofs.Ruled.{Ruled}
+use Rattle.table_format.specs.Table.{Arc, Table}
+use Rattle.table_format.proofs.Ruled.{Ruled}
 use Rattle.machine.specs.Query.{Task, recognition, synthesis, analysis, Side, upperSide, lowerSide, reads, letter, word, Query}
 use Rattle.machine.specs.Transducer.{noArc, arcAt, sideFollow, sideWrites, Passed, passed, nothingPassed, both, followOn, followArc, machine}
 use Rattle.machine.specs.Machine.{Path, start, more, final, datum, onward, Allowed}

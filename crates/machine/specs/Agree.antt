@@ -4,7 +4,7 @@ use mathlib.Core.Path.{_≡_}
 use mathlib.Core.Bool.{true}
 use mathlib.Core.List.{List, [], _∷_, List·Memᴰ}
 use lib.ListN.{getD}
-use Rattle.format.specs.Table.{Arc, Table}
+use Rattle.table_format.specs.Table.{Arc, Table}
 use Rattle.machine.specs.Query.{Task, recognition, synthesis, analysis, Query}
 use Rattle.machine.specs.Machine.{Path, start, more}
 use Rattle.machine.specs.Transducer.{arcAt}

@@ -8,8 +8,8 @@ use mathlib.Core.Option.{Option, none, some}
 use mathlib.Core.List.{List, [], _∷_, _++_}
 use lib.ListN.{replicate, take}
 use lib.Dec.{eqb}
-use Rattle.format.specs.Table.{Arc, Table}
-use Rattle.format.specs.Loaded.{cellsOf}
+use Rattle.table_format.specs.Table.{Arc, Table}
+use Rattle.table_format.specs.Loaded.{cellsOf}
 use Rattle.machine.specs.declared.Run.{Run}
 use Rattle.machine.specs.declared.Started.{Started}
 use Rattle.machine.specs.Query.{sameWord}

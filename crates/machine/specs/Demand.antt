@@ -6,8 +6,8 @@ use mathlib.Core.Bool.{true, cond}
 use mathlib.Core.List.{List, [], _∷_, _++_}
 use lib.ListN.{length, take}
 use lib.Dec.{leb}
-use Rattle.format.specs.Table.{Table}
-use Rattle.format.specs.Loaded.{loaded}
+use Rattle.table_format.specs.Table.{Table}
+use Rattle.table_format.specs.Loaded.{loaded}
 use Rattle.machine.specs.declared.Run.{Run}
 use Rattle.machine.specs.Query.{Query}
 use Rattle.machine.specs.Tour.{tour, readings, treeSize}

@@ -4,8 +4,8 @@ use mathlib.Core.Path.{_≡_}
 use mathlib.Core.Bool.{Bool, true, false, not, _&&_}
 use mathlib.Core.List.{List, [], _∷_, List·Memᴰ}
 use lib.Dec.{eqb}
-use Rattle.format.specs.Table.{Arc, Table}
-use Rattle.format.specs.Rules.{isEmpty, any}
+use Rattle.table_format.specs.Table.{Arc, Table}
+use Rattle.table_format.specs.Rules.{isEmpty, any}
 use Rattle.machine.specs.Query.{Task, Side, upperSide, lowerSide, reads, letter}
 use Rattle.machine.specs.Transducer.{member}
 

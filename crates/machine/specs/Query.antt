@@ -5,8 +5,8 @@ use mathlib.Core.Option.{Option, none, some}
 use mathlib.Core.List.{List, [], _∷_}
 use lib.Dec.{eqb, leb}
 use lib.ListN.{length}
-use Rattle.format.specs.Table.{Arc}
-use Rattle.format.specs.Rules.{isEmpty}
+use Rattle.table_format.specs.Table.{Arc}
+use Rattle.table_format.specs.Rules.{isEmpty}
 
 -- "Recognition .. Synthesis .. Analysis"
 pub data Task : Type 0 where

@@ -4,7 +4,7 @@ use mathlib.Core.Path.{_≡_}
 use mathlib.Core.Logic.{_↔_}
 use mathlib.Core.Bool.{Bool, true, false}
 use mathlib.Core.List.{List, [], _∷_, _++_, List·Memᴰ}
-use Rattle.format.specs.Table.{Arc, Table}
+use Rattle.table_format.specs.Table.{Arc, Table}
 use Rattle.machine.specs.Query.{Task, recognition, synthesis, analysis}
 
 infixl 60 _∘_

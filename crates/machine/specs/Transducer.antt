@@ -6,9 +6,9 @@ use mathlib.Core.Option.{Option, none, some}
 use mathlib.Core.List.{List, [], _∷_, _++_}
 use lib.ListN.{length, getD}
 use lib.Dec.{eqb}
-use Rattle.format.specs.Table.{Arc, Table}
-use Rattle.format.specs.Rules.{any}
-use Rattle.format.specs.Index.{below}
+use Rattle.table_format.specs.Table.{Arc, Table}
+use Rattle.table_format.specs.Rules.{any}
+use Rattle.table_format.specs.Index.{below}
 use Rattle.machine.specs.Query.{Side, upperSide, lowerSide, reads, letter, Query, word}
 use Rattle.machine.specs.Machine.{Machine}
 

@@ -7,19 +7,19 @@ use mathlib.Core.List.{List, [], _++_}
 use lib.ListN.{length, take, drop, length-drop}
 use lib.Seq.{take-at, take-all}
 use borrow.Author.Tests.{lt-ltb, le-ltb}
-use Rattle.format.specs.declared.InputCause.{InputCause}
-use Rattle.format.specs.declared.InputCause.the-variants.{CountLimit, IdleCycle}
-use Rattle.format.specs.declared.Refusal.{Refusal}
-use Rattle.format.specs.declared.Refusal.the-variants.{Input}
+use Rattle.table_format.specs.declared.InputCause.{InputCause}
+use Rattle.table_format.specs.declared.InputCause.the-variants.{CountLimit, IdleCycle}
+use Rattle.table_format.specs.declared.Refusal.{Refusal}
+use Rattle.table_format.specs.declared.Refusal.the-variants.{Input}
 use Rattle.table.specs.declared.Answer.the-variants as A
-use Rattle.format.specs.Table.{Table}
-use Rattle.format.specs.Loaded.{cellsOf}
-use Rattle.format.specs.Line.{Line, linesOf}
-use Rattle.format.specs.Parse.{Parsed, accepted, turnedDown, parsed}
+use Rattle.table_format.specs.Table.{Table}
+use Rattle.table_format.specs.Loaded.{cellsOf}
+use Rattle.table_format.specs.Line.{Line, linesOf}
+use Rattle.table_format.specs.Parse.{Parsed, accepted, turnedDown, parsed}
 use Rattle.table.specs.Calls.{readAs, readAnswer, readCells}
-use Rattle.format.proofs.Rules.{table-bounded}
-use Rattle.format.proofs.Loaded.{length-cells}
-use Rattle.format.proofs.Determine.{read-text}
+use Rattle.table_format.proofs.Rules.{table-bounded}
+use Rattle.table_format.proofs.Loaded.{length-cells}
+use Rattle.table_format.proofs.Determine.{read-text}
 use Rattle.table.proofs.Calls.{read-done, read-fits, read-length}
 use Rattle.machine.specs.declared.StartAnswer.{StartAnswer}
 use Rattle.machine.specs.declared.StartAnswer.the-variants as T
@@ -27,13 +27,13 @@ use Rattle.machine.specs.declared.Started.{Started}
 use Rattle.machine.specs.Asked as M
 use Rattle.machine.specs.Idle.{hasIdleCycle}
 use Rattle.machine.specs.Start.{firstRun, startedWith, startedAs, started, StartIs}
-use Rattle.query.specs.Parts.{tableText, queryText, tableSize}
-use Rattle.query.specs.declared.Question.{Question}
-use Rattle.query.specs.declared.Asking.the-variants.{Fault, Query}
-use Rattle.query.specs.Query.{taskIn, upperIn, lowerIn, queryOf}
-use Rattle.query.specs.Asking.{questionOf}
-use Rattle.query.proofs.Parts.{size-inside}
-use Rattle.query.proofs.Query.{fault-is, Asks, asks-is}
+use Rattle.session_query.specs.Parts.{tableText, queryText, tableSize}
+use Rattle.session_query.specs.declared.Question.{Question}
+use Rattle.session_query.specs.declared.Asking.the-variants.{Fault, Query}
+use Rattle.session_query.specs.Query.{taskIn, upperIn, lowerIn, queryOf}
+use Rattle.session_query.specs.Asking.{questionOf}
+use Rattle.session_query.proofs.Parts.{size-inside}
+use Rattle.session_query.proofs.Query.{fault-is, Asks, asks-is}
 use Rattle.session.specs.declared.Talk.{Talk}
 use Rattle.session.specs.declared.Opening.{Opening}
 use Rattle.session.specs.declared.Opening.the-variants.{Ready, Refused}

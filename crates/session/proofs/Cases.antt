@@ -2,11 +2,11 @@
 use mathlib.Core.Path.{_≡_, refl}
 use mathlib.Core.List.{[], _∷_, _++_}
 use Rattle.hex.specs.Hex.{valueOf, joined, decoded, digitOf, encoded}
-use Rattle.format.specs.Rules.{each, countsHold, headerFaults, initialFaults, terminalFaults, arcFaults, keepsRules}
-use Rattle.format.specs.Loaded.{arcsCells, cellsOf, arcsIn, tableIn, loaded}
-use Rattle.format.specs.Line.{linesOf, malformed, bytesOf, charsOf, lineText}
-use Rattle.format.specs.Text.{itemLines, joinLines, textOf}
-use Rattle.format.specs.Parse.{itemFaults, bytesFaults, lineFaults, onward, parseFrom, parsed}
+use Rattle.table_format.specs.Rules.{each, countsHold, headerFaults, initialFaults, terminalFaults, arcFaults, keepsRules}
+use Rattle.table_format.specs.Loaded.{arcsCells, cellsOf, arcsIn, tableIn, loaded}
+use Rattle.table_format.specs.Line.{linesOf, malformed, bytesOf, charsOf, lineText}
+use Rattle.table_format.specs.Text.{itemLines, joinLines, textOf}
+use Rattle.table_format.specs.Parse.{itemFaults, bytesFaults, lineFaults, onward, parseFrom, parsed}
 use Rattle.machine.specs.Frames.{placeHolds}
 use Rattle.machine.specs.Step.{move, step}
 use Rattle.machine.specs.Call.{advance, call}
@@ -15,8 +15,8 @@ use Rattle.machine.specs.Asked.{asked}
 use Rattle.machine.specs.Start.{started}
 use Rattle.machine.specs.Reading.{outcome}
 use Rattle.machine.specs.Cases.{tableK}
-use Rattle.query.specs.Parts.{sizeThrough}
-use Rattle.query.specs.Query.{isQuery, queryOf}
+use Rattle.session_query.specs.Parts.{sizeThrough}
+use Rattle.session_query.specs.Query.{isQuery, queryOf}
 use Rattle.session.specs.Opened.{startedOn, opened}
 use Rattle.session.specs.Session.{linesLeft, sessionLines}
 

@@ -9,16 +9,16 @@ use lib.Dec.{leb, ltb}
 use lib.ListN.{length, take, drop}
 use lib.Seq.{take-nil, take-at}
 use borrow.Author.Tests.{leb-false}
-use Rattle.format.specs.declared.InputCause.the-variants.{CountLimit}
-use Rattle.format.specs.declared.Refusal.{Refusal}
-use Rattle.format.specs.declared.Refusal.the-variants.{Input}
-use Rattle.format.specs.Table.{Table}
-use Rattle.format.specs.Rules.{keepsRules}
-use Rattle.format.specs.Loaded.{cellsOf, loaded}
-use Rattle.format.specs.Line.{linesOf, lineText}
-use Rattle.format.specs.Parse.{Parsed, accepted, turnedDown, parsed}
-use Rattle.format.proofs.Loaded.{loaded-cells}
-use Rattle.format.proofs.Determine.{read-text}
+use Rattle.table_format.specs.declared.InputCause.the-variants.{CountLimit}
+use Rattle.table_format.specs.declared.Refusal.{Refusal}
+use Rattle.table_format.specs.declared.Refusal.the-variants.{Input}
+use Rattle.table_format.specs.Table.{Table}
+use Rattle.table_format.specs.Rules.{keepsRules}
+use Rattle.table_format.specs.Loaded.{cellsOf, loaded}
+use Rattle.table_format.specs.Line.{linesOf, lineText}
+use Rattle.table_format.specs.Parse.{Parsed, accepted, turnedDown, parsed}
+use Rattle.table_format.proofs.Loaded.{loaded-cells}
+use Rattle.table_format.proofs.Determine.{read-text}
 use Rattle.machine.specs.declared.Run.{Run}
 use Rattle.machine.specs.declared.Answer.{Answer}
 use Rattle.machine.specs.declared.Answer.the-variants.{Found, Paused, Ended, Refused}
@@ -27,16 +27,16 @@ use Rattle.machine.specs.declared.StartAnswer.the-variants as T
 use Rattle.machine.specs.Start.{started}
 use Rattle.machine.specs.Asked.{askedTable, asked}
 use Rattle.machine.specs.Reading.{Outcome, outcomeOf, outcome}
-use Rattle.query.specs.Parts.{tableText, queryText}
-use Rattle.query.specs.Query.{Asked, fault, says, taskIn, upperIn, lowerIn, filled, queryOf}
-use Rattle.query.proofs.Query.{IsQuery, query-whole, upper-filled, lower-filled}
-use Rattle.replies.specs.Lines.{readingLine, limitLine, refusalLine, storedLine}
+use Rattle.session_query.specs.Parts.{tableText, queryText}
+use Rattle.session_query.specs.Query.{Asked, fault, says, taskIn, upperIn, lowerIn, filled, queryOf}
+use Rattle.session_query.proofs.Query.{IsQuery, query-whole, upper-filled, lower-filled}
+use Rattle.session_replies.specs.Lines.{readingLine, limitLine, refusalLine, storedLine}
 use Rattle.session.specs.declared.Talk.{Talk}
-use Rattle.caller.specs.declared.Said.the-variants as S
+use Rattle.session_calls.specs.declared.Said.the-variants as S
 use Rattle.session.specs.Opened.{Opened, refused, ready, openedAs, startedOn, openedQuery, openedTable, opened}
 use Rattle.session.specs.Begun.{firstTalk, begun}
 use Rattle.session.specs.Session.{told, linesLeft, firstStack, firstOutput, linesOn, sessionLines}
-use Rattle.caller.specs.Heard.{heardBy, heard}
+use Rattle.session_calls.specs.Heard.{heardBy, heard}
 use Rattle.session.specs.Next.{Spoken, spokenOf, nextLine, linedAs, liningOf, lining}
 use Rattle.session.specs.Given.{textsAs, textsBy, spoken, spokenAfter}
 

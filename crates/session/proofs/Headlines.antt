@@ -4,8 +4,8 @@ use mathlib.Core.Path.{_≡_, refl, ap, _∙_}
 use mathlib.Core.List.{List, [], _∷_, _++_, map, flatten}
 use lib.ListN.{length, take}
 use lib.Seq.{take-all}
-use Rattle.format.specs.Line.{lineText}
-use Rattle.format.specs.Text.{joinLines}
+use Rattle.table_format.specs.Line.{lineText}
+use Rattle.table_format.specs.Text.{joinLines}
 use Rattle.session.specs.Opened.{opened}
 use Rattle.session.specs.Begun.{begun}
 use Rattle.session.specs.Session.{sessionLines, sessionText}

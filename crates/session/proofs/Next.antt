@@ -8,9 +8,9 @@ use mathlib.Core.List.{List, [], _∷_}
 use lib.Dec.{leb}
 use lib.ListN.{length, take, drop, length-append}
 use borrow.Author.Tests.{le-leb, lt-leb}
-use Rattle.format.specs.declared.Refusal.{Refusal}
-use Rattle.format.specs.Refusal.{numberOf}
-use Rattle.format.specs.Line.{lineText}
+use Rattle.table_format.specs.declared.Refusal.{Refusal}
+use Rattle.table_format.specs.Refusal.{numberOf}
+use Rattle.table_format.specs.Line.{lineText}
 use Rattle.machine.specs.declared.Run.{Run}
 use Rattle.machine.specs.declared.Answer.{Answer}
 use Rattle.machine.specs.declared.Answer.the-variants.{Found, Paused, Ended, Refused}
@@ -20,14 +20,14 @@ use Rattle.machine.specs.Asked.{Asked, turned, runs, asked}
 use Rattle.machine.specs.Transducer.{machine}
 use Rattle.machine.specs.Stack.{store}
 use Rattle.machine.specs.Reading.{heldOf, answerAs, outputAs, outcomeOf, Outcome, outcome}
-use Rattle.query.specs.Query.{upperIn, lowerIn}
-use Rattle.replies.specs.Lines.{readingLine, endLine, limitLine, refusalLine, storedLine}
+use Rattle.session_query.specs.Query.{upperIn, lowerIn}
+use Rattle.session_replies.specs.Lines.{readingLine, endLine, limitLine, refusalLine, storedLine}
 use Rattle.session.specs.declared.Talk.{Talk}
-use Rattle.caller.specs.declared.Said.{Said}
-use Rattle.caller.specs.declared.Said.the-variants as S
+use Rattle.session_calls.specs.declared.Said.{Said}
+use Rattle.session_calls.specs.declared.Said.the-variants as S
 use Rattle.session.specs.declared.Lined.{Lined}
 use Rattle.session.specs.declared.Lined.the-variants as L
-use Rattle.caller.specs.Heard.{Heard, heardBy, heard}
+use Rattle.session_calls.specs.Heard.{Heard, heardBy, heard}
 use Rattle.session.specs.Next.{Spoken, bytesSaid, Fits, talkAfter, spokenOf, nextLine, linedAs, liningOf, lining, LiningIs}
 
 -- A reading's letters are in the buffer.

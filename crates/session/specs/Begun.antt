@@ -5,7 +5,7 @@ use mathlib.Core.Path.{_≡_}
 use mathlib.Core.List.{List, _++_}
 use lib.ListN.{length, drop}
 use Rattle.machine.specs.declared.Run.{Run}
-use Rattle.query.specs.Query.{filled}
+use Rattle.session_query.specs.Query.{filled}
 use Rattle.session.specs.declared.Talk.{Talk}
 use Rattle.session.specs.declared.Opening.{Opening}
 use Rattle.session.specs.declared.Opening.the-variants.{Ready, Refused}

@@ -3,8 +3,8 @@
 use Prim.Native.Nat.{ℕ, zero, suc}
 use mathlib.Core.List.{List, [], _∷_}
 use lib.ListN.{length, take}
-use Rattle.format.specs.Line.{lineText}
-use Rattle.replies.specs.Lines.{refusalLine, storedLine}
+use Rattle.table_format.specs.Line.{lineText}
+use Rattle.session_replies.specs.Lines.{refusalLine, storedLine}
 use Rattle.session.specs.declared.Talk.{Talk}
 use Rattle.session.specs.declared.Opening.{Opening}
 use Rattle.session.specs.declared.Opening.the-variants.{Ready, Refused}

@@ -6,13 +6,13 @@ use mathlib.Core.Option.{Option, none, some}
 use mathlib.Core.List.{List}
 use lib.Dec.{leb}
 use lib.ListN.{length, take}
-use Rattle.format.specs.Line.{lineText}
-use Rattle.query.specs.Query.{upperIn, lowerIn}
-use Rattle.caller.specs.Heard.{Heard, heard}
-use Rattle.replies.specs.Lines.{readingLine, endLine, limitLine, refusalLine, storedLine}
+use Rattle.table_format.specs.Line.{lineText}
+use Rattle.session_query.specs.Query.{upperIn, lowerIn}
+use Rattle.session_calls.specs.Heard.{Heard, heard}
+use Rattle.session_replies.specs.Lines.{readingLine, endLine, limitLine, refusalLine, storedLine}
 use Rattle.session.specs.declared.Talk.{Talk}
-use Rattle.caller.specs.declared.Said.{Said}
-use Rattle.caller.specs.declared.Said.the-variants as S
+use Rattle.session_calls.specs.declared.Said.{Said}
+use Rattle.session_calls.specs.declared.Said.the-variants as S
 use Rattle.session.specs.declared.Lined.{Lined}
 use Rattle.session.specs.declared.Lined.the-variants as L
 

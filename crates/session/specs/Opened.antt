@@ -5,18 +5,18 @@ use mathlib.Core.Bool.{cond}
 use mathlib.Core.List.{List, []}
 use lib.Dec.{ltb}
 use lib.ListN.{length}
-use Rattle.format.specs.declared.InputCause.the-variants.{CountLimit}
-use Rattle.format.specs.declared.Refusal.{Refusal}
-use Rattle.format.specs.declared.Refusal.the-variants.{Input}
-use Rattle.format.specs.Loaded.{cellsOf}
-use Rattle.format.specs.Line.{Line, linesOf}
-use Rattle.format.specs.Parse.{Parsed, accepted, turnedDown, parsed}
+use Rattle.table_format.specs.declared.InputCause.the-variants.{CountLimit}
+use Rattle.table_format.specs.declared.Refusal.{Refusal}
+use Rattle.table_format.specs.declared.Refusal.the-variants.{Input}
+use Rattle.table_format.specs.Loaded.{cellsOf}
+use Rattle.table_format.specs.Line.{Line, linesOf}
+use Rattle.table_format.specs.Parse.{Parsed, accepted, turnedDown, parsed}
 use Rattle.machine.specs.declared.Run.{Run}
 use Rattle.machine.specs.declared.StartAnswer.{StartAnswer}
 use Rattle.machine.specs.declared.StartAnswer.the-variants.{Ready, Refused}
 use Rattle.machine.specs.Start.{started}
-use Rattle.query.specs.Parts.{tableText, queryText}
-use Rattle.query.specs.Query.{Asked, fault, says, taskIn, upperIn, lowerIn, queryOf}
+use Rattle.session_query.specs.Parts.{tableText, queryText}
+use Rattle.session_query.specs.Query.{Asked, fault, says, taskIn, upperIn, lowerIn, queryOf}
 
 -- a refusal; or the table's cells, the query's bytes and the run that the start leaves
 pub data Opened : Type 0 where

@@ -4,13 +4,13 @@ use mathlib.Core.Bool.{cond}
 use mathlib.Core.List.{List, [], _∷_}
 use lib.Dec.{leb}
 use lib.ListN.{take, replicate}
-use Rattle.format.specs.Text.{joinLines}
+use Rattle.table_format.specs.Text.{joinLines}
 use Rattle.machine.specs.declared.Run.{Run}
 use Rattle.machine.specs.declared.Answer.{Answer}
 use Rattle.machine.specs.declared.Answer.the-variants.{Found, Paused, Ended, Refused}
 use Rattle.machine.specs.Reading.{Outcome, outcome}
-use Rattle.query.specs.Query.{upperIn, lowerIn}
-use Rattle.replies.specs.Lines.{readingLine, endLine, limitLine, refusalLine}
+use Rattle.session_query.specs.Query.{upperIn, lowerIn}
+use Rattle.session_replies.specs.Lines.{readingLine, endLine, limitLine, refusalLine}
 use Rattle.session.specs.Opened.{Opened, refused, ready, opened}
 
 -- what a call's answer adds after count readings; k says how the session goes on

@@ -1,14 +1,14 @@
 // The lines of a session that is open, one a call.
 use crate::Lined;
 use crate::Talk;
-use caller::Said;
-use format::Refusal;
-use query::words;
+use session_calls::Said;
+use table_format::Refusal;
+use session_query::words;
 ghost use mathlib.Core.Path.{_≡_};
 ghost use Prim.Native.Nat.{_<_};
 ghost use lib.ListN.{length};
-ghost use Rattle.format.specs.Line.{lineText};
-ghost use Rattle.replies.specs.Lines.{refusalLine, storedLine};
+ghost use Rattle.table_format.specs.Line.{lineText};
+ghost use Rattle.session_replies.specs.Lines.{refusalLine, storedLine};
 ghost use Rattle.session.specs.Session.{firstStack, firstOutput};
 ghost use Rattle.session.specs.Next.{Fits, bytesSaid, talkAfter, linedAs, lining, LiningIs};
 
@@ -37,7 +37,7 @@ fn tell(said: Said, count: u16, output: &[u8; 4096], line: &mut [u8; 8203]) -> L
             let n = length as usize;
             let letters = &output[..];
             let ordinal = count + 1;
-            let size = replies::reading_line(line, ordinal, &letters[..n]);
+            let size = session_replies::reading_line(line, ordinal, &letters[..n]);
             Lined::More {
                 length: size,
                 talk: Talk {
@@ -48,13 +48,13 @@ fn tell(said: Said, count: u16, output: &[u8; 4096], line: &mut [u8; 8203]) -> L
             }
         }
         Said::Ended => Lined::Last {
-            length: replies::count_line(line, 47, count),
+            length: session_replies::count_line(line, 47, count),
         },
         Said::Refused(refusal) => Lined::Last {
-            length: replies::refusal_line(line, format::number(refusal)),
+            length: session_replies::refusal_line(line, table_format::number(refusal)),
         },
         Said::Spent => Lined::Last {
-            length: replies::count_line(line, 45, count),
+            length: session_replies::count_line(line, 45, count),
         },
     }
 }
@@ -73,12 +73,12 @@ pub fn next_line(
     let count = talk.count;
     if 1000 <= count {
         return Lined::Last {
-            length: replies::count_line(line, 45, count),
+            length: session_replies::count_line(line, 45, count),
         };
     }
     let upper = words::upper(query);
     let lower = words::lower(query);
-    let said = caller::ask(table, upper, lower, talk.run, talk.calls, stack, output);
+    let said = session_calls::ask(table, upper, lower, talk.run, talk.calls, stack, output);
     tell(said, count, output, line)
 }
 
@@ -86,5 +86,5 @@ pub fn next_line(
 pub fn refused_line(refusal: Refusal, line: &mut [u8; 8203]) -> usize
     ensures { λ r. ⌜ (r ≡ length (lineText (refusalLine refusal))) × (now (line .exit) ≡ storedLine (refusalLine refusal) (now (line .entry))) ⌝ }
 {
-    replies::refusal_line(line, format::number(refusal))
+    session_replies::refusal_line(line, table_format::number(refusal))
 }

@@ -10,19 +10,19 @@ use lib.Dec.{leb}
 use lib.ListN.{length, take, drop, length-append, length-drop}
 use lib.Seq.{take-at}
 use borrow.Author.Tests.{leb-true, leb-false, le-leb, lt-leb}
-use Rattle.format.specs.declared.InputCause.{InputCause}
-use Rattle.format.specs.declared.StateCause.the-variants.{LoadedTable, DestinationShort}
-use Rattle.format.specs.declared.Refusal.{Refusal}
-use Rattle.format.specs.declared.Refusal.the-variants.{Input, State}
+use Rattle.table_format.specs.declared.InputCause.{InputCause}
+use Rattle.table_format.specs.declared.StateCause.the-variants.{LoadedTable, DestinationShort}
+use Rattle.table_format.specs.declared.Refusal.{Refusal}
+use Rattle.table_format.specs.declared.Refusal.the-variants.{Input, State}
 use Rattle.table.specs.declared.Answer.the-variants.{Done, Refused}
-use Rattle.format.specs.Table.{Table, countsOf}
-use Rattle.format.specs.Rules.{keepsRules}
-use Rattle.format.specs.Loaded.{cellsOf, countsIn, extent, loaded}
-use Rattle.format.specs.Text.{textOf}
-use Rattle.format.specs.Parse.{Parsed, accepted, turnedDown, parsed}
+use Rattle.table_format.specs.Table.{Table, countsOf}
+use Rattle.table_format.specs.Rules.{keepsRules}
+use Rattle.table_format.specs.Loaded.{cellsOf, countsIn, extent, loaded}
+use Rattle.table_format.specs.Text.{textOf}
+use Rattle.table_format.specs.Parse.{Parsed, accepted, turnedDown, parsed}
 use Rattle.table.specs.Calls.{layoutOf, checkedAs, checked, storedAnswer, storedCells, readAs, readCellsAs, readAnswer, readCells, writtenAs, writtenTextAs, writeAnswer, writeText}
-use Rattle.format.proofs.Loaded.{length-cells, counts-in, loaded-cells, cells-loaded}
-use Rattle.format.proofs.Determine.{text-read, read-text}
+use Rattle.table_format.proofs.Loaded.{length-cells, counts-in, loaded-cells, cells-loaded}
+use Rattle.table_format.proofs.Determine.{text-read, read-text}
 
 -- Storing in a destination.
 

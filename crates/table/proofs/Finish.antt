@@ -5,22 +5,22 @@ use mathlib.Core.Path.{_≡_, refl, sym, ap, ap₂, _∙_}
 use mathlib.Core.List.{List, _++_}
 use lib.ListN.{length, take, drop}
 use borrow.Author.Tests.{le-leb, lt-leb}
-use Rattle.format.specs.declared.InputCause.{InputCause}
-use Rattle.format.specs.declared.StateCause.the-variants.{DestinationShort}
-use Rattle.format.specs.declared.Refusal.the-variants.{Input, State}
+use Rattle.table_format.specs.declared.InputCause.{InputCause}
+use Rattle.table_format.specs.declared.StateCause.the-variants.{DestinationShort}
+use Rattle.table_format.specs.declared.Refusal.the-variants.{Input, State}
 use Rattle.table.specs.declared.Answer.{Answer}
 use Rattle.table.specs.declared.Answer.the-variants.{Done, Refused}
-use Rattle.parser.specs.declared.Gathered.{Gathered}
-use Rattle.parser.specs.declared.Read.the-variants.{Cells, Fault}
-use Rattle.format.specs.Table.{Table}
-use Rattle.format.specs.Loaded.{cellsOf}
-use Rattle.format.specs.Parse.{Parsed, accepted, turnedDown, parsed}
-use Rattle.parser.specs.Draft.{filledUp, gathered}
+use Rattle.table_parser.specs.declared.Gathered.{Gathered}
+use Rattle.table_parser.specs.declared.Read.the-variants.{Cells, Fault}
+use Rattle.table_format.specs.Table.{Table}
+use Rattle.table_format.specs.Loaded.{cellsOf}
+use Rattle.table_format.specs.Parse.{Parsed, accepted, turnedDown, parsed}
+use Rattle.table_parser.specs.Draft.{filledUp, gathered}
 use Rattle.table.specs.Calls.{readAs, readCellsAs, readAnswer, readCells}
-use Rattle.format.proofs.Rules.{table-bounded}
-use Rattle.format.proofs.Loaded.{length-cells}
-use Rattle.format.proofs.Determine.{read-text}
-use Rattle.parser.proofs.Filled.{length-filled, take-filled}
+use Rattle.table_format.proofs.Rules.{table-bounded}
+use Rattle.table_format.proofs.Loaded.{length-cells}
+use Rattle.table_format.proofs.Determine.{read-text}
+use Rattle.table_parser.proofs.Filled.{length-filled, take-filled}
 
 module _ (text destination : List ℕ) where
   -- the answer and the destination as the reader leaves them

@@ -7,16 +7,16 @@ use mathlib.Core.Logic.{_↔_}
 use mathlib.Core.Option.{none, some}
 use mathlib.Core.List.{List, _++_}
 use lib.ListN.{length, take, drop}
-use Rattle.format.specs.declared.InputCause.{InputCause}
-use Rattle.format.specs.declared.StateCause.the-variants.{LoadedTable, DestinationShort}
-use Rattle.format.specs.declared.Refusal.{Refusal}
-use Rattle.format.specs.declared.Refusal.the-variants.{Input, State}
+use Rattle.table_format.specs.declared.InputCause.{InputCause}
+use Rattle.table_format.specs.declared.StateCause.the-variants.{LoadedTable, DestinationShort}
+use Rattle.table_format.specs.declared.Refusal.{Refusal}
+use Rattle.table_format.specs.declared.Refusal.the-variants.{Input, State}
 use Rattle.table.specs.declared.Answer.the-variants.{Done, Refused}
-use Rattle.format.specs.Table.{Table}
-use Rattle.format.specs.Rules.{keepsRules}
-use Rattle.format.specs.Loaded.{cellsOf, countsIn, extent, loaded}
-use Rattle.format.specs.Text.{textOf}
-use Rattle.format.specs.Parse.{accepted, turnedDown, parsed}
+use Rattle.table_format.specs.Table.{Table}
+use Rattle.table_format.specs.Rules.{keepsRules}
+use Rattle.table_format.specs.Loaded.{cellsOf, countsIn, extent, loaded}
+use Rattle.table_format.specs.Text.{textOf}
+use Rattle.table_format.specs.Parse.{accepted, turnedDown, parsed}
 use Rattle.table.specs.Calls.{checked, readAnswer, readCells, writeAnswer, writeText}
 use Rattle.table.proofs.Calls as calls
 

@@ -10,15 +10,15 @@ use lib.ListN.{length, getD, take, drop, length-drop}
 use lib.Seq.{length-take-le}
 use borrow.Author.Tests.{le-leb, lt-leb}
 use Rattle.table.specs.declared.Layout.{Layout}
-use Rattle.format.specs.Table.{countsOf}
-use Rattle.format.specs.Rules.{countsHold, initialsKeep, terminalsKeep, arcsKeep, keepsRules}
-use Rattle.format.specs.Loaded.{countsIn, arcsIn, extent, tableIn, loaded}
-use Rattle.format.specs.Index.{firstIndex, firstArcs}
-use Rattle.format.specs.Cells.{countsAs, arcsAs, Whole}
+use Rattle.table_format.specs.Table.{countsOf}
+use Rattle.table_format.specs.Rules.{countsHold, initialsKeep, terminalsKeep, arcsKeep, keepsRules}
+use Rattle.table_format.specs.Loaded.{countsIn, arcsIn, extent, tableIn, loaded}
+use Rattle.table_format.specs.Index.{firstIndex, firstArcs}
+use Rattle.table_format.specs.Cells.{countsAs, arcsAs, Whole}
 use Rattle.table.specs.Calls.{LaidOut, layoutOf}
-use Rattle.format.proofs.Arcs.{at-equal, arcs-take}
-use Rattle.format.proofs.Rules.{header-clear, keeps-parts, counts-bounded}
-use Rattle.format.proofs.Loaded.{counts-of}
+use Rattle.table_format.proofs.Arcs.{at-equal, arcs-take}
+use Rattle.table_format.proofs.Rules.{header-clear, keeps-parts, counts-bounded}
+use Rattle.table_format.proofs.Loaded.{counts-of}
 
 module _ (cells : List ℕ) (l : Layout) (L : LaidOut cells l) where
   pub initials-part : take (l .terminals - 4) (drop 4 cells) ≡ tableIn cells .initials

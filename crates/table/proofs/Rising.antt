@@ -8,17 +8,17 @@ use lib.Bits.{bitOr}
 use lib.Dec.{leb, ltb}
 use lib.ListN.{getD}
 use borrow.Author.Tests.{ltb-true, leb-true, le-leb}
-use Rattle.format.specs.Table.{Arc}
-use Rattle.format.specs.Rules.{each, stateHolds, letterHolds, sourceHolds, sameArc, arcFaults, arcsKeep}
-use Rattle.format.specs.Loaded.{arcsIn}
-use Rattle.judge.specs.Judge.{largest, joinedLetters, joinedHold, orderKey, repeated, risesBy, rises, eachRises, lettersHold, arcsRise}
-use Rattle.format.proofs.Tests.{and-left, and-right, and-both}
-use Rattle.format.proofs.Rules.{arcPasses}
-use Rattle.format.proofs.Arcs.{at-equal, arcHere, arc-here, arcs-here, arcs-more, arcs-fail}
-use Rattle.format.proofs.Each.{each-snoc}
-use Rattle.judge.proofs.Joined.{joined-more}
-use Rattle.judge.proofs.Turn.{kept-empty, largest-snoc}
-use Rattle.judge.proofs.Faults.{new-by-key, same-fields, arc-new}
+use Rattle.table_format.specs.Table.{Arc}
+use Rattle.table_format.specs.Rules.{each, stateHolds, letterHolds, sourceHolds, sameArc, arcFaults, arcsKeep}
+use Rattle.table_format.specs.Loaded.{arcsIn}
+use Rattle.table_rules.specs.Judge.{largest, joinedLetters, joinedHold, orderKey, repeated, risesBy, rises, eachRises, lettersHold, arcsRise}
+use Rattle.table_format.proofs.Tests.{and-left, and-right, and-both}
+use Rattle.table_format.proofs.Rules.{arcPasses}
+use Rattle.table_format.proofs.Arcs.{at-equal, arcHere, arc-here, arcs-here, arcs-more, arcs-fail}
+use Rattle.table_format.proofs.Each.{each-snoc}
+use Rattle.table_rules.proofs.Joined.{joined-more}
+use Rattle.table_rules.proofs.Turn.{kept-empty, largest-snoc}
+use Rattle.table_rules.proofs.Faults.{new-by-key, same-fields, arc-new}
 
 abbrev rising : ℕ → List Arc → Arc → Bool
 rising n before a = rises n (largest orderKey before) a

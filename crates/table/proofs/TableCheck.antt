@@ -7,9 +7,9 @@ use mathlib.Core.List.{List}
 use lib.Dec.{leb}
 use lib.ListN.{length}
 use Rattle.table.specs.declared.Checked.{Checked}
-use Rattle.format.specs.Table.{Table}
-use Rattle.format.specs.Rules.{keepsRules}
-use Rattle.format.specs.Loaded.{countsIn, extent, tableIn, loaded}
+use Rattle.table_format.specs.Table.{Table}
+use Rattle.table_format.specs.Rules.{keepsRules}
+use Rattle.table_format.specs.Loaded.{countsIn, extent, tableIn, loaded}
 use Rattle.table.specs.Calls.{layoutOf, checkedAs, checked}
 
 module _ (cells : List ℕ) (r : Checked) (is : r ≡ checked cells) where

@@ -9,24 +9,24 @@ use lib.Dec.{leb}
 use lib.ListN.{length, getD, take, drop}
 use lib.Seq.{sets, sets-eq}
 use borrow.Author.Tests.{leb-true, leb-false, lt-leb}
-use Rattle.format.specs.declared.StateCause.the-variants.{LoadedTable, DestinationShort}
-use Rattle.format.specs.declared.Refusal.the-variants.{State}
+use Rattle.table_format.specs.declared.StateCause.the-variants.{LoadedTable, DestinationShort}
+use Rattle.table_format.specs.declared.Refusal.the-variants.{State}
 use Rattle.table.specs.declared.Answer.the-variants.{Done, Refused}
 use Rattle.table.specs.declared.Layout.{Layout}
-use Rattle.format.specs.Table.{Arc, Table, Counts, countsOf}
-use Rattle.format.specs.Rules.{keepsRules}
-use Rattle.format.specs.Loaded.{countsIn, arcIn, arcsIn, extent, tableIn, loaded}
-use Rattle.format.specs.Line.{charsOf, lineText}
-use Rattle.format.specs.Text.{headerBytes, initialBytes, terminalBytes, arcBytes, endBytes, linesBefore, joinLines, textOf}
-use Rattle.format.specs.Cells.{arcsAs}
+use Rattle.table_format.specs.Table.{Arc, Table, Counts, countsOf}
+use Rattle.table_format.specs.Rules.{keepsRules}
+use Rattle.table_format.specs.Loaded.{countsIn, arcIn, arcsIn, extent, tableIn, loaded}
+use Rattle.table_format.specs.Line.{charsOf, lineText}
+use Rattle.table_format.specs.Text.{headerBytes, initialBytes, terminalBytes, arcBytes, endBytes, linesBefore, joinLines, textOf}
+use Rattle.table_format.specs.Cells.{arcsAs}
 use Rattle.table.specs.Calls.{layoutOf, LaidOut, writtenAs, writtenTextAs, writeAnswer, writeText}
-use Rattle.format.proofs.All.{All, all-getD}
-use Rattle.format.proofs.Rules.{Bounded, ArcBounded, table-bounded, arcs-bounded}
-use Rattle.format.proofs.Loaded.{counts-of, cells-loaded}
+use Rattle.table_format.proofs.All.{All, all-getD}
+use Rattle.table_format.proofs.Rules.{Bounded, ArcBounded, table-bounded, arcs-bounded}
+use Rattle.table_format.proofs.Loaded.{counts-of, cells-loaded}
 use Rattle.table.proofs.Parts.{initials-part, terminals-part, arcsPart, arcs-part, arcs-length, laid-out, loaded-short}
-use Rattle.format.proofs.Line.{IsByte}
-use Rattle.format.proofs.Text.{text-parts, length-lines, length-text}
-use Rattle.format.proofs.Stores.{then}
+use Rattle.table_format.proofs.Line.{IsByte}
+use Rattle.table_format.proofs.Text.{text-parts, length-lines, length-text}
+use Rattle.table_format.proofs.Stores.{then}
 
 -- What cells that hold a table say of it.
 

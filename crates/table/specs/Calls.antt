@@ -6,17 +6,17 @@ use mathlib.Core.Option.{Option, none, some}
 use mathlib.Core.List.{List, _++_}
 use lib.Dec.{leb}
 use lib.ListN.{length, drop, replicate}
-use Rattle.format.specs.declared.StateCause.the-variants.{LoadedTable, DestinationShort}
-use Rattle.format.specs.declared.Refusal.the-variants.{Input, State}
+use Rattle.table_format.specs.declared.StateCause.the-variants.{LoadedTable, DestinationShort}
+use Rattle.table_format.specs.declared.Refusal.the-variants.{Input, State}
 use Rattle.table.specs.declared.Answer.{Answer}
 use Rattle.table.specs.declared.Answer.the-variants.{Done, Refused}
 use Rattle.table.specs.declared.Checked.{Checked}
 use Rattle.table.specs.declared.Layout.{Layout}
-use Rattle.format.specs.Table.{Table, Counts}
-use Rattle.format.specs.Loaded.{cellsOf, countsIn, terminalsAt, arcsAt, extent, loaded}
-use Rattle.format.specs.Index.{firstArcs}
-use Rattle.format.specs.Text.{textOf}
-use Rattle.format.specs.Parse.{Parsed, accepted, turnedDown, parsed}
+use Rattle.table_format.specs.Table.{Table, Counts}
+use Rattle.table_format.specs.Loaded.{cellsOf, countsIn, terminalsAt, arcsAt, extent, loaded}
+use Rattle.table_format.specs.Index.{firstArcs}
+use Rattle.table_format.specs.Text.{textOf}
+use Rattle.table_format.specs.Parse.{Parsed, accepted, turnedDown, parsed}
 
 -- where the parts of a loaded table begin, by its counts
 abbrev pub layoutOf : Counts → Layout

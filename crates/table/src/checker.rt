@@ -1,16 +1,16 @@
 // The table check: does a loaded table keep every rule, and where do each state's arcs begin?
 use crate::Checked;
 use crate::Layout;
-use judge::Judged;
+use table_rules::Judged;
 ghost use mathlib.Core.Path.{_≡_};
 ghost use mathlib.Core.Bool.{true};
 ghost use Prim.Native.Nat.{_≤_};
 ghost use lib.ListN.{length, getD};
-ghost use Rattle.format.specs.Rules.{initialsKeep, terminalsKeep, arcsKeep, keepsRules};
-ghost use Rattle.format.specs.Loaded.{countsIn, tableIn};
-ghost use Rattle.format.specs.Cells.{arcsAs, Whole};
-ghost use Rattle.judge.specs.Judge.{arcsRise};
-ghost use Rattle.format.specs.Index.{firstIndex};
+ghost use Rattle.table_format.specs.Rules.{initialsKeep, terminalsKeep, arcsKeep, keepsRules};
+ghost use Rattle.table_format.specs.Loaded.{countsIn, tableIn};
+ghost use Rattle.table_format.specs.Cells.{arcsAs, Whole};
+ghost use Rattle.table_rules.specs.Judge.{arcsRise};
+ghost use Rattle.table_format.specs.Index.{firstIndex};
 ghost use Rattle.table.specs.Calls.{layoutOf, LaidOut, checked};
 
 fn initials_hold(list: &[u16], states: u16) -> bool
@@ -20,10 +20,10 @@ fn initials_hold(list: &[u16], states: u16) -> bool
     let mut k = 0;
     while k < list.len() {
         let s = list[k];
-        let Judged::Kept = judge::initial_fault(&list[..k], states, s, top) else {
+        let Judged::Kept = table_rules::initial_fault(&list[..k], states, s, top) else {
             return false;
         };
-        let key = judge::state_key(s);
+        let key = table_rules::state_key(s);
         if top < key {
             top = key;
         }
@@ -66,11 +66,11 @@ fn each_arc_holds(cells: &[u16], states: u16) -> bool
         let upper = cells[at + 1];
         let lower = cells[at + 2];
         let target = cells[at + 3];
-        let Judged::Kept = judge::arc_fault(&cells[..at], states, source, upper, lower, target, top)
+        let Judged::Kept = table_rules::arc_fault(&cells[..at], states, source, upper, lower, target, top)
         else {
             return false;
         };
-        let key = judge::arc_key(source, upper, lower, target);
+        let key = table_rules::arc_key(source, upper, lower, target);
         if top < key {
             top = key;
         }
@@ -93,9 +93,9 @@ fn arcs_rise(cells: &[u16], states: u16) -> bool
         let upper = cells[at + 1];
         let lower = cells[at + 2];
         let target = cells[at + 3];
-        let letters = judge::letters(upper, lower);
-        let key = judge::order_key(source, letters);
-        if judge::is_rising(states, target, key, top) {
+        let letters = table_rules::letters(upper, lower);
+        let key = table_rules::order_key(source, letters);
+        if table_rules::is_rising(states, target, key, top) {
             top = key;
             joined = joined | letters;
             at += 4;
@@ -103,7 +103,7 @@ fn arcs_rise(cells: &[u16], states: u16) -> bool
             return false;
         }
     }
-    if judge::joined_hold(joined) {
+    if table_rules::joined_hold(joined) {
         return top <= states as u64 * 4294967296;
     }
     false
@@ -175,7 +175,7 @@ fn keeps_rules(cells: &[u16], at: Layout) -> bool
     let terminals = at.terminals;
     let arcs = at.arcs;
     let end = at.end;
-    if judge::counts_hold(states, cells[1], cells[2], cells[3]) {
+    if table_rules::counts_hold(states, cells[1], cells[2], cells[3]) {
         if initials_hold(&cells[4..terminals], states) {
             if terminals_hold(&cells[terminals..arcs], states) {
                 return arcs_hold(&cells[arcs..end], states);

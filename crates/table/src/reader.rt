@@ -1,8 +1,8 @@
 // Text to loaded table. The cells are gathered first, so that a refused text leaves the destination as it was.
 use crate::Answer;
-use format::Refusal;
-use format::StateCause;
-use parser::Read;
+use table_format::Refusal;
+use table_format::StateCause;
+use table_parser::Read;
 ghost use mathlib.Core.Path.{_≡_};
 ghost use mathlib.Core.List.{_++_};
 ghost use Prim.Native.Nat.{_≤_};
@@ -26,7 +26,7 @@ pub fn read(text: &[u8], destination: &mut [u16]) -> Answer
     ensures { λ r. ⌜ (r ≡ readAnswer (now (text .entry)) (now (destination .entry)))
         × (now (destination .exit) ≡ readCells (now (text .entry)) (now (destination .entry))) ⌝ }
 {
-    let found = parser::read_table(text);
+    let found = table_parser::read_table(text);
     let read = found.read;
     match read {
         Read::Fault(cause) => Answer::Refused(Refusal::Input(cause)),

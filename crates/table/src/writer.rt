@@ -1,15 +1,15 @@
 // A loaded table written as text.
 use crate::Answer;
 use crate::checker;
-use format::Refusal;
-use format::StateCause;
+use table_format::Refusal;
+use table_format::StateCause;
 ghost use mathlib.Core.Path.{_≡_};
 ghost use mathlib.Core.Option.{some};
 ghost use mathlib.Core.List.{_++_};
 ghost use Prim.Native.Nat.{_+_, _≤_};
 ghost use lib.ListN.{length, drop};
-ghost use Rattle.format.specs.Loaded.{tableIn, loaded};
-ghost use Rattle.format.specs.Text.{textOf};
+ghost use Rattle.table_format.specs.Loaded.{tableIn, loaded};
+ghost use Rattle.table_format.specs.Text.{textOf};
 ghost use Rattle.table.specs.Calls.{writeAnswer, writeText};
 
 // How many characters the text of a loaded table has.
@@ -32,11 +32,11 @@ fn write_table(cells: &[u16], text: &mut [u8])
     let terminals = at.terminals;
     let arcs = at.arcs;
     let end = at.end;
-    printer::header_line(text, cells);
-    let initials_end = printer::state_lines(text, 19, 2, &cells[4..terminals]);
-    let terminals_end = printer::state_lines(text, initials_end, 3, &cells[terminals..arcs]);
-    let arcs_end = printer::arc_lines(text, terminals_end, &cells[arcs..end]);
-    printer::number_line(text, arcs_end, 5, lines);
+    table_printer::header_line(text, cells);
+    let initials_end = table_printer::state_lines(text, 19, 2, &cells[4..terminals]);
+    let terminals_end = table_printer::state_lines(text, initials_end, 3, &cells[terminals..arcs]);
+    let arcs_end = table_printer::arc_lines(text, terminals_end, &cells[arcs..end]);
+    table_printer::number_line(text, arcs_end, 5, lines);
 }
 
 // A loaded table's text, from the front of the destination: 20, then 24.

@@ -1,4 +1,4 @@
--- The number is the one that `format::number` tells.
+-- The number is the one that `table_format::number` tells.
 use Prim.Native.Nat.{ℕ}
 use mathlib.Core.Path.{ap}
 use borrow.Author.Needs.{needs}

@@ -3,7 +3,7 @@ use mathlib.Core.Path.{sym, ap, _∙_}
 use denote.Ref.{now}
 use Rattle.table.specs.declared.Checked.{Checked}
 use Rattle.table.proofs.TableCheck.{laid}
-use Rattle.admission.proofs.Words.{asking-turned, asking-passes}
+use Rattle.engine_admission.proofs.Words.{asking-turned, asking-passes}
 use Rattle.engine.proofs.Resuming.{turned-outcome, admitted-by}
 use Rattle.engine.proofs.advance.advance.Statement.{statement}
 use Rattle.engine.proofs.advance.advance.Tie as tie

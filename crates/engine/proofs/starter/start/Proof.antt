@@ -7,7 +7,7 @@ use Rattle.table.specs.declared.Checked.{Checked}
 use Rattle.table.proofs.TableCheck.{laid}
 use Rattle.machine.specs.Start.{StartIs}
 use Rattle.machine.specs.declared.Started.{Started}
-use Rattle.admission.proofs.Words.{asking-turned, asking-passes}
+use Rattle.engine_admission.proofs.Words.{asking-turned, asking-passes}
 use Rattle.engine.proofs.Starts.{start-turned, start-laid, start-graph, start-ready, start-cycle}
 use Rattle.engine.proofs.starter.start.Statement.{statement}
 use Rattle.engine.proofs.starter.start.Tie as tie

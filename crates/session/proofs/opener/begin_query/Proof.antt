@@ -1,8 +1,8 @@
 -- The query's faults, the start's, then what is stored.
 use borrow.Author.Needs.{needs}
 use denote.Ref.{now}
-use Rattle.format.specs.Line.{linesOf}
-use Rattle.query.specs.Query.{queryOf}
+use Rattle.table_format.specs.Line.{linesOf}
+use Rattle.session_query.specs.Query.{queryOf}
 use Rattle.session.specs.Opened.{openedQuery}
 use Rattle.session.proofs.Begun.{begun-refused, query-faults, start-refused, start-ready}
 use Rattle.session.proofs.opener.begin_query.Statement.{statement}

@@ -1,7 +1,7 @@
 use mathlib.Core.Path.{sym, _∙_}
 use denote.Ref.{now}
 use borrow.Author.Needs.{needs}
-use Rattle.format.specs.Cells.{arcsAs}
+use Rattle.table_format.specs.Cells.{arcsAs}
 use Rattle.table.proofs.Rising.{rising-keep}
 use Rattle.table.proofs.checker.arcs_hold.Statement.{statement}
 use Rattle.table.proofs.checker.arcs_hold.Tie as tie

@@ -7,9 +7,9 @@ use lib.Bits.{bitOr}
 use lib.Dec.{leb}
 use lib.ListN.{length, getD}
 use borrow.Author.Needs.{needs}
-use Rattle.format.specs.Rules.{each}
-use Rattle.format.specs.Loaded.{arcsIn}
-use Rattle.judge.specs.Judge.{largest, joinedHold, keyBy, orderKey, risesBy, eachRises, lettersHold}
+use Rattle.table_format.specs.Rules.{each}
+use Rattle.table_format.specs.Loaded.{arcsIn}
+use Rattle.table_rules.specs.Judge.{largest, joinedHold, keyBy, orderKey, risesBy, eachRises, lettersHold}
 use Rattle.table.proofs.Rising.{rise-more, rise-fails, rise-top, letters-more, rise-ends}
 use Rattle.table.proofs.checker.arcs_rise.Statement.{statement}
 use Rattle.table.proofs.checker.arcs_rise.Tie as tie

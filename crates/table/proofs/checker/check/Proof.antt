@@ -6,7 +6,7 @@ use mathlib.Core.List.{List}
 use denote.Ref.{now}
 use Rattle.table.specs.declared.Checked.{Checked}
 use Rattle.table.specs.declared.Layout.{Layout}
-use Rattle.format.specs.Loaded.{countsIn}
+use Rattle.table_format.specs.Loaded.{countsIn}
 use borrow.Author.Needs.{needs}
 use Rattle.table.specs.Calls.{layoutOf, checkedAs, checked}
 use Rattle.table.proofs.Parts.{laid-out, index-ready, index-part, loaded-kept, loaded-broken, loaded-short}

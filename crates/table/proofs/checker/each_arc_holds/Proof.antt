@@ -7,11 +7,11 @@ use denote.Ref.{now}
 use lib.ListN.{length}
 use lib.Seq.{length-take-le}
 use borrow.Author.Needs.{needs}
-use Rattle.format.specs.Rules.{each, arcsKeep}
-use Rattle.format.specs.Loaded.{arcsIn}
-use Rattle.judge.specs.Judge.{largest, arcKey}
-use Rattle.format.proofs.Arcs.{at-equal, arcHere, front, whole}
-use Rattle.judge.proofs.Turn.{keep-arc, fail-arc, top-arc}
+use Rattle.table_format.specs.Rules.{each, arcsKeep}
+use Rattle.table_format.specs.Loaded.{arcsIn}
+use Rattle.table_rules.specs.Judge.{largest, arcKey}
+use Rattle.table_format.proofs.Arcs.{at-equal, arcHere, front, whole}
+use Rattle.table_rules.proofs.Turn.{keep-arc, fail-arc, top-arc}
 use Rattle.table.proofs.checker.each_arc_holds.Statement.{statement}
 use Rattle.table.proofs.checker.each_arc_holds.Tie as tie
 

@@ -5,11 +5,11 @@ use mathlib.Core.List.{List}
 use denote.Ref.{now}
 use lib.ListN.{length, getD, set}
 use borrow.Author.Needs.{needs}
-use Rattle.format.specs.Table.{Arc}
-use Rattle.format.specs.Loaded.{arcsIn}
-use Rattle.format.specs.Cells.{arcsAs}
-use Rattle.format.proofs.Arcs.{at-equal, arcAt, arcs-snoc, length-arcs}
-use Rattle.format.proofs.Index.{ending-few, below-few, source-inside, Counts, Sums, counts-none, counts-more, sums-none, sums-more, sums-all}
+use Rattle.table_format.specs.Table.{Arc}
+use Rattle.table_format.specs.Loaded.{arcsIn}
+use Rattle.table_format.specs.Cells.{arcsAs}
+use Rattle.table_format.proofs.Arcs.{at-equal, arcAt, arcs-snoc, length-arcs}
+use Rattle.table_format.proofs.Index.{ending-few, below-few, source-inside, Counts, Sums, counts-none, counts-more, sums-none, sums-more, sums-all}
 use Rattle.table.proofs.checker.first_arcs.Statement.{statement}
 use Rattle.table.proofs.checker.first_arcs.Tie as tie
 

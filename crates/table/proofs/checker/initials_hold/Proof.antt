@@ -7,10 +7,10 @@ use denote.Ref.{now}
 use lib.ListN.{length, getD, take}
 use lib.Seq.{length-take-le}
 use borrow.Author.Needs.{needs}
-use Rattle.format.specs.Rules.{each, initialFaults, initialsKeep}
-use Rattle.judge.specs.Judge.{largest, stateKey}
-use Rattle.format.proofs.Each.{each-done}
-use Rattle.judge.proofs.Turn.{keep-more, keep-fails, top-more}
+use Rattle.table_format.specs.Rules.{each, initialFaults, initialsKeep}
+use Rattle.table_rules.specs.Judge.{largest, stateKey}
+use Rattle.table_format.proofs.Each.{each-done}
+use Rattle.table_rules.proofs.Turn.{keep-more, keep-fails, top-more}
 use Rattle.table.proofs.checker.initials_hold.Statement.{statement}
 use Rattle.table.proofs.checker.initials_hold.Tie as tie
 

@@ -7,7 +7,7 @@ use denote.Ref.{now}
 use lib.ListN.{length, getD, take, drop, set, length-set}
 use lib.Seq.{paste, paste-zero, paste-suc}
 use borrow.Author.Needs.{needs}
-use Rattle.format.proofs.Arcs.{at-equal}
+use Rattle.table_format.proofs.Arcs.{at-equal}
 use Rattle.table.proofs.reader.copy.Statement.{statement}
 use Rattle.table.proofs.reader.copy.Tie as tie
 

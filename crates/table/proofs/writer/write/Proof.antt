@@ -5,7 +5,7 @@ use mathlib.Core.Option.{some}
 use denote.Ref.{now}
 use borrow.Author.Needs.{needs}
 use Rattle.table.specs.declared.Answer.the-variants.{Done}
-use Rattle.format.specs.Loaded.{tableIn, loaded}
+use Rattle.table_format.specs.Loaded.{tableIn, loaded}
 use Rattle.table.proofs.Calls.{write-fits}
 use Rattle.table.proofs.TableCheck.{passed, failed}
 use Rattle.table.proofs.Written.{write-short, write-none}

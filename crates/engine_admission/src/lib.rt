@@ -1,0 +1,94 @@
+// Refusals 20, 11 and 10, which a start and a call look for in this order; and the sides that a task reads.
+use table_format::InputCause;
+use table_format::Refusal;
+use table_format::StateCause;
+ghost use mathlib.Core.Path.{_≡_};
+ghost use mathlib.Core.Bool.{_||_};
+ghost use mathlib.Core.Option.{some};
+ghost use mathlib.Core.List.{List};
+ghost use Prim.Native.Nat.{ℕ};
+ghost use Rattle.table_format.specs.Rules.{isEmpty};
+ghost use Rattle.table.specs.Calls.{checked};
+ghost use Rattle.machine.specs.Query.{Task, taskOf, upperSide, lowerSide, reads, wordHolds};
+ghost use Rattle.machine.specs.Asked.{asked};
+ghost use Rattle.engine_admission.specs.Admission.{admissionOf};
+
+// What these refusals leave: a search that may run, or the first of them.
+pub enum Admission {
+    Passes,
+    Refused(Refusal),
+}
+
+// Whether a task, 1 to 3, reads the upper side.
+pub fn reads_upper(task: u32) -> bool
+    ensures { λ r. ⌜ ((k : Task) → taskOf task ≡ some k → r ≡ reads k upperSide) ⌝ }
+{
+    task != 3
+}
+
+// Whether it reads the lower side.
+pub fn reads_lower(task: u32) -> bool
+    ensures { λ r. ⌜ ((k : Task) → taskOf task ≡ some k → r ≡ reads k lowerSide) ⌝ }
+{
+    task != 2
+}
+
+// 10, of one word. The loop goes through all its letters, so that several are compared at once.
+fn word_holds(w: &[u8]) -> bool
+    ensures { λ r. ⌜ r ≡ wordHolds (now (w .entry)) ⌝ }
+{
+    if 64 < w.len() {
+        return false;
+    }
+    let mut hold = true;
+    let mut k = 0;
+    while k < w.len() {
+        let x = w[k];
+        if x < 1 {
+            hold = false;
+        }
+        if 63 < x {
+            hold = false;
+        }
+        k += 1;
+    }
+    hold
+}
+
+// 11, of one side.
+fn side_holds(read: bool, w: &[u8]) -> bool
+    ensures { λ r. ⌜ r ≡ (read || isEmpty (now (w .entry))) ⌝ }
+{
+    if read {
+        return true;
+    }
+    w.len() == 0
+}
+
+// 20, 11 and 10, where `ok` is what the table check says.
+pub fn asked(ok: bool, task: u32, upper: &[u8], lower: &[u8]) -> Admission
+    ensures { λ r. ⌜ ((cells : List ℕ) → ok ≡ checked cells .ok → r ≡ admissionOf (asked cells task (now (upper .entry)) (now (lower .entry)))) ⌝ }
+{
+    if !ok {
+        return Admission::Refused(Refusal::State(StateCause::LoadedTable));
+    }
+    if task < 1 {
+        return Admission::Refused(Refusal::Input(InputCause::TaskFault));
+    }
+    if 3 < task {
+        return Admission::Refused(Refusal::Input(InputCause::TaskFault));
+    }
+    if !side_holds(reads_upper(task), upper) {
+        return Admission::Refused(Refusal::Input(InputCause::TaskFault));
+    }
+    if !side_holds(reads_lower(task), lower) {
+        return Admission::Refused(Refusal::Input(InputCause::TaskFault));
+    }
+    if !word_holds(upper) {
+        return Admission::Refused(Refusal::Input(InputCause::WordFault));
+    }
+    if !word_holds(lower) {
+        return Admission::Refused(Refusal::Input(InputCause::WordFault));
+    }
+    Admission::Passes
+}

@@ -1,0 +1,17 @@
+-- A frame of the code and a frame of the machine.
+use Prim.Native.Nat.{ℕ}
+use Rattle.machine.specs.Frames as M
+use Rattle.machine.specs.Transducer.{Passed}
+use Rattle.engine_frames.specs.declared.Frame.{Frame}
+
+-- a frame as the code holds it
+abbrev pub frameOf : M.Frame Passed → Frame
+frameOf f = record { state = f .state; next = f .next; up = f .datum .up; low = f .datum .low }
+
+-- and back
+abbrev pub frameAs : Frame → M.Frame Passed
+frameAs f = record { state = f .state; next = f .next; datum = record { up = f .up; low = f .low } }
+
+-- a frame by its numbers
+abbrev pub frameBy : ℕ → ℕ → ℕ → ℕ → M.Frame Passed
+frameBy s n u l = record { state = s; next = n; datum = record { up = u; low = l } }

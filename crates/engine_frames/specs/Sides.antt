@@ -1,0 +1,44 @@
+-- What the code of the side rules answers, in the terms of Transducer, where a flag says whether a side is read.
+use Prim.Native.Nat.{ℕ, _+_, _*_}
+use mathlib.Core.Bool.{Bool, _&&_}
+use mathlib.Core.Option.{Option, none, some}
+use mathlib.Core.List.{List}
+use lib.ListN.{getD}
+use Rattle.table_format.specs.Table.{Arc}
+use Rattle.table_format.specs.Cells.{arcAs}
+use Rattle.machine.specs.Transducer.{sideFollow, sideDone, sideWritten, Passed, both}
+use Rattle.engine_frames.specs.declared.Setup.{Setup}
+use Rattle.engine_frames.specs.declared.Count.{Count}
+use Rattle.engine_frames.specs.declared.Count.the-variants.{Passes, Stops}
+use Rattle.engine_frames.specs.declared.Fit.{Fit}
+use Rattle.engine_frames.specs.declared.Fit.the-variants.{Fits, Fails}
+
+-- a side's count after an arc, if the arc fits there
+abbrev pub countOf : Option ℕ → Count
+countOf none = Stops
+countOf (some n) = Passes n
+
+-- both counts after an arc, if it fits
+abbrev pub fitOf : Option Passed → Fit
+fitOf none = Fails
+fitOf (some d) = Fits (d .up) (d .low)
+
+-- what was passed on each side
+abbrev pub passedOf : ℕ → ℕ → Passed
+passedOf u l = record { up = u; low = l }
+
+-- the arc of number n in cells that hold whole arcs
+abbrev pub arcOf : List ℕ → ℕ → Arc
+arcOf arcs n = arcAs (getD arcs (4 * n) 0) (getD arcs (4 * n + 1) 0) (getD arcs (4 * n + 2) 0) (getD arcs (4 * n + 3) 0)
+
+-- an arc fits where it fits on both sides
+abbrev pub followBy : Setup → List ℕ → List ℕ → Arc → Passed → Option Passed
+followBy s upper lower a d = both (sideFollow (s .up) upper (a .upper) (d .up)) (sideFollow (s .low) lower (a .lower) (d .low))
+
+-- "every given word is read to its end"
+abbrev pub doneBy : Setup → List ℕ → List ℕ → Passed → Bool
+doneBy s upper lower d = sideDone (s .up) upper (d .up) && sideDone (s .low) lower (d .low)
+
+-- the output's length, from the counts
+abbrev pub writtenOf : Setup → Passed → ℕ
+writtenOf s d = sideWritten (s .up) (d .up) + sideWritten (s .low) (d .low)

@@ -1,0 +1,178 @@
+-- Laws of the rounds in which states die: the arcs of a state, one state's turn in a round, and the rounds.
+use Prim.Native.Nat.{ℕ, zero, suc, _+_, _*_, _-_, _<_, _≤_}
+use native.Mathlib.Omega.{arith}
+use mathlib.Core.Path.{_≡_, refl, sym, ap, subst, _∙_}
+use mathlib.Core.Bool.{Bool, true, false, cond, _&&_, true≢false}
+use mathlib.Core.List.{List, [], _∷_}
+use lib.Dec.{eqb}
+use lib.ListN.{length, getD, set, length-set}
+use lib.Seq.{getD-set-other}
+use borrow.Author.Tests.{eqb-true, eqb-false, eq-eqb, ne-eqb}
+use Rattle.table_format.proofs.Tests.{and-left, and-right, and-both}
+use Rattle.machine.specs.Idle.{sideIdle}
+use Rattle.engine_idle.specs.Graph.{Graph, total, idleAt, Edge, Walk, one, andThen, Cyclic, Stable, Next, Peeled, Settled}
+
+-- a letter on a side that is read
+pub letter-read : (read : Bool) (x : ℕ) → read ≡ true → eqb x 0 ≡ sideIdle read x
+letter-read read x e = go x ∙ ap (λ (b : Bool). sideIdle b x) (sym e)
+  where
+    go : (y : ℕ) → eqb y 0 ≡ sideIdle true y
+    go zero = eq-eqb 0 0 refl
+    go (suc y) = ne-eqb (suc y) 0 (λ z. omega arith)
+
+pub letter-written : (read : Bool) (x : ℕ) → read ≡ false → true ≡ sideIdle read x
+letter-written read x e = ap (λ (b : Bool). sideIdle b x) (sym e)
+
+-- two tests that hold before a third; a test that fails
+pub both-then : (a b c : Bool) → a ≡ true → b ≡ true → c ≡ ((a && b) && c)
+both-then a b c p q = ap (λ (x : Bool). x && c) (sym (and-both p q))
+
+pub first-fails : (a b c : Bool) → a ≡ false → false ≡ ((a && b) && c)
+first-fails a b c p = ap (λ (x : Bool). (x && b) && c) (sym p)
+
+pub second-fails : (a b c : Bool) → b ≡ false → false ≡ ((a && b) && c)
+second-fails true b c p = ap (λ (x : Bool). x && c) (sym p)
+second-fails false b c p = refl
+
+-- sums of cells
+pub total-set : (l : List ℕ) (i : ℕ) → i < length l → getD l i 0 ≡ 1 → total (set l i 0) < total l
+unfolding total
+total-set [] i h e = absurd (omega arith)
+total-set (x ∷ xs) zero h e = omega arith
+total-set (x ∷ xs) (suc i) h e = let r : total (set xs i 0) < total xs = total-set xs i (omega arith) e in omega arith
+
+-- none so far
+pub none-more : (alive : List ℕ) (s : ℕ) → ((i : ℕ) → i < s → getD alive i 0 ≡ 1 → ⊥) → (getD alive s 0 ≡ 1 → ⊥) → (i : ℕ) → i < s + 1 → getD alive i 0 ≡ 1 → ⊥
+none-more alive s f g i h e = go (eqb i s) refl
+  where
+    go : (b : Bool) → eqb i s ≡ b → ⊥
+    go true w = g (subst (λ (x : ℕ). getD alive x 0 ≡ 1) (eqb-true i s w) e)
+    go false w = let d : i ≡ s → ⊥ = eqb-false i s w in f i (omega arith) e
+
+-- a test that fails from one place up to another
+pub fails-more : (f : ℕ → Bool) (from n : ℕ) → ((i : ℕ) → from ≤ i → i < n → f i ≡ false) → f n ≡ false → (i : ℕ) → from ≤ i → i < n + 1 → f i ≡ false
+fails-more f from n F e i h k = go (eqb i n) refl
+  where
+    go : (b : Bool) → eqb i n ≡ b → f i ≡ false
+    go true w = ap f (eqb-true i n w) ∙ e
+    go false w = let d : i ≡ n → ⊥ = eqb-false i n w in F i h (omega arith)
+
+module _ (arcs : List ℕ) (upper lower : Bool) where
+  -- arc n is idle and leads to a state that is alive
+  abbrev pub leadsAt : List ℕ → ℕ → Bool
+  leadsAt alive n = idleAt arcs upper lower n && eqb (getD alive (getD arcs (4 * n + 3) 0) 0) 1
+
+  module _ (first alive : List ℕ) (G : Graph arcs first (length alive)) (q : ℕ) (h : q < length alive) where
+    pub next-found : (n : ℕ) → getD first q 0 ≤ n → n < getD first (q + 1) 0 → leadsAt alive n ≡ true → Next arcs upper lower alive q (getD arcs (4 * n + 3) 0)
+    next-found n a b e =
+        let i = G .numbered q n h a b in
+        let idle = and-left (idleAt arcs upper lower n) (eqb (getD alive (getD arcs (4 * n + 3) 0) 0) 1) e in
+        let lives = and-right (idleAt arcs upper lower n) (eqb (getD alive (getD arcs (4 * n + 3) 0) 0) 1) e in
+        record {
+          found = λ k. (record { number = n; inside = i .0; from = i .1; to = refl; is-idle = idle }, eqb-true _ _ lives);
+          none-found = λ k. absurd (omega (arith, G .target-in n (i .0), G .few));
+        }
+
+    pub next-none : ((n : ℕ) → getD first q 0 ≤ n → n < getD first (q + 1) 0 → leadsAt alive n ≡ false) → Next arcs upper lower alive q 256
+    next-none f = record { found = λ k. absurd (omega arith); none-found = λ k x E a. clash x E a }
+      where
+        clash : (x : ℕ) (E : Edge arcs upper lower q x) → getD alive x 0 ≡ 1 → ⊥
+        clash x E a =
+            let i = G .indexed (E .number) (E .inside) in
+            let lo : getD first q 0 ≤ E .number = subst (λ (s : ℕ). getD first s 0 ≤ E .number) (E .from) (i .0) in
+            let hi : E .number < getD first (q + 1) 0 = subst (λ (s : ℕ). E .number < getD first (s + 1) 0) (E .from) (i .1) in
+            let yes : leadsAt alive (E .number) ≡ true = and-both (E .is-idle) (eq-eqb _ _ (ap (λ (z : ℕ). getD alive z 0) (E .to) ∙ a)) in
+            true≢false (sym yes ∙ f (E .number) lo hi)
+
+  -- walks
+
+  pub edge-last : {s x r : ℕ} → Walk arcs upper lower s x → Edge arcs upper lower x r → Walk arcs upper lower s r
+  edge-last (one e) f = andThen e (one f)
+  edge-last (andThen e w) f = andThen e (edge-last w f)
+
+  -- from a state on a cycle an idle arc leads to one
+  onward : (s : ℕ) → Walk arcs upper lower s s → (x : ℕ) × Edge arcs upper lower s x × Walk arcs upper lower x x
+  onward s (one e) = (s, e, one e)
+  onward s (andThen e w) = (_, e, edge-last w e)
+
+  -- A round: from state q on, the states had their turn.
+
+  pub record Round (before alive : List ℕ) (q : ℕ) (died : Bool) : Type 0 where
+    pub same-length : length alive ≡ length before
+    pub keeps : Cyclic arcs upper lower before → Cyclic arcs upper lower alive
+    pub no-more : total alive ≤ total before
+    pub fewer : died ≡ true → total alive < total before
+    pub seen : died ≡ false → (s : ℕ) → q ≤ s → s < length alive → getD alive s 0 ≡ 1 → (r : ℕ) × Edge arcs upper lower s r × (getD alive r 0 ≡ 1)
+
+  pub round-begins : (alive : List ℕ) (q : ℕ) → q ≡ length alive → Round alive alive q false
+  round-begins alive q h =
+      record { same-length = refl; keeps = λ C. C; no-more = omega arith; fewer = λ e. absurd (true≢false (sym e)); seen = λ e s a b. absurd (omega arith) }
+
+  pub round-ends : (before alive : List ℕ) (q : ℕ) (died : Bool) → q ≤ 0 → Round before alive q died → Peeled arcs upper lower before alive died
+  round-ends before alive q died h R =
+      record { same-length = R .same-length; keeps = R .keeps; no-more = R .no-more; fewer = R .fewer; stable = λ e s k a. R .seen e s (omega arith) k a }
+
+  module _ (before alive : List ℕ) (q : ℕ) (died : Bool) (h : 0 < q) (R : Round before alive q died) where
+    -- one state more, where it needs nothing or has what it needs
+    stays : ((getD alive (q - 1) 0 ≡ 1) → (r : ℕ) × Edge arcs upper lower (q - 1) r × (getD alive r 0 ≡ 1)) → Round before alive (q - 1) died
+    stays f = record { same-length = R .same-length; keeps = R .keeps; no-more = R .no-more; fewer = R .fewer; seen = λ e s a b w. go e s a b w (eqb s (q - 1)) refl }
+      where
+        go : died ≡ false → (s : ℕ) → q - 1 ≤ s → s < length alive → getD alive s 0 ≡ 1 → (b : Bool) → eqb s (q - 1) ≡ b → (r : ℕ) × Edge arcs upper lower s r × (getD alive r 0 ≡ 1)
+        go e s a k w true z = let y = eqb-true s (q - 1) z in subst (λ (x : ℕ). (r : ℕ) × Edge arcs upper lower x r × (getD alive r 0 ≡ 1)) (sym y) (f (subst (λ (x : ℕ). getD alive x 0 ≡ 1) y w))
+        go e s a k w false z = let y : s ≡ q - 1 → ⊥ = eqb-false s (q - 1) z in R .seen e s (omega arith) k w
+
+    pub round-dead : (getD alive (q - 1) 0 ≡ 1 → ⊥) → Round before alive (q - 1) died
+    round-dead d = stays (λ e. absurd (d e))
+
+    module _ (r : ℕ) (N : Next arcs upper lower alive (q - 1) r) where
+      pub round-lives : r < 256 → Round before alive (q - 1) died
+      round-lives k = stays (λ e. (r, N .found k .0, N .found k .1))
+
+      pub round-dies : q ≤ length alive → getD alive (q - 1) 0 ≡ 1 → 256 ≤ r → Round before (set alive (q - 1) 0) (q - 1) true
+      round-dies i a k =
+          let less : total (set alive (q - 1) 0) < total alive = total-set alive (q - 1) (omega arith) a in
+          let few = R .no-more in
+          record {
+            same-length = length-set alive (q - 1) 0 ∙ R .same-length;
+            keeps = λ C. kept (R .keeps C);
+            no-more = omega arith;
+            fewer = λ e. omega arith;
+            seen = λ e. absurd (true≢false e);
+          }
+        where
+          kept : Cyclic arcs upper lower alive → Cyclic arcs upper lower (set alive (q - 1) 0)
+          kept C s w = go (eqb s (q - 1)) refl
+            where
+              go : (b : Bool) → eqb s (q - 1) ≡ b → getD (set alive (q - 1) 0) s 0 ≡ 1
+              go true z =
+                  let O = onward s w in
+                  absurd (N .none-found k (O .0) (subst (λ (x : ℕ). Edge arcs upper lower x (O .0)) (eqb-true s (q - 1) z) (O .1)) (C (O .0) (O .2)))
+              go false z = getD-set-other alive (q - 1) s 0 0 (eqb-false s (q - 1) z) ∙ C s w
+
+  -- The rounds.
+
+  pub record Rounds (before alive : List ℕ) (on : Bool) : Type 0 where
+    pub same-length : length alive ≡ length before
+    pub keeps : Cyclic arcs upper lower before → Cyclic arcs upper lower alive
+    pub stable : on ≡ false → Stable arcs upper lower alive
+
+  pub rounds-begin : (alive : List ℕ) → Rounds alive alive true
+  rounds-begin alive = record { same-length = refl; keeps = λ C. C; stable = λ e. absurd (true≢false e) }
+
+  pub rounds-go-on : (before alive after : List ℕ) (on died : Bool) → Rounds before alive on → Peeled arcs upper lower alive after died → Rounds before after died
+  rounds-go-on before alive after on died R P =
+      record { same-length = P .same-length ∙ R .same-length; keeps = λ C. P .keeps (R .keeps C); stable = P .stable }
+
+  pub rounds-end : (before alive : List ℕ) (on : Bool) → on ≡ false → Rounds before alive on → Settled arcs upper lower before alive
+  rounds-end before alive on e R = record { same-length = R .same-length; keeps = R .keeps; stable = R .stable e }
+
+  -- what falls with each round
+  abbrev pub left : List ℕ → Bool → ℕ
+  left alive on = total alive + cond on 1 0
+
+  pub left-less : (alive after : List ℕ) (on died : Bool) → on ≡ true → Peeled arcs upper lower alive after died → left after died < left alive on
+  left-less alive after on died e P = subst (λ (b : Bool). left after died < left alive b) (sym e) (go died refl)
+    where
+      go : (b : Bool) → died ≡ b → left after b < total alive + 1
+      go true d = let k = P .fewer d in omega arith
+      go false d = let k = P .no-more in omega arith

@@ -1,0 +1,155 @@
+-- The arcs of a loaded table as a graph: the index numbers each state's arcs, and the graph's cycles are the table's idle cycles.
+use Prim.Native.Nat.{ℕ, suc, _+_, _*_, _-_, _/_, _<_, _≤_}
+use native.Mathlib.Omega.{arith}
+use native.Mathlib.Numerals.{add-one}
+use mathlib.Core.Path.{_≡_, refl, sym, ap, subst, _∙_}
+use mathlib.Core.Bool.{Bool, true, false, _&&_, cond}
+use mathlib.Core.Option.{Option, none, some}
+use mathlib.Core.List.{List, [], _∷_, List·Memᴰ}
+use lib.Dec.{leb}
+use lib.ListN.{length, getD}
+use borrow.Author.Tests.{leb-true}
+use Rattle.table.specs.declared.Layout.{Layout}
+use Rattle.table_format.specs.Table.{Arc, Table}
+use Rattle.table_format.specs.Rules.{keepsRules}
+use Rattle.table_format.specs.Loaded.{countsIn, extent, tableIn, loaded}
+use Rattle.table_format.specs.Index.{below, firstIndex}
+use Rattle.table_format.specs.Cells.{arcsAs}
+use Rattle.table.specs.Calls.{layoutOf, LaidOut, checkedAs, checked}
+use Rattle.table_format.proofs.Arcs.{arcAt, length-arcs, getD-arcs}
+use Rattle.table_format.proofs.Index.{length-index, index-at}
+use Rattle.table.proofs.Parts.{laid-out}
+use Rattle.table_format.proofs.Ruled.{Ruled}
+use Rattle.machine.specs.Query.{Task, recognition, upperSide, lowerSide, reads, Query}
+use Rattle.machine.specs.Machine.{ArcOf}
+use Rattle.machine.specs.Transducer.{noArc, machine}
+use Rattle.machine.specs.Idle.{idle, IdleWalk, one, andThen, IdleArc, Through, CycleStates, hasIdleCycle}
+use Rattle.machine.proofs.Transducer.{arc-of, at-mem, mem-at}
+use Rattle.machine.proofs.Idle.{cycle-walk, none-there, none-found}
+use Rattle.engine_idle.specs.Graph as graph
+use Rattle.engine_idle.specs.Graph.{Graph, Edge, Walk, Along, CycleOrNone}
+use Rattle.engine_idle.proofs.Rounds.{edge-last}
+
+-- cells that hold a table hold it whole
+pub loaded-whole : (cells : List ℕ) (t : Table) → loaded cells ≡ some t → extent (countsIn cells) ≤ length cells
+unfolding loaded
+loaded-whole cells t e = go (leb (extent (countsIn cells)) (length cells)) refl e
+  where
+    go : (b : Bool) → leb (extent (countsIn cells)) (length cells) ≡ b → cond (b && keepsRules (tableIn cells)) (some (tableIn cells)) none ≡ some t → extent (countsIn cells) ≤ length cells
+    go true z w = leb-true _ _ z
+    go false z w = absurd (let y : _≡_ {A = ℕ} 0 1 = cc in omega arith)
+
+pub loaded-laid : (cells : List ℕ) (t : Table) (l : Layout) → loaded cells ≡ some t → l ≡ layoutOf (countsIn cells) → LaidOut cells l
+loaded-laid cells t l e i = laid-out cells l i (let w = loaded-whole cells t e in omega (arith, ap (λ (x : Layout). x .end) i))
+
+pub loaded-index : (cells : List ℕ) (t : Table) → loaded cells ≡ some t → checked cells .first ≡ firstIndex (t .states) (t .arcs)
+unfolding checked
+loaded-index cells t e = ap (λ (o : Option Table). checkedAs (layoutOf (countsIn cells)) o .first) e
+
+module _ (t : Table) (U : Ruled t) (cells : List ℕ) (e : arcsAs cells ≡ t .arcs) where
+  size : length cells / 4 ≡ length (t .arcs)
+  size = sym (length-arcs (length cells / 4) cells) ∙ ap length e
+
+  arc-is : (n : ℕ) → n < length cells / 4 → getD (t .arcs) n noArc ≡ arcAt cells n
+  arc-is n h = ap (λ (l : List Arc). getD l n noArc) (sym e) ∙ getD-arcs (length cells / 4) cells n noArc h
+
+  listed : (n : ℕ) → n < length cells / 4 → List·Memᴰ (getD (t .arcs) n noArc) (t .arcs)
+  listed n h = at-mem (t .arcs) n noArc (omega (arith, size))
+
+  -- any query: the numbers of arcs are the table's
+  abbrev anyQuery : Query
+  anyQuery = record { task = recognition; upperWord = []; lowerWord = [] }
+
+  pub graph-of : (first : List ℕ) → first ≡ firstIndex (t .states) (t .arcs) → Graph cells first (t .states)
+  graph-of first f =
+      record {
+        few = U .few-states;
+        index = ap length f ∙ length-index (t .states) (t .arcs) (U .few-states);
+        source-in = source;
+        target-in = λ n h. subst (λ (a : Arc). a .target < t .states) (arc-is n h) (U .target-in _ (listed n h));
+        indexed = indexed′;
+        numbered = numbered′;
+      }
+    where
+      source : (n : ℕ) → n < length cells / 4 → getD cells (4 * n) 0 < t .states
+      source n h = subst (λ (a : Arc). a .source < t .states) (arc-is n h) (U .source-in _ (listed n h))
+
+      at : (q : ℕ) → q ≤ t .states → getD first q 0 ≡ below q (t .arcs)
+      at q h = ap (λ (l : List ℕ). getD l q 0) f ∙ index-at (t .states) (t .arcs) q h
+
+      after : (q : ℕ) → q < t .states → getD first (q + 1) 0 ≡ below (suc q) (t .arcs)
+      after q h = at (q + 1) (omega arith) ∙ ap (λ (m : ℕ). below m (t .arcs)) (add-one q)
+
+      indexed′ : (n : ℕ) → n < length cells / 4 → (getD first (getD cells (4 * n) 0) 0 ≤ n) × (n < getD first (getD cells (4 * n) 0 + 1) 0)
+      indexed′ n h =
+          let q : ℕ = getD cells (4 * n) 0 in
+          let A : ArcOf (machine t anyQuery) q n = arc-of t anyQuery (U .rising) q n .1 (omega (arith, size), ap (λ (a : Arc). a .source) (arc-is n h)) in
+          let lo : below q (t .arcs) ≤ n = A .0 in
+          let hi : n < below q (t .arcs) + (below (suc q) (t .arcs) - below q (t .arcs)) = A .1 in
+          let f₁ = at q (let s = source n h in omega arith) in
+          let f₂ = after q (source n h) in
+          (omega arith, omega arith)
+
+      numbered′ : (q n : ℕ) → q < t .states → getD first q 0 ≤ n → n < getD first (q + 1) 0 → (n < length cells / 4) × (getD cells (4 * n) 0 ≡ q)
+      numbered′ q n h a b =
+          let f₁ = at q (omega arith) in
+          let f₂ = after q h in
+          let R = arc-of t anyQuery (U .rising) q n .0 (omega arith, omega arith) in
+          let inside : n < length cells / 4 = omega (arith, size, R .0) in
+          (inside, sym (ap (λ (x : Arc). x .source) (arc-is n inside)) ∙ R .1)
+
+  -- The graph's arcs are the table's idle arcs.
+
+  module _ (k : Task) where
+    abbrev up : Bool
+    up = reads k upperSide
+
+    abbrev low : Bool
+    low = reads k lowerSide
+
+    edge-arc : {s r : ℕ} → Edge cells up low s r → IdleArc t k s r
+    edge-arc E =
+        let i = arc-is (E .number) (E .inside) in
+        record {
+          arc = getD (t .arcs) (E .number) noArc;
+          listed = listed (E .number) (E .inside);
+          from = ap (λ (a : Arc). a .source) i ∙ E .from;
+          to = ap (λ (a : Arc). a .target) i ∙ E .to;
+          is-idle = ap (idle k) i ∙ E .is-idle;
+        }
+
+    arc-edge : (a : Arc) → List·Memᴰ a (t .arcs) → idle k a ≡ true → Edge cells up low (a .source) (a .target)
+    arc-edge a m w =
+        let P = mem-at (t .arcs) a noArc m in
+        let h : P .0 < length cells / 4 = omega (arith, size, P .1) in
+        let i : arcAt cells (P .0) ≡ a = sym (arc-is (P .0) h) ∙ P .2 in
+        record {
+          number = P .0;
+          inside = h;
+          from = ap (λ (x : Arc). x .source) i;
+          to = ap (λ (x : Arc). x .target) i;
+          is-idle = ap (idle k) i ∙ w;
+        }
+
+    walk-of : {s r : ℕ} → IdleWalk t k s r → Walk cells up low s r
+    walk-of (one a m i) = graph.one (arc-edge a m i)
+    walk-of (andThen a w m i) = edge-last cells up low (walk-of w) (arc-edge a m i)
+
+    through-of : (s : ℕ) (l : List ℕ) (r : ℕ) → Along cells up low s l r → Through t k s l r
+    through-of s [] r E = edge-arc E
+    through-of s (x ∷ l) r A = (edge-arc (A .0), through-of x l r (A .1))
+
+    -- no cycle was found, or the states of one
+
+    pub found-none : CycleOrNone cells up low [] → hasIdleCycle t k ≡ false
+    found-none C = none-there t k (λ s w. C s (walk-of w))
+
+    pub found-states : (s : ℕ) (l : List ℕ) → CycleOrNone cells up low (s ∷ l) → CycleStates t k (s ∷ l)
+    found-states s l C = (through-of s l s (C .0), C .1)
+
+    pub found-some : (s : ℕ) (l : List ℕ) → CycleOrNone cells up low (s ∷ l) → hasIdleCycle t k ≡ true
+    found-some s l C = go (hasIdleCycle t k) refl
+      where
+        go : (b : Bool) → hasIdleCycle t k ≡ b → b ≡ true
+        go true w = refl
+        go false w = absurd (let P = cycle-walk t k (s ∷ l) (found-states s l C) in none-found t k U w (P .0) (P .1))

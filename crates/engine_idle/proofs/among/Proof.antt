@@ -1,0 +1,47 @@
+-- The rounds, then a walk where a state is left.
+use Prim.Native.Nat.{ℕ}
+use native.Mathlib.Omega.{arith}
+use mathlib.Core.Path.{sym, subst}
+use denote.Ref.{now}
+use borrow.Author.Needs.{needs}
+use Rattle.engine_idle.proofs.Cycles.{none-found}
+use Rattle.engine_idle.specs.Graph.{Graph}
+use Rattle.engine_idle.proofs.among.Statement.{statement}
+use Rattle.engine_idle.proofs.among.Tie as tie
+
+settle-requires : tie.Need-settle-requires
+settle-requires c κs = c .before .before .before .before .pre .0
+
+first-alive-requires : tie.Need-first-alive-requires
+first-alive-requires c κs = search needs
+
+cast-walk : tie.Need-cast-walk
+cast-walk c = let g = subst (λ (x : ℕ). Graph (now (c .before .before .before .before .before .before .before .before .before .before .before .args .arcs)) (now (c .before .before .before .before .before .before .before .before .before .before .before .args .first)) x) (sym (c .before .before .before .before .before .before .settle .ensures .same-length)) (c .before .before .before .before .before .before .before .before .before .before .before .pre .0) in omega (arith, c .before .if1 .taken, g .few)
+
+walk-requires : tie.Need-walk-requires
+walk-requires c κs = (subst (λ (x : ℕ). Graph (now (c .before .before .before .before .before .before .before .before .before .before .before .args .arcs)) (now (c .before .before .before .before .before .before .before .before .before .before .before .args .first)) x) (sym (c .before .before .before .before .before .before .settle .ensures .same-length)) (c .before .before .before .before .before .before .before .before .before .before .before .pre .0), (c .before .before .before .before .before .before .settle .ensures .stable, (c .before .if1 .taken, c .before .before .first-alive .ensures .lives (c .before .if1 .taken))))
+
+same-length : tie.Need-same-length
+same-length c = c .before .before .before .before .before .before .before .settle .ensures .same-length
+
+returns : tie.Need-returns
+returns c = c .walk .ensures
+
+same-length-2 : tie.Need-same-length-2
+same-length-2 c = c .before .before .before .before .before .settle .ensures .same-length
+
+returns-2 : tie.Need-returns-2
+returns-2 c = none-found (now (c .before .before .before .before .before .before .before .before .before .before .args .arcs)) (c .before .before .before .before .before .before .before .before .before .before .args .upper) (c .before .before .before .before .before .before .before .before .before .before .args .lower) (now (c .before .before .before .before .before .before .before .before .before .before .args .first)) _ (subst (λ (x : ℕ). Graph (now (c .before .before .before .before .before .before .before .before .before .before .args .arcs)) (now (c .before .before .before .before .before .before .before .before .before .before .args .first)) x) (sym (c .before .before .before .before .before .settle .ensures .same-length)) (c .before .before .before .before .before .before .before .before .before .before .pre .0)) (c .before .before .before .before .before .settle .ensures .keeps (c .before .before .before .before .before .before .before .before .before .before .pre .1)) (c .before .first-alive .result) (c .before .first-alive .ensures) (c .if1 .left)
+
+pub among-spec : {M : Type 1} → statement M
+among-spec =
+    tie.close
+    (tie.spec
+    settle-requires
+    first-alive-requires
+    cast-walk
+    walk-requires
+    same-length
+    returns
+    same-length-2
+    returns-2)

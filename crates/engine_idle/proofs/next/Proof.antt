@@ -1,0 +1,96 @@
+-- The loop: no arc before n leads to a state that is alive.
+use Prim.Native.Nat.{ℕ, _+_, _-_, _<_, _≤_}
+use native.Mathlib.Omega.{arith}
+use mathlib.Core.Path.{_≡_, sym, _∙_}
+use mathlib.Core.Bool.{false}
+use denote.Ref.{now}
+use lib.ListN.{getD}
+use borrow.Author.Needs.{needs}
+use Rattle.engine_idle.proofs.Rounds.{fails-more, leadsAt, next-found, next-none}
+use Rattle.engine_idle.proofs.next.Statement.{statement}
+use Rattle.engine_idle.proofs.next.Tie as tie
+
+abbrev Inv-loop : tie.InvT-loop
+Inv-loop arcs first q upper lower alive end n₀ n = (getD first q 0 ≤ n) × (end ≡ getD first (q + 1) 0) × ((i : ℕ) → getD first q 0 ≤ i → i < n → leadsAt arcs upper lower alive i ≡ false)
+
+abbrev μ-loop : tie.MeasureT-loop
+μ-loop arcs first q upper lower alive end n₀ n = end - n
+
+add-wide : tie.Need-add-wide Inv-loop μ-loop
+add-wide c = omega (arith, c .before .before .before .pre .0 .few, c .before .before .before .pre .1)
+
+mul-wide : tie.Need-mul-wide Inv-loop μ-loop
+mul-wide c = search needs
+
+shared-slice-read-wide : tie.Need-shared-slice-read-wide Inv-loop μ-loop
+shared-slice-read-wide c = omega (arith, c .before .before .before .before .pre .0 .few, c .before .before .before .before .pre .1, c .before .before .before .before .pre .0 .index)
+
+wide-requires : tie.Need-wide-requires Inv-loop μ-loop
+wide-requires c κs = search needs
+
+mul-wide-2 : tie.Need-mul-wide-2 Inv-loop μ-loop
+mul-wide-2 c = search needs
+
+shared-slice-read-wide-2 : tie.Need-shared-slice-read-wide-2 Inv-loop μ-loop
+shared-slice-read-wide-2 c = omega (arith, c .before .before .before .before .before .before .pre .0 .few, c .before .before .before .before .before .before .pre .1, c .before .before .before .before .before .before .pre .0 .index)
+
+wide-requires-2 : tie.Need-wide-requires-2 Inv-loop μ-loop
+wide-requires-2 c κs = search needs
+
+loop-holds : tie.Need-loop-holds Inv-loop μ-loop
+loop-holds c = (omega (arith, c .wide2 .ensures .0), omega (arith, c .before .before .wide .ensures .0), λ i h k. absurd (omega (arith, c .wide2 .ensures .0)))
+
+leads-requires : tie.Need-leads-requires Inv-loop μ-loop
+leads-requires c κs = let i = c .before .before .before .before .before .before .before .before .before .pre .0 .numbered (c .before .before .before .before .before .before .before .before .before .args .q) (c .before .loop .n) (c .before .before .before .before .before .before .before .before .before .pre .1) (omega (arith, c .before .loop .inv .0)) (omega (arith, c .before .loop .inv .1)) in (i .0, c .before .before .before .before .before .before .before .before .before .pre .0 .target-in _ (i .0))
+
+mul-result : tie.Need-mul-result Inv-loop μ-loop
+mul-result c = omega (arith, c .before .before .before .before .before .before .before .before .before .before .before .pre .0 .numbered (c .before .before .before .before .before .before .before .before .before .before .before .args .q) (c .before .before .before .loop .n) (c .before .before .before .before .before .before .before .before .before .before .before .pre .1) (omega (arith, c .before .before .before .loop .inv .0)) (omega (arith, c .before .before .before .loop .inv .1)) .0)
+
+add-result : tie.Need-add-result Inv-loop μ-loop
+add-result c = omega (arith, c .before .before .before .before .before .before .before .before .before .before .before .pre .0 .numbered (c .before .before .before .before .before .before .before .before .before .before .before .args .q) (c .before .before .before .loop .n) (c .before .before .before .before .before .before .before .before .before .before .before .pre .1) (omega (arith, c .before .before .before .loop .inv .0)) (omega (arith, c .before .before .before .loop .inv .1)) .0)
+
+mul-result-2 : tie.Need-mul-result-2 Inv-loop μ-loop
+mul-result-2 c = omega (arith, c .before .before .before .before .before .before .before .before .before .before .before .pre .0 .numbered (c .before .before .before .before .before .before .before .before .before .before .before .args .q) (c .before .before .before .loop .n) (c .before .before .before .before .before .before .before .before .before .before .before .pre .1) (omega (arith, c .before .before .before .loop .inv .0)) (omega (arith, c .before .before .before .loop .inv .1)) .0)
+
+shared-slice-read-result : tie.Need-shared-slice-read-result Inv-loop μ-loop
+shared-slice-read-result c = omega (arith, c .before .before .before .before .before .before .before .before .before .before .before .before .pre .0 .numbered (c .before .before .before .before .before .before .before .before .before .before .before .before .args .q) (c .before .before .before .before .loop .n) (c .before .before .before .before .before .before .before .before .before .before .before .before .pre .1) (omega (arith, c .before .before .before .before .loop .inv .0)) (omega (arith, c .before .before .before .before .loop .inv .1)) .0)
+
+returns : tie.Need-returns Inv-loop μ-loop
+returns c = next-found (now (c .before .before .before .before .before .before .before .before .before .before .before .before .args .arcs)) (c .before .before .before .before .before .before .before .before .before .before .before .before .args .upper) (c .before .before .before .before .before .before .before .before .before .before .before .before .args .lower) (now (c .before .before .before .before .before .before .before .before .before .before .before .before .args .first)) (now (c .before .before .before .before .before .before .before .before .before .before .before .before .args .alive)) (c .before .before .before .before .before .before .before .before .before .before .before .before .pre .0) (c .before .before .before .before .before .before .before .before .before .before .before .before .args .q) (c .before .before .before .before .before .before .before .before .before .before .before .before .pre .1) (c .before .before .before .before .loop .n) (omega (arith, c .before .before .before .before .loop .inv .0)) (omega (arith, c .before .before .before .before .loop .inv .1)) (sym (c .before .before .leads .ensures) ∙ c .before .if1 .taken)
+
+add-n : tie.Need-add-n Inv-loop μ-loop
+add-n c = omega (arith, c .before .before .before .before .before .before .before .before .before .before .before .pre .0 .numbered (c .before .before .before .before .before .before .before .before .before .before .before .args .q) (c .before .before .before .loop .n) (c .before .before .before .before .before .before .before .before .before .before .before .pre .1) (omega (arith, c .before .before .before .loop .inv .0)) (omega (arith, c .before .before .before .loop .inv .1)) .0)
+
+loop-less : tie.Need-loop-less Inv-loop μ-loop
+loop-less c = search needs
+
+loop-again : tie.Need-loop-again Inv-loop μ-loop
+loop-again c = (omega (arith, c .before .before .before .loop .inv .0), c .before .before .before .loop .inv .1, fails-more (λ i. leadsAt (now (c .before .before .before .before .before .before .before .before .before .before .before .args .arcs)) (c .before .before .before .before .before .before .before .before .before .before .before .args .upper) (c .before .before .before .before .before .before .before .before .before .before .before .args .lower) (now (c .before .before .before .before .before .before .before .before .before .before .before .args .alive)) i) (getD (now (c .before .before .before .before .before .before .before .before .before .before .before .args .first)) (c .before .before .before .before .before .before .before .before .before .before .before .args .q) 0) (c .before .before .before .loop .n) (c .before .before .before .loop .inv .2) (sym (c .before .leads .ensures) ∙ c .if1 .left))
+
+returns-2 : tie.Need-returns-2 Inv-loop μ-loop
+returns-2 c = next-none (now (c .before .before .before .before .before .before .before .before .before .args .arcs)) (c .before .before .before .before .before .before .before .before .before .args .upper) (c .before .before .before .before .before .before .before .before .before .args .lower) (now (c .before .before .before .before .before .before .before .before .before .args .first)) (now (c .before .before .before .before .before .before .before .before .before .args .alive)) (c .before .before .before .before .before .before .before .before .before .pre .0) (c .before .before .before .before .before .before .before .before .before .args .q) (c .before .before .before .before .before .before .before .before .before .pre .1) (λ n a b. c .before .loop .inv .2 n a (omega (arith, c .before .loop .inv .1)))
+
+pub next-spec : {M : Type 1} → statement M
+next-spec =
+    tie.close
+    (tie.spec
+    Inv-loop
+    μ-loop
+    add-wide
+    mul-wide
+    shared-slice-read-wide
+    wide-requires
+    mul-wide-2
+    shared-slice-read-wide-2
+    wide-requires-2
+    loop-holds
+    leads-requires
+    mul-result
+    add-result
+    mul-result-2
+    shared-slice-read-result
+    returns
+    add-n
+    loop-less
+    loop-again
+    returns-2)

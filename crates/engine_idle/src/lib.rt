@@ -1,0 +1,166 @@
+// The search for an idle cycle. States die in rounds: one lives while an idle arc leads from it to a living state. Where some are left,
+// a walk among them comes back to a state, and from there on it is a cycle.
+ghost use mathlib.Core.Path.{_≡_};
+ghost use mathlib.Core.Bool.{_&&_};
+ghost use Prim.Native.Nat.{_+_, _*_, _-_, _/_, _≤_, _<_};
+ghost use lib.ListN.{length, getD, take, drop};
+ghost use lib.Dec.{eqb};
+ghost use Rattle.machine.specs.Idle.{sideIdle};
+ghost use Rattle.engine_idle.specs.Graph.{idleAt, Graph, Cyclic, Stable, Next, Peeled, Settled, FirstAlive, cycleCells, FoundCycle};
+
+// The states of an idle cycle, from the front; none where there is no such cycle.
+pub struct Cycle {
+    pub states: [u16; 256],
+    pub length: u32,
+}
+
+// A letter passes nothing that is read.
+fn side_idle(read: bool, letter: u16) -> bool
+    ensures { λ r. ⌜ r ≡ sideIdle read letter ⌝ }
+{
+    if read {
+        return letter == 0;
+    }
+    true
+}
+
+// Arc `n` is idle and leads to a living state.
+fn leads(arcs: &[u16], n: usize, upper: bool, lower: bool, alive: &[u8]) -> bool
+    requires { ⌜ (n < length (now arcs) / 4) × (getD (now arcs) (4 * n + 3) 0 < length (now alive)) ⌝ }
+    ensures { λ r. ⌜ r ≡ (idleAt (now (arcs .entry)) upper lower n && eqb (getD (now (alive .entry)) (getD (now (arcs .entry)) (4 * n + 3) 0) 0) 1) ⌝ }
+{
+    if side_idle(upper, arcs[4 * n + 1]) {
+        if side_idle(lower, arcs[4 * n + 2]) {
+            let target = table_format::wide(arcs[4 * n + 3]);
+            return alive[target] == 1;
+        }
+    }
+    false
+}
+
+// A living state to which an idle arc leads from state `q`; 256 where there is none.
+fn next(arcs: &[u16], first: &[u16], q: usize, upper: bool, lower: bool, alive: &[u8]) -> u16
+    requires { ⌜ Graph (now arcs) (now first) (length (now alive)) ⌝ }
+    requires { ⌜ q < length (now alive) ⌝ }
+    ensures { λ r. ⌜ Next (now (arcs .entry)) upper lower (now (alive .entry)) q r ⌝ }
+{
+    let end = table_format::wide(first[q + 1]);
+    let mut n = table_format::wide(first[q]);
+    while n < end {
+        if leads(arcs, n, upper, lower, alive) {
+            return arcs[4 * n + 3];
+        }
+        n += 1;
+    }
+    256
+}
+
+// One round, last state first. Whether a state died.
+fn peel(arcs: &[u16], first: &[u16], upper: bool, lower: bool, alive: &mut [u8]) -> bool
+    requires { ⌜ Graph (now arcs) (now first) (length (now alive)) ⌝ }
+    ensures { λ r. ⌜ Peeled (now (arcs .entry)) upper lower (now (alive .entry)) (now (alive .exit)) r ⌝ }
+{
+    let mut died = false;
+    let mut q = alive.len();
+    while 0 < q {
+        q -= 1;
+        if alive[q] == 1 {
+            let r = next(arcs, first, q, upper, lower, alive);
+            if 256 <= r {
+                alive[q] = 0;
+                died = true;
+            }
+        }
+    }
+    died
+}
+
+// Rounds until none dies.
+fn settle(arcs: &[u16], first: &[u16], upper: bool, lower: bool, alive: &mut [u8])
+    requires { ⌜ Graph (now arcs) (now first) (length (now alive)) ⌝ }
+    ensures { λ _. ⌜ Settled (now (arcs .entry)) upper lower (now (alive .entry)) (now (alive .exit)) ⌝ }
+{
+    let mut on = true;
+    while on {
+        on = peel(arcs, first, upper, lower, alive);
+    }
+}
+
+// The first living state, the count of states where none lives.
+fn first_alive(alive: &[u8]) -> usize
+    ensures { λ r. ⌜ FirstAlive (now (alive .entry)) r ⌝ }
+{
+    let mut s = 0;
+    while s < alive.len() {
+        if alive[s] == 1 {
+            return s;
+        }
+        s += 1;
+    }
+    s
+}
+
+// The states of a walk from one place up to another.
+fn part(order: &[u16], from: usize, end: usize) -> Cycle
+    requires { ⌜ (from ≤ end) × (end ≤ length (now order)) × (length (now order) ≡ 256) ⌝ }
+    ensures { λ r. ⌜ r ≡ cycleCells (take (end - from) (drop from (now (order .entry)))) ⌝ }
+{
+    let mut states = [0u16; 256];
+    let mut k = 0;
+    while from + k < end {
+        states[k] = order[from + k];
+        k += 1;
+    }
+    Cycle {
+        states,
+        length: k as u32,
+    }
+}
+
+// A walk among the living states, each with its place in it, until one comes again.
+fn walk(arcs: &[u16], first: &[u16], upper: bool, lower: bool, alive: &[u8], start: u16) -> Cycle
+    requires { ⌜ Graph (now arcs) (now first) (length (now alive)) ⌝ }
+    requires { ⌜ Stable (now arcs) upper lower (now alive) ⌝ }
+    requires { ⌜ (start < length (now alive)) × (getD (now alive) start 0 ≡ 1) ⌝ }
+    ensures { λ r. ⌜ FoundCycle (now (arcs .entry)) upper lower r ⌝ }
+{
+    let mut order = [0u16; 256];
+    let mut place = [0u16; 256];
+    let mut n: u16 = 0;
+    let mut s = start;
+    let mut at: u16 = 0;
+    while at == 0 {
+        order[table_format::wide(n)] = s;
+        n += 1;
+        place[table_format::wide(s)] = n;
+        s = next(arcs, first, table_format::wide(s), upper, lower, alive);
+        at = place[table_format::wide(s)];
+    }
+    part(&order, table_format::wide(at) - 1, table_format::wide(n))
+}
+
+// The states of an idle cycle among the arcs of a table, where all states live at first.
+fn among(arcs: &[u16], first: &[u16], upper: bool, lower: bool, alive: &mut [u8]) -> Cycle
+    requires { ⌜ Graph (now arcs) (now first) (length (now alive)) ⌝ }
+    requires { ⌜ Cyclic (now arcs) upper lower (now alive) ⌝ }
+    ensures { λ r. ⌜ FoundCycle (now (arcs .entry)) upper lower r ⌝ }
+{
+    settle(arcs, first, upper, lower, alive);
+    let s = first_alive(alive);
+    if s < alive.len() {
+        return walk(arcs, first, upper, lower, alive, s as u16);
+    }
+    Cycle {
+        states: [0u16; 256],
+        length: 0,
+    }
+}
+
+// The states of an idle cycle among the arcs of a table.
+pub fn find(arcs: &[u16], first: &[u16], states: usize, upper: bool, lower: bool) -> Cycle
+    requires { ⌜ Graph (now arcs) (now first) states ⌝ }
+    ensures { λ r. ⌜ FoundCycle (now (arcs .entry)) upper lower r ⌝ }
+{
+    let mut alive = [1u8; 256];
+    among(arcs, first, upper, lower, &mut alive[..states])
+}

@@ -1,0 +1,105 @@
+use borrow.Author.Needs.{needs}
+use Prim.Native.Nat.{ℕ, _<_, _≤_}
+use mathlib.Core.Path.{sym, ap, subst, _∙_}
+use denote.Ref.{now}
+use Rattle.machine.specs.Stack.{lookAt}
+use Rattle.engine_frames.specs.Frames.{frameOf}
+use Rattle.engine_place.specs.Place.{linkBy}
+use Rattle.engine_place.proofs.Placing.{link-untried, link-unfit, link-elsewhere, link-up, link-low}
+use Rattle.engine_place.proofs.link_holds.Statement.{statement}
+use Rattle.engine_place.proofs.link_holds.Tie as tie
+
+cast-state : tie.Need-cast-state
+cast-state c = search needs
+
+mul-longer : tie.Need-mul-longer
+mul-longer c = search needs
+
+shared-slice-read-longer : tie.Need-shared-slice-read-longer
+shared-slice-read-longer c = search needs
+
+longer-requires : tie.Need-longer-requires
+longer-requires c κs = search needs
+
+returns : tie.Need-returns
+returns c =
+    let a = c .before .before .before .before .before .before .before .before .before .args in
+    link-untried (a .setup) (now (a .first)) (now (a .arcs)) (now (a .upper)) (now (a .lower)) (a .g) (frameOf (lookAt (now (a .stack)) (a .i))) (subst (λ (x : ℕ). a .g .next ≤ x) (c .before .longer .ensures) (c .if1 .taken))
+
+cast-n : tie.Need-cast-n
+cast-n c = search needs
+
+sub-n : tie.Need-sub-n
+sub-n c = search needs
+
+follow-requires : tie.Need-follow-requires
+follow-requires c κs = search needs
+
+enum-told : tie.Need-enum-told
+enum-told c = search needs
+
+enum-known-up : tie.Need-enum-known-up
+enum-known-up c = search needs
+
+look-requires : tie.Need-look-requires
+look-requires c κs = search needs
+
+mul-longer-2 : tie.Need-mul-longer-2
+mul-longer-2 c = search needs
+
+add-longer : tie.Need-add-longer
+add-longer c = search needs
+
+mul-longer-3 : tie.Need-mul-longer-3
+mul-longer-3 c = search needs
+
+shared-slice-read-longer-2 : tie.Need-shared-slice-read-longer-2
+shared-slice-read-longer-2 c = search needs
+
+longer-requires-2 : tie.Need-longer-requires-2
+longer-requires-2 c κs = search needs
+
+returns-2 : tie.Need-returns-2
+returns-2 c =
+    let a = c .before .before .before .before .before .before .before .before .before .before .before .before .before .before .before .before .before .before .args in
+    link-elsewhere (a .setup) (now (a .first)) (now (a .arcs)) (now (a .upper)) (now (a .lower)) (a .g) (c .before .before .before .before .look .result) (λ e. c .if2 .taken (e ∙ sym (c .before .before .longer2 .ensures))) ∙ ap (linkBy (a .setup) (now (a .first)) (now (a .arcs)) (now (a .upper)) (now (a .lower)) (a .g)) (c .before .before .before .before .look .ensures)
+
+returns-3 : tie.Need-returns-3
+returns-3 c =
+    let a = c .before .before .before .before .before .before .before .before .before .before .before .before .before .before .before .before .before .before .before .before .args in
+    link-up (a .setup) (now (a .first)) (now (a .arcs)) (now (a .upper)) (now (a .lower)) (a .g) (c .before .before .before .before .before .before .look .result) _ _ (sym (c .before .before .before .before .before .before .before .before .up .given .1) ∙ c .before .before .before .before .before .before .before .before .before .before .follow .ensures) (c .if3 .taken) ∙ ap (linkBy (a .setup) (now (a .first)) (now (a .arcs)) (now (a .upper)) (now (a .lower)) (a .g)) (c .before .before .before .before .before .before .look .ensures)
+
+returns-4 : tie.Need-returns-4
+returns-4 c =
+    let a = c .before .before .before .before .before .before .before .before .before .before .before .before .args in
+    link-unfit (a .setup) (now (a .first)) (now (a .arcs)) (now (a .upper)) (now (a .lower)) (a .g) (frameOf (lookAt (now (a .stack)) (a .i))) (sym (c .enum-told .given .1) ∙ c .before .before .follow .ensures)
+
+returns-5 : tie.Need-returns-5
+returns-5 c =
+    let a = c .before .before .before .before .before .before .before .before .before .before .before .before .before .before .before .before .before .before .before .before .before .args in
+    link-low (a .setup) (now (a .first)) (now (a .arcs)) (now (a .upper)) (now (a .lower)) (a .g) (c .before .before .before .before .before .before .before .look .result) _ _ (subst (λ (x : ℕ). x < a .g .next) (c .before .before .before .before .before .before .before .before .before .before .before .before .before .longer .ensures) (c .before .before .before .before .before .before .before .before .before .before .before .before .if1 .left)) (c .before .before .before .if2 .left ∙ c .before .before .before .before .before .longer2 .ensures) (sym (c .before .before .before .before .before .before .before .before .before .up .given .1) ∙ c .before .before .before .before .before .before .before .before .before .before .before .follow .ensures) (c .before .if3 .left) ∙ ap (linkBy (a .setup) (now (a .first)) (now (a .arcs)) (now (a .upper)) (now (a .lower)) (a .g)) (c .before .before .before .before .before .before .before .look .ensures)
+
+pub link-holds-spec : {M : Type 1} → statement M
+link-holds-spec =
+    tie.close
+    (tie.spec
+    cast-state
+    mul-longer
+    shared-slice-read-longer
+    longer-requires
+    returns
+    cast-n
+    sub-n
+    follow-requires
+    enum-told
+    enum-known-up
+    look-requires
+    mul-longer-2
+    add-longer
+    mul-longer-3
+    shared-slice-read-longer-2
+    longer-requires-2
+    returns-2
+    returns-3
+    returns-4
+    returns-5)

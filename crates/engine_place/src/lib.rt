@@ -1,0 +1,156 @@
+// Refusal 21: is the run with its used frames a place in a search?
+use engine_frames::Fit;
+use engine_frames::Frame;
+use engine_frames::Setup;
+use engine_frames::cells;
+use engine_frames::sides;
+use machine::Run;
+ghost use mathlib.Core.Path.{_≡_};
+ghost use mathlib.Core.List.{List, []};
+ghost use Prim.Native.Nat.{ℕ, _+_, _-_, _<_, _≤_};
+ghost use lib.ListN.{length};
+ghost use Rattle.machine.specs.Frames.{framesOf, chainHolds, placeHolds};
+ghost use Rattle.machine.specs.Stack.{framesIn, lookAt, store};
+ghost use Rattle.machine.specs.Reading.{heldOf};
+ghost use Rattle.engine_frames.specs.Frames.{frameOf};
+ghost use Rattle.engine_step.specs.Setting.{machineBy, Prepared};
+ghost use Rattle.engine_place.specs.Place.{nextBy, bottomBy, linkBy, Linkable};
+
+// A next arc inside its state's arcs; one past the last is allowed.
+fn next_holds(first: &[u16], state: u32, next: u32) -> bool
+    requires { ⌜ state + 1 < length (now first) ⌝ }
+    ensures { λ r. ⌜ r ≡ nextBy (now (first .entry)) state next ⌝ }
+{
+    let at = state as usize;
+    if next < table_format::longer(first[at]) {
+        return false;
+    }
+    next <= table_format::longer(first[at + 1])
+}
+
+// The bottom frame is the last started state with nothing passed.
+fn bottom_holds(initials: &[u16], started: u32, f: Frame) -> bool
+    requires { ⌜ (0 < started) × (started ≤ length (now initials)) ⌝ }
+    ensures { λ r. ⌜ r ≡ bottomBy (now (initials .entry)) started f ⌝ }
+{
+    let i = started as usize - 1;
+    if f.state != table_format::longer(initials[i]) {
+        return false;
+    }
+    if 0 != f.up {
+        return false;
+    }
+    0 == f.low
+}
+
+// The frame at i is what the arc just tried in the frame g below it makes by fitting. It is looked at when that is known, so that fewer
+// values are held at a time.
+fn link_holds(
+    setup: Setup,
+    first: &[u16],
+    arcs: &[u16],
+    upper: &[u8],
+    lower: &[u8],
+    g: Frame,
+    stack: &[u32],
+    i: usize,
+) -> bool
+    requires { ⌜ Linkable (now first) (now arcs) g ⌝ }
+    requires { ⌜ i < framesIn (now stack) ⌝ }
+    ensures { λ r. ⌜ r ≡ linkBy setup (now (first .entry)) (now (arcs .entry)) (now (upper .entry)) (now (lower .entry)) g (frameOf (lookAt (now (stack .entry)) i)) ⌝ }
+{
+    let state = g.state as usize;
+    let next = g.next;
+    if next <= table_format::longer(first[state]) {
+        return false;
+    }
+    let n = next as usize - 1;
+    match sides::follow(setup, arcs, n, upper, lower, g.up, g.low) {
+        Fit::Fails => false,
+        Fit::Fits(up, low) => {
+            let f = cells::look(stack, i);
+            if f.state != table_format::longer(arcs[4 * n + 3]) {
+                return false;
+            }
+            if up != f.up {
+                return false;
+            }
+            low == f.low
+        }
+    }
+}
+
+// The used frames, from the bottom up, where there are some.
+fn frames_hold(
+    setup: Setup,
+    first: &[u16],
+    initials: &[u16],
+    arcs: &[u16],
+    upper: &[u8],
+    lower: &[u8],
+    started: u32,
+    depth: usize,
+    stack: &[u32],
+) -> bool
+    requires { ⌜ ((terminals : List ℕ) × Prepared setup (now first) (now initials) terminals (now arcs)) ⌝ }
+    requires { ⌜ (0 < started) × (started ≤ length (now initials)) ⌝ }
+    requires { ⌜ (0 < depth) × (depth ≤ framesIn (now stack)) × (depth ≤ 33024) ⌝ }
+    ensures { λ r. ⌜ r ≡ chainHolds (machineBy setup (now (initials .entry)) [] (now (arcs .entry)) (now (upper .entry)) (now (lower .entry))) started (framesOf store (now (stack .entry)) (depth - 1)) (lookAt (now (stack .entry)) (depth - 1)) ⌝ }
+{
+    let b = cells::look(stack, 0);
+    if !bottom_holds(initials, started, b) {
+        return false;
+    }
+    if !next_holds(first, b.state, b.next) {
+        return false;
+    }
+    let mut g = b;
+    let mut i = 1;
+    while i < depth {
+        if !link_holds(setup, first, arcs, upper, lower, g, stack, i) {
+            return false;
+        }
+        let f = cells::look(stack, i);
+        if !next_holds(first, f.state, f.next) {
+            return false;
+        }
+        g = f;
+        i += 1;
+    }
+    true
+}
+
+// Starts, depth and room, then the frames.
+pub fn place_holds(
+    setup: Setup,
+    first: &[u16],
+    initials: &[u16],
+    arcs: &[u16],
+    upper: &[u8],
+    lower: &[u8],
+    run: Run,
+    stack: &[u32],
+) -> bool
+    requires { ⌜ ((terminals : List ℕ) × Prepared setup (now first) (now initials) terminals (now arcs)) ⌝ }
+    ensures { λ r. ⌜ r ≡ placeHolds (machineBy setup (now (initials .entry)) [] (now (arcs .entry)) (now (upper .entry)) (now (lower .entry))) store (heldOf run (now (stack .entry))) ⌝ }
+{
+    let n = run.started;
+    let depth = run.depth;
+    if initials.len() < n as usize {
+        return false;
+    }
+    if machine::MOST_FRAMES < depth {
+        return false;
+    }
+    if cells::frames_in(stack) < depth as usize {
+        return false;
+    }
+    if depth == 0 {
+        return true;
+    }
+    if n == 0 {
+        return false;
+    }
+    let used = depth as usize;
+    frames_hold(setup, first, initials, arcs, upper, lower, n, used, stack)
+}

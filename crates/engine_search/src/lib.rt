@@ -1,0 +1,136 @@
+// A call on a table that keeps the rules: 21, then steps until the end, a reading, the allowance or a refusal.
+use table_format::Refusal;
+use table_format::StateCause;
+use engine_frames::Setup;
+use machine::Answer;
+use machine::Called;
+use machine::Run;
+use engine_step::Turn;
+ghost use mathlib.Core.Path.{_≡_};
+ghost use mathlib.Core.Bool.{_&&_};
+ghost use lib.Dec.{eqb, leb};
+ghost use lib.ListN.{length};
+ghost use Rattle.machine.specs.declared.Answer.the-variants.{Found, Refused};
+ghost use Rattle.machine.specs.Call.{advance, call};
+ghost use Rattle.machine.specs.Reading.{heldOf};
+ghost use Rattle.machine.specs.Stack.{roomIn, store};
+ghost use Rattle.machine.specs.Place.{Good};
+ghost use Rattle.engine_step.specs.Setting.{machineBy, Prepared};
+ghost use Rattle.engine_search.specs.Searching.{calledWith, SearchIs};
+
+// Depth 0 with no initial state left is the end.
+fn is_over(initials: &[u16], run: Run) -> bool
+    ensures { λ r. ⌜ r ≡ (eqb (run .depth) 0 && leb (length (now (initials .entry))) (run .started)) ⌝ }
+{
+    if run.depth != 0 {
+        return false;
+    }
+    initials.len() <= run.started as usize
+}
+
+// An answer with its run.
+fn called(answer: Answer, run: Run) -> Called
+    ensures { λ r. ⌜ r ≡ calledWith answer run ⌝ }
+{
+    Called { answer, run }
+}
+
+// A reading, after so many steps.
+fn found(steps: u32, length: u32, run: Run) -> Called
+    ensures { λ r. ⌜ r ≡ calledWith (Found steps length) run ⌝ }
+{
+    called(Answer::Found { steps, length }, run)
+}
+
+// A refusal, after so many steps.
+pub fn refused(steps: u32, refusal: Refusal, run: Run) -> Called
+    ensures { λ r. ⌜ r ≡ calledWith (Refused steps refusal) run ⌝ }
+{
+    called(Answer::Refused { steps, refusal }, run)
+}
+
+// The steps of a call from a place in a search. The end is looked for before the allowance, the allowance before the next step.
+fn take_steps(
+    setup: Setup,
+    first: &[u16],
+    initials: &[u16],
+    terminals: &[u16],
+    arcs: &[u16],
+    upper: &[u8],
+    lower: &[u8],
+    run: Run,
+    stack: &mut [u32],
+    allowance: u32,
+    output: &mut [u8],
+) -> Called
+    requires { ⌜ Prepared setup (now first) (now initials) (now terminals) (now arcs) ⌝ }
+    requires { ⌜ Good (machineBy setup (now initials) (now terminals) (now arcs) (now upper) (now lower)) store (roomIn (now stack)) (heldOf run (now stack)) ⌝ }
+    ensures { λ r. ⌜ SearchIs (run .task) (now (output .entry)) (advance (machineBy setup (now (initials .entry)) (now (terminals .entry)) (now (arcs .entry)) (now (upper .entry)) (now (lower .entry))) store (length (now (output .entry))) allowance (heldOf run (now (stack .entry)))) r (now (stack .exit)) (now (output .exit)) ⌝ }
+{
+    let mut at = run;
+    let mut steps: u32 = 0;
+    while !is_over(initials, at) {
+        if steps == allowance {
+            return called(Answer::Paused { steps }, at);
+        }
+        match engine_step::step(
+            setup,
+            first,
+            initials,
+            terminals,
+            arcs,
+            upper,
+            lower,
+            at,
+            stack,
+            output,
+        ) {
+            Turn::Moved(next) => {
+                at = next;
+            }
+            Turn::Finds(next, length) => {
+                return found(steps + 1, length, next);
+            }
+            Turn::Stopped(cause) => {
+                return refused(steps, Refusal::State(cause), at);
+            }
+        }
+        steps += 1;
+    }
+    called(Answer::Ended { steps }, at)
+}
+
+// 21, then the steps.
+pub fn call(
+    setup: Setup,
+    first: &[u16],
+    initials: &[u16],
+    terminals: &[u16],
+    arcs: &[u16],
+    upper: &[u8],
+    lower: &[u8],
+    run: Run,
+    stack: &mut [u32],
+    allowance: u32,
+    output: &mut [u8],
+) -> Called
+    requires { ⌜ Prepared setup (now first) (now initials) (now terminals) (now arcs) ⌝ }
+    ensures { λ r. ⌜ SearchIs (run .task) (now (output .entry)) (call (machineBy setup (now (initials .entry)) (now (terminals .entry)) (now (arcs .entry)) (now (upper .entry)) (now (lower .entry))) store allowance (length (now (output .entry))) (heldOf run (now (stack .entry)))) r (now (stack .exit)) (now (output .exit)) ⌝ }
+{
+    if !engine_place::place_holds(setup, first, initials, arcs, upper, lower, run, stack) {
+        return refused(0, Refusal::State(StateCause::Place), run);
+    }
+    take_steps(
+        setup,
+        first,
+        initials,
+        terminals,
+        arcs,
+        upper,
+        lower,
+        run,
+        stack,
+        allowance,
+        output,
+    )
+}

@@ -1,0 +1,35 @@
+-- Document 01, "Lines of the text": "The session reads a table, through the first line that begins with 05, then exactly one query".
+use Prim.Native.Nat.{ℕ, _+_}
+use mathlib.Core.Bool.{Bool, cond, _&&_}
+use mathlib.Core.List.{List, [], _∷_}
+use lib.Dec.{eqb}
+use lib.ListN.{length, getD, take, drop}
+use Rattle.table_format.specs.Line.{Line, linesOf}
+
+-- how many characters a line has, with its line feed if that is there
+abbrev pub sizeOf : Line → ℕ
+sizeOf l = length (l .chars) + cond (l .fed) 1 0
+
+-- the first of some lines, if there is one
+abbrev pub firstSize : List Line → ℕ
+firstSize [] = 0
+firstSize (l ∷ ls) = sizeOf l
+
+-- "begins with 05": characters 48 and 53
+abbrev pub begins05 : List ℕ → Bool
+begins05 cs = eqb (getD cs 0 0) 48 && eqb (getD cs 1 0) 53
+
+-- how many characters stand "through the first line that begins with 05"; all where there is none
+unfoldable pub sizeThrough : List Line → ℕ
+sizeThrough [] = 0
+sizeThrough (l ∷ ls) = sizeOf l + cond (begins05 (l .chars)) 0 (sizeThrough ls)
+
+abbrev pub tableSize : List ℕ → ℕ
+tableSize input = sizeThrough (linesOf input)
+
+-- the table's text, and the query's
+abbrev pub tableText : List ℕ → List ℕ
+tableText input = take (tableSize input) input
+
+abbrev pub queryText : List ℕ → List ℕ
+queryText input = drop (tableSize input) input

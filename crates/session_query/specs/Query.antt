@@ -1,0 +1,46 @@
+-- Document 01, "Lines of the text": "exactly one query: `10`, task, upper length (one byte), upper letters, lower length, lower letters".
+use Prim.Native.Nat.{ℕ, _+_}
+use mathlib.Core.Bool.{Bool, cond, _&&_}
+use mathlib.Core.List.{List, [], _∷_, _++_}
+use lib.Dec.{eqb}
+use lib.ListN.{length, getD, take, drop, replicate}
+use Rattle.table_format.specs.declared.InputCause.{InputCause}
+use Rattle.table_format.specs.declared.InputCause.the-variants.{Malformed, Misplaced}
+use Rattle.table_format.specs.Rules.{isEmpty}
+use Rattle.table_format.specs.Line.{Line, malformed, bytesOf}
+
+-- the parts of a query's bytes
+abbrev pub taskIn : List ℕ → ℕ
+taskIn b = getD b 1 0
+
+abbrev pub upperLength : List ℕ → ℕ
+upperLength b = getD b 2 0
+
+abbrev pub lowerLength : List ℕ → ℕ
+lowerLength b = getD b (3 + upperLength b) 0
+
+abbrev pub upperIn : List ℕ → List ℕ
+upperIn b = take (upperLength b) (drop 3 b)
+
+abbrev pub lowerIn : List ℕ → List ℕ
+lowerIn b = take (lowerLength b) (drop (4 + upperLength b) b)
+
+-- the kind (10 in base sixteen), and as many bytes as the parts have
+unfoldable pub isQuery : List ℕ → Bool
+isQuery b = eqb (getD b 0 0) 16 && eqb (length b) (4 + upperLength b + lowerLength b)
+
+-- the bytes of a query, or why there is none
+pub data Asked : Type 0 where
+  fault : InputCause → Asked
+  says : List ℕ → Asked
+
+-- bytes from the front of an array of 514, which holds every query (3 + 255 + 1 + 255); the others are 0
+unfoldable pub filled : List ℕ → List ℕ
+filled b = b ++ drop (length b) (replicate 514 0)
+
+-- "a query missing, of wrong kind or length, or followed by text gives 2"; a line that is malformed gives 1
+unfoldable pub queryOf : List Line → Asked
+queryOf [] = fault Misplaced
+queryOf (l ∷ ls) =
+    cond (malformed l) (fault Malformed)
+    (cond (isQuery (bytesOf (l .chars)) && isEmpty ls) (says (bytesOf (l .chars))) (fault Misplaced))

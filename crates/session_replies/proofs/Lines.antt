@@ -1,0 +1,31 @@
+-- A line of some bytes and others, stored at the front of a buffer.
+use Prim.Native.Nat.{ℕ, _+_, _*_, _≤_}
+use native.Mathlib.Omega.{arith}
+use mathlib.Core.Path.{_≡_, sym, ap, subst, _∙_}
+use mathlib.Core.List.{List, [], _∷_, _++_, append-assoc}
+use lib.ListN.{length, drop, length-append}
+use lib.Seq.{sets, sets-eq}
+use Rattle.table_format.specs.Line.{charsOf, lineText}
+use Rattle.table_format.proofs.Line.{length-chars, chars-append}
+use Rattle.table_format.proofs.Stores.{then}
+use Rattle.session_replies.specs.Lines.{storedLine}
+
+line-append : (head tail : List ℕ) → lineText (head ++ tail) ≡ charsOf head ++ lineText tail
+line-append head tail = ap (λ (l : List ℕ). l ++ (10 ∷ [])) (chars-append head tail) ∙ append-assoc (charsOf head) (charsOf tail) (10 ∷ [])
+
+-- some bytes, then the line of others
+pub line-stored : (text m n : List ℕ) (head tail : List ℕ) (r : ℕ) → 2 * (length head + length tail) + 1 ≤ length text
+    → m ≡ sets text 0 (charsOf head) → r ≡ 2 * length head + 2 * length tail + 1 → n ≡ sets m (2 * length head) (lineText tail)
+    → (r ≡ length (lineText (head ++ tail))) × (n ≡ storedLine (head ++ tail) text)
+line-stored text m n head tail r room p e q =
+    let line = lineText (head ++ tail) in
+    let size : length line ≡ 2 * (length head + length tail) + 1 = simp (length-append, length-chars) (omega arith) in
+    let zero-first : 0 + length line ≡ length line = omega arith in (
+      omega arith,
+      then text m n 0 (2 * length head) (charsOf head) (lineText tail) p (omega (arith, length-chars head)) q
+          ∙ ap (sets text 0) (sym (line-append head tail)) ∙ sets-eq line text 0 (omega arith) ∙ ap (λ (k : ℕ). line ++ drop k text) zero-first,
+    )
+
+-- the same line by equal bytes
+pub line-as : (r : ℕ) (after text b d : List ℕ) → b ≡ d → (r ≡ length (lineText b)) × (after ≡ storedLine b text) → (r ≡ length (lineText d)) × (after ≡ storedLine d text)
+line-as r after text b d e = subst (λ (x : List ℕ). (r ≡ length (lineText x)) × (after ≡ storedLine x text)) e

@@ -1,0 +1,113 @@
+-- Laws of arcs in cells, four cells an arc.
+use Prim.Native.Nat.{ℕ, zero, suc, _+_, _*_, _/_, _<_, _≤_}
+use native.Mathlib.Omega.{arith}
+use mathlib.Core.Path.{_≡_, refl, sym, ap, ap₂, _∙_}
+use mathlib.Core.List.{List, [], _∷_, _++_}
+use lib.ListN.{length, getD, take, drop}
+use lib.Seq.{drop-drop, getD-drop, getD-take, length-take-le}
+use mathlib.Core.Bool.{Bool, true, false}
+use Rattle.table_format.specs.Table.{Arc}
+use Rattle.table_format.specs.Rules.{each}
+use Rattle.table_format.specs.Loaded.{arcIn, arcsIn}
+use Rattle.table_format.specs.Cells.{arcAs, arcsAs, Whole}
+use Rattle.table_format.proofs.Tests.{and-both}
+use Rattle.table_format.proofs.Each.{each-snoc, each-fails}
+
+-- a function at equal numbers
+pub at-equal : {A : Type 0} (f : ℕ → A) (m n : ℕ) → m ≡ n → f m ≡ f n
+at-equal f m n e = ap f e
+
+-- the arc from a cell on, and the arc at place k of cells
+abbrev pub arcHere : List ℕ → ℕ → Arc
+arcHere cells at = arcAs (getD cells at 0) (getD cells (at + 1) 0) (getD cells (at + 2) 0) (getD cells (at + 3) 0)
+
+abbrev pub arcAt : List ℕ → ℕ → Arc
+arcAt cells k = arcHere cells (4 * k)
+
+pub noArc : Arc
+noArc = arcAs 0 0 0 0
+
+pub length-arcs : (n : ℕ) (cells : List ℕ) → length (arcsIn n cells) ≡ n
+unfolding arcsIn
+length-arcs zero cells = refl
+length-arcs (suc n) cells = ap suc (length-arcs n (drop 4 cells))
+
+pub arc-dropped : (cells : List ℕ) (at : ℕ) → arcIn (drop at cells) ≡ arcHere cells at
+arc-dropped cells at =
+    λ i. record {
+      source = (getD-drop at cells 0 0 ∙ at-equal (λ n. getD cells n 0) (at + 0) at (omega arith)) i;
+      upper = getD-drop at cells 1 0 i;
+      lower = getD-drop at cells 2 0 i;
+      target = getD-drop at cells 3 0 i;
+    }
+
+pub getD-arcs : (n : ℕ) (cells : List ℕ) (k : ℕ) (d : Arc) → k < n → getD (arcsIn n cells) k d ≡ arcAt cells k
+unfolding arcsIn
+getD-arcs zero cells k d h = absurd (omega arith)
+getD-arcs (suc n) cells zero d h = refl
+getD-arcs (suc n) cells (suc k) d h =
+    getD-arcs n (drop 4 cells) k d (omega arith) ∙ sym (arc-dropped (drop 4 cells) (4 * k))
+    ∙ ap arcIn (drop-drop (4 * k) 4 cells ∙ at-equal (λ m. drop m cells) (4 + 4 * k) (4 * suc k) (omega arith)) ∙ arc-dropped cells (4 * suc k)
+
+-- one arc more
+pub arcs-snoc : (k : ℕ) (cells : List ℕ) → arcsIn (suc k) cells ≡ arcsIn k cells ++ (arcAt cells k ∷ [])
+unfolding arcsIn
+arcs-snoc zero cells = refl
+arcs-snoc (suc k) cells =
+    ap (λ (l : List Arc). arcIn cells ∷ l)
+    (arcs-snoc k (drop 4 cells)
+    ∙ ap (λ (a : Arc). arcsIn k (drop 4 cells) ++ (a ∷ []))
+    (sym (arc-dropped (drop 4 cells) (4 * k)) ∙ ap arcIn (drop-drop (4 * k) 4 cells ∙ at-equal (λ m. drop m cells) (4 + 4 * k) (4 * suc k) (omega arith)) ∙ arc-dropped cells (4 * suc k)))
+
+-- the arcs of a part from the front are the first ones
+pub arcs-take : (k m : ℕ) (cells : List ℕ) → 4 * k ≤ m → m ≤ length cells → arcsIn k (take m cells) ≡ arcsIn k cells
+unfolding arcsIn
+arcs-take zero m cells h g = refl
+arcs-take (suc k) m cells h g =
+    arcs-snoc k (take m cells) ∙ ap₂ (λ (l : List Arc) (a : Arc). l ++ (a ∷ [])) (arcs-take k m cells (omega arith) g) same ∙ sym (arcs-snoc k cells)
+  where
+    same : arcAt (take m cells) k ≡ arcAt cells k
+    same =
+        λ i. record {
+          source = getD-take m cells (4 * k) 0 (omega arith) i;
+          upper = getD-take m cells (4 * k + 1) 0 (omega arith) i;
+          lower = getD-take m cells (4 * k + 2) 0 (omega arith) i;
+          target = getD-take m cells (4 * k + 3) 0 (omega arith) i;
+        }
+
+-- the first k of n arcs
+pub take-arcs : (n k : ℕ) (cells : List ℕ) → k ≤ n → take k (arcsIn n cells) ≡ arcsIn k cells
+unfolding arcsIn
+take-arcs n zero cells h = refl
+take-arcs zero (suc k) cells h = absurd (omega arith)
+take-arcs (suc n) (suc k) cells h = ap (λ (l : List Arc). arcIn cells ∷ l) (take-arcs n k (drop 4 cells) (omega arith))
+
+-- a test along the arcs of cells: one arc more, the first that fails
+
+pub arcs-more : (test : List Arc → Arc → Bool) (cells : List ℕ) (k : ℕ) → each test [] (arcsIn k cells) ≡ true → test (arcsIn k cells) (arcAt cells k) ≡ true
+    → each test [] (arcsIn (suc k) cells) ≡ true
+arcs-more test cells k e f = ap (each test []) (arcs-snoc k cells) ∙ each-snoc test (arcsIn k cells) (arcAt cells k) ∙ and-both e f
+
+pub arcs-fail : (test : List Arc → Arc → Bool) (cells : List ℕ) (n k : ℕ) → k < n → test (arcsIn k cells) (arcAt cells k) ≡ false → each test [] (arcsIn n cells) ≡ false
+arcs-fail test cells n k h f =
+    each-fails test noArc (arcsIn n cells) k (omega (arith, length-arcs n cells))
+    (ap₂ test (take-arcs n k cells (omega arith)) (getD-arcs n cells k noArc h) ∙ f)
+
+-- The same by the place of a cell: `at` cells from the front are whole arcs.
+
+pub arc-here : (cells : List ℕ) (at : ℕ) → at ≡ 4 * (at / 4) → arcAt cells (at / 4) ≡ arcHere cells at
+arc-here cells at e = at-equal (arcHere cells) (4 * (at / 4)) at (omega arith)
+
+pub arcs-here : (cells : List ℕ) (at : ℕ) → at ≡ 4 * (at / 4) → arcsIn ((at + 4) / 4) cells ≡ arcsIn (at / 4) cells ++ (arcHere cells at ∷ [])
+arcs-here cells at e =
+    at-equal (λ n. arcsIn n cells) ((at + 4) / 4) (suc (at / 4)) (omega arith) ∙ arcs-snoc (at / 4) cells
+    ∙ ap (λ (a : Arc). arcsIn (at / 4) cells ++ (a ∷ [])) (arc-here cells at e)
+
+-- the arcs before a place, as a part of the cells
+pub front : (cells : List ℕ) (at : ℕ) → at ≡ 4 * (at / 4) → at ≤ length cells → arcsAs (take at cells) ≡ arcsIn (at / 4) cells
+front cells at e h =
+    at-equal (λ n. arcsIn n (take at cells)) (length (take at cells) / 4) (at / 4) (omega (arith, length-take-le at cells h))
+    ∙ arcs-take (at / 4) at cells (omega arith) h
+
+pub whole : (cells : List ℕ) (at : ℕ) → at ≡ 4 * (at / 4) → at ≤ length cells → Whole (take at cells)
+whole cells at e h = omega (arith, length-take-le at cells h)

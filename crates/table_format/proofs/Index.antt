@@ -1,0 +1,203 @@
+-- Laws of the first-arc index: arcs are counted by source, and the counts added up.
+use Prim.Native.Nat.{ℕ, zero, suc, _+_, _-_, _*_, _/_, _<_, _≤_}
+use native.Mathlib.Omega.{arith}
+use mathlib.Core.Path.{_≡_, refl, sym, ap, _∙_}
+use mathlib.Core.Bool.{Bool, true, false, cond}
+use mathlib.Core.List.{List, [], _∷_, _++_}
+use lib.Dec.{eqb, ltb, leb}
+use lib.ListN.{length, getD, set, length-append, length-replicate, getD-replicate, replicate, List·getD-append, length-set}
+use lib.Seq.{ext-getD, getD-append-add, getD-set-same, getD-set-other}
+use borrow.Author.Tests.{eqb-true, eqb-false, ltb-true, ltb-false, leb-true, leb-false, eq-eqb, ne-eqb}
+use Rattle.table_format.specs.Table.{Arc}
+use Rattle.table_format.specs.Rules.{arcsKeep}
+use Rattle.table_format.specs.Index.{below, tabulate, firstIndex}
+use Rattle.table_format.specs.Loaded.{arcsIn}
+use Rattle.table_format.proofs.Rules.{ArcBounded, arcs-inside}
+use Rattle.table_format.proofs.All.{All, all-at}
+use Rattle.table_format.proofs.Arcs.{at-equal, noArc, getD-arcs, length-arcs}
+
+-- how many arcs have the source just below n
+abbrev pub ending : List Arc → ℕ → ℕ
+ending [] n = 0
+ending (a ∷ rest) n = cond (eqb (a .source + 1) n) (suc (ending rest n)) (ending rest n)
+
+pub ending-same : (arcs : List Arc) (a : Arc) → ending (arcs ++ (a ∷ [])) (a .source + 1) ≡ ending arcs (a .source + 1) + 1
+ending-same [] a = ap (λ (b : Bool). cond b 1 0) (eq-eqb (a .source + 1) (a .source + 1) refl)
+ending-same (b ∷ rest) a = go (eqb (b .source + 1) (a .source + 1)) (ending-same rest a)
+  where
+    go : (x : Bool) → ending (rest ++ (a ∷ [])) (a .source + 1) ≡ ending rest (a .source + 1) + 1
+        → cond x (suc (ending (rest ++ (a ∷ [])) (a .source + 1))) (ending (rest ++ (a ∷ [])) (a .source + 1)) ≡ cond x (suc (ending rest (a .source + 1))) (ending rest (a .source + 1)) + 1
+    go true e = omega arith
+    go false e = e
+
+pub ending-other : (arcs : List Arc) (a : Arc) (n : ℕ) → (a .source + 1 ≡ n → ⊥) → ending (arcs ++ (a ∷ [])) n ≡ ending arcs n
+ending-other [] a n h = ap (λ (b : Bool). cond b 1 0) (ne-eqb (a .source + 1) n h)
+ending-other (b ∷ rest) a n h = ap (λ (k : ℕ). cond (eqb (b .source + 1) n) (suc k) k) (ending-other rest a n h)
+
+pub ending-few : (arcs : List Arc) (n : ℕ) → ending arcs n ≤ length arcs
+ending-few [] n = omega arith
+ending-few (a ∷ rest) n = go (eqb (a .source + 1) n) (ending-few rest n)
+  where
+    go : (x : Bool) → ending rest n ≤ length rest → cond x (suc (ending rest n)) (ending rest n) ≤ suc (length rest)
+    go true e = omega arith
+    go false e = omega arith
+
+pub below-few : (arcs : List Arc) (n : ℕ) → below n arcs ≤ length arcs
+below-few [] n = omega arith
+below-few (a ∷ rest) n = go (ltb (a .source) n) (below-few rest n)
+  where
+    go : (x : Bool) → below n rest ≤ length rest → cond x (suc (below n rest)) (below n rest) ≤ suc (length rest)
+    go true e = omega arith
+    go false e = omega arith
+
+pub below-zero : (arcs : List Arc) → below 0 arcs ≡ 0
+below-zero [] = refl
+below-zero (a ∷ rest) = go (ltb (a .source) 0) refl (below-zero rest)
+  where
+    go : (x : Bool) → ltb (a .source) 0 ≡ x → below 0 rest ≡ 0 → cond x (suc (below 0 rest)) (below 0 rest) ≡ 0
+    go true e f = absurd (omega (arith, ltb-true (a .source) 0 e))
+    go false e f = f
+
+-- one state more
+pub below-more : (arcs : List Arc) (n : ℕ) → below (n + 1) arcs ≡ ending arcs (n + 1) + below n arcs
+below-more [] n = refl
+below-more (a ∷ rest) n = go (ltb (a .source) (n + 1)) (eqb (a .source + 1) (n + 1)) (ltb (a .source) n) refl refl refl (below-more rest n)
+  where
+    go : (x y z : Bool) → ltb (a .source) (n + 1) ≡ x → eqb (a .source + 1) (n + 1) ≡ y → ltb (a .source) n ≡ z → below (n + 1) rest ≡ ending rest (n + 1) + below n rest
+        → cond x (suc (below (n + 1) rest)) (below (n + 1) rest) ≡ cond y (suc (ending rest (n + 1))) (ending rest (n + 1)) + cond z (suc (below n rest)) (below n rest)
+    go true true true e f g h = absurd (omega (arith, eqb-true (a .source + 1) (n + 1) f, ltb-true (a .source) n g))
+    go true true false e f g h = omega arith
+    go true false true e f g h = omega arith
+    go true false false e f g h = absurd (eqb-false (a .source + 1) (n + 1) f (omega (arith, ltb-true (a .source) (n + 1) e, ltb-false (a .source) n g)))
+    go false true z e f g h = absurd (omega (arith, eqb-true (a .source + 1) (n + 1) f, ltb-false (a .source) (n + 1) e))
+    go false false true e f g h = absurd (omega (arith, ltb-true (a .source) n g, ltb-false (a .source) (n + 1) e))
+    go false false false e f g h = h
+
+-- the cells of the index
+
+length-tabulate : (f : ℕ → ℕ) (i n : ℕ) → length (tabulate f i n) ≡ n
+length-tabulate f i zero = refl
+length-tabulate f i (suc n) = ap suc (length-tabulate f (suc i) n)
+
+getD-tabulate : (f : ℕ → ℕ) (i n k : ℕ) → k < n → getD (tabulate f i n) k 0 ≡ f (i + k)
+getD-tabulate f i zero k h = absurd (omega arith)
+getD-tabulate f i (suc n) zero h = at-equal f i (i + 0) (omega arith)
+getD-tabulate f i (suc n) (suc k) h = getD-tabulate f (suc i) n k (omega arith) ∙ at-equal f (suc i + k) (i + suc k) (omega arith)
+
+module _ (states : ℕ) (arcs : List Arc) where
+  abbrev head : List ℕ
+  head = tabulate (λ q. below q arcs) 0 (states + 1)
+
+  pub length-index : states ≤ 256 → length (firstIndex states arcs) ≡ 257
+  unfolding firstIndex
+  length-index h =
+      length-append head (replicate (256 - states) 0) ∙ omega (arith, length-tabulate (λ q. below q arcs) 0 (states + 1), length-replicate {A = ℕ} (256 - states) 0)
+
+  pub index-at : (q : ℕ) → q ≤ states → getD (firstIndex states arcs) q 0 ≡ below q arcs
+  unfolding firstIndex
+  index-at q h =
+      List·getD-append head (replicate (256 - states) 0) 0 q (omega (arith, length-tabulate (λ q. below q arcs) 0 (states + 1)))
+      ∙ getD-tabulate (λ q. below q arcs) 0 (states + 1) q (omega arith) ∙ at-equal (λ n. below n arcs) (0 + q) q (omega arith)
+
+  index-above : (q : ℕ) → states < q → q < 257 → getD (firstIndex states arcs) q 0 ≡ 0
+  unfolding firstIndex
+  index-above q h g =
+      at-equal (λ n. getD (head ++ replicate (256 - states) 0) n 0) q (length head + (q - (states + 1))) (omega (arith, length-tabulate (λ q. below q arcs) 0 (states + 1)))
+      ∙ getD-append-add head (replicate (256 - states) 0) (q - (states + 1)) 0 ∙ getD-replicate (256 - states) (q - (states + 1)) 0 0 (omega arith)
+
+-- no arc that keeps the rules ends above the states
+ending-none : (states : ℕ) (arcs : List Arc) (n : ℕ) → All (ArcBounded states) arcs → states < n → ending arcs n ≡ 0
+ending-none states [] n A h = refl
+ending-none states (a ∷ rest) n A h = go (eqb (a .source + 1) n) refl (ending-none states rest n (A .1) h)
+  where
+    go : (x : Bool) → eqb (a .source + 1) n ≡ x → ending rest n ≡ 0 → cond x (suc (ending rest n)) (ending rest n) ≡ 0
+    go true e f = absurd (omega (arith, eqb-true (a .source + 1) n e, A .0 .source))
+    go false e f = f
+
+-- The two loops: what the cells hold.
+
+abbrev pub Counts : List Arc → List ℕ → Type 0
+Counts arcs first = (length first ≡ 257) × ((n : ℕ) → n < 257 → getD first n 0 ≡ ending arcs n)
+
+pub record Sums (arcs : List Arc) (q : ℕ) (first : List ℕ) : Type 0 where
+  pub long : length first ≡ 257
+  pub summed : (n : ℕ) → n ≤ q → getD first n 0 ≡ below n arcs
+  pub counted : (n : ℕ) → q < n → n < 257 → getD first n 0 ≡ ending arcs n
+
+pub counts-none : Counts [] (replicate 257 0)
+counts-none = (length-replicate {A = ℕ} 257 0, λ n h. getD-replicate 257 n 0 0 h)
+
+-- an arc that keeps the rules starts at a state
+pub source-inside : (states : ℕ) (cells : List ℕ) (m at : ℕ) → at ≡ 4 * (at / 4) → at / 4 < m → arcsKeep states (arcsIn m cells) ≡ true → getD cells at 0 < states
+source-inside states cells m at e h K =
+    omega (arith, at-equal (λ n. getD cells n 0) (4 * (at / 4)) at (omega arith), ap (λ (a : Arc). a .source) (getD-arcs m cells (at / 4) noArc h), all-at (ArcBounded states) (arcsIn m cells) (at / 4) noArc (arcs-inside states (arcsIn m cells) K) (omega (arith, length-arcs m cells)) .source)
+
+-- one arc is counted
+pub counts-more : (arcs : List Arc) (a : Arc) (first : List ℕ) → a .source < 256 → Counts arcs first
+    → Counts (arcs ++ (a ∷ [])) (set first (a .source + 1) (getD first (a .source + 1) 0 + 1))
+counts-more arcs a first h C = (length-set first (a .source + 1) (getD first (a .source + 1) 0 + 1) ∙ C .0, cell)
+  where
+    cell : (n : ℕ) → n < 257 → getD (set first (a .source + 1) (getD first (a .source + 1) 0 + 1)) n 0 ≡ ending (arcs ++ (a ∷ [])) n
+    cell n g = go (eqb (a .source + 1) n) refl
+      where
+        go : (b : Bool) → eqb (a .source + 1) n ≡ b → getD (set first (a .source + 1) (getD first (a .source + 1) 0 + 1)) n 0 ≡ ending (arcs ++ (a ∷ [])) n
+        go true e =
+            let q : a .source + 1 ≡ n = eqb-true (a .source + 1) n e in
+            at-equal (λ m. getD (set first (a .source + 1) (getD first (a .source + 1) 0 + 1)) m 0) n (a .source + 1) (sym q)
+            ∙ getD-set-same first (a .source + 1) (getD first (a .source + 1) 0 + 1) 0 (omega (arith, C .0))
+            ∙ ap (λ (m : ℕ). m + 1) (C .1 (a .source + 1) (omega arith)) ∙ sym (ending-same arcs a) ∙ at-equal (ending (arcs ++ (a ∷ []))) (a .source + 1) n q
+        go false e =
+            let q : a .source + 1 ≡ n → ⊥ = eqb-false (a .source + 1) n e in
+            getD-set-other first (a .source + 1) n (getD first (a .source + 1) 0 + 1) 0 (λ z. q (sym z)) ∙ C .1 n g ∙ sym (ending-other arcs a n q)
+
+-- nothing is added up yet
+pub sums-none : (arcs : List Arc) (first : List ℕ) → Counts arcs first → Sums arcs 0 first
+sums-none arcs first C =
+    record {
+      long = C .0;
+      summed = λ n h. at-equal (λ m. getD first m 0) n 0 (omega arith) ∙ C .1 0 (omega arith) ∙ none arcs ∙ sym (below-zero arcs) ∙ at-equal (λ m. below m arcs) 0 n (omega arith);
+      counted = λ n h g. C .1 n g;
+    }
+  where
+    none : (l : List Arc) → ending l 0 ≡ 0
+    none [] = refl
+    none (a ∷ rest) = ap (λ (b : Bool). cond b (suc (ending rest 0)) (ending rest 0)) (ne-eqb (a .source + 1) 0 (λ z. omega arith)) ∙ none rest
+
+-- one state more is added up
+pub sums-more : (arcs : List Arc) (q : ℕ) (first : List ℕ) → q < 256 → Sums arcs q first → Sums arcs (q + 1) (set first (q + 1) (getD first (q + 1) 0 + getD first q 0))
+sums-more arcs q first h S =
+    record { long = length-set first (q + 1) (getD first (q + 1) 0 + getD first q 0) ∙ S .long; summed = summed; counted = counted }
+  where
+    other : (n : ℕ) → (n ≡ q + 1 → ⊥) → getD (set first (q + 1) (getD first (q + 1) 0 + getD first q 0)) n 0 ≡ getD first n 0
+    other n e = getD-set-other first (q + 1) n (getD first (q + 1) 0 + getD first q 0) 0 e
+
+    new : getD (set first (q + 1) (getD first (q + 1) 0 + getD first q 0)) (q + 1) 0 ≡ below (q + 1) arcs
+    new =
+        getD-set-same first (q + 1) (getD first (q + 1) 0 + getD first q 0) 0 (omega (arith, S .long))
+        ∙ omega (arith, S .counted (q + 1) (omega arith) (omega arith), S .summed q (omega arith), below-more arcs q)
+
+    summed : (n : ℕ) → n ≤ q + 1 → getD (set first (q + 1) (getD first (q + 1) 0 + getD first q 0)) n 0 ≡ below n arcs
+    summed n g = go (leb n q) refl
+      where
+        go : (b : Bool) → leb n q ≡ b → getD (set first (q + 1) (getD first (q + 1) 0 + getD first q 0)) n 0 ≡ below n arcs
+        go true e = let k : n ≤ q = leb-true n q e in other n (λ z. omega arith) ∙ S .summed n k
+        go false e =
+            let k : n ≡ q + 1 = omega (arith, leb-false n q e) in
+            at-equal (λ m. getD (set first (q + 1) (getD first (q + 1) 0 + getD first q 0)) m 0) n (q + 1) k ∙ new ∙ at-equal (λ m. below m arcs) (q + 1) n (sym k)
+
+    counted : (n : ℕ) → q + 1 < n → n < 257 → getD (set first (q + 1) (getD first (q + 1) 0 + getD first q 0)) n 0 ≡ ending arcs n
+    counted n g k = other n (λ z. omega arith) ∙ S .counted n (omega arith) k
+
+-- all are added up: the index
+pub sums-all : (states : ℕ) (arcs : List Arc) (first : List ℕ) → states ≤ 256 → arcsKeep states arcs ≡ true → Sums arcs states first → first ≡ firstIndex states arcs
+sums-all states arcs first h K S = ext-getD 0 first (firstIndex states arcs) (S .long ∙ sym (length-index states arcs h)) cell
+  where
+    cell : (n : ℕ) → n < length first → getD first n 0 ≡ getD (firstIndex states arcs) n 0
+    cell n g = go (leb n states) refl
+      where
+        go : (b : Bool) → leb n states ≡ b → getD first n 0 ≡ getD (firstIndex states arcs) n 0
+        go true e = let k : n ≤ states = leb-true n states e in S .summed n k ∙ sym (index-at states arcs n k)
+        go false e =
+            let k : states < n = leb-false n states e in
+            let m : n < 257 = omega (arith, S .long) in
+            S .counted n k m ∙ ending-none states arcs n (arcs-inside states arcs K) k ∙ sym (index-above states arcs n k m)

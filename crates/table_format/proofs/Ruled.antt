@@ -1,0 +1,182 @@
+-- A table keeps the rules exactly where it is as document 01 says.
+use Prim.Native.Nat.{ℕ, zero, suc, _≤_, _<_}
+use native.Mathlib.Omega.{arith}
+use mathlib.Core.Path.{_≡_, refl, sym, ap, _∙_}
+use mathlib.Core.Bool.{Bool, true, false, not, _&&_}
+use mathlib.Core.Logic.{_↔_}
+use mathlib.Core.List.{List, [], _∷_, _++_, List·Memᴰ}
+use lib.ListN.{length, getD, take}
+use lib.Seq.{getD-take, length-take-le}
+use lib.Dec.{eqb, leb, ltb}
+use borrow.Author.Tests.{leb-true, ltb-true, ltb-false, eqb-true, le-leb, lt-ltb, eq-eqb, not-true}
+use Rattle.table_format.specs.Table.{Arc, Table, countsOf}
+use Rattle.table_format.specs.Rules.{any, lastIs, each, countsHold, stateHolds, letterHolds, initialIsNew, terminalRises, sourceHolds, sameArc, arcIsNew, keepsRules}
+pub use Rattle.table_format.specs.Ruled.{Differ, Rise, AtLeast, Ruled}
+use Rattle.table_format.proofs.Tests.{and-left, and-right, and-both, and-four}
+use Rattle.table_format.proofs.All.{all-mem, at-mem}
+use Rattle.table_format.proofs.Each.{any-none, any-some, last-snoc, last-take, each-at, each-last, each-from, each-weaken}
+use Rattle.table_format.proofs.Rules.{initialPasses, terminalPasses, arcPasses, initial-clear, terminal-clear, arc-clear, Keeps, keeps-parts, Bounded, table-bounded, ArcBounded, initials-below, terminals-below, arcs-bounded, arcs-rise}
+
+-- Elements that are none of those before them differ, and the other way round.
+
+module _ {A : Type 0} (same : A → A → Bool) where
+  module _ (test : List A → A → Bool) (same-refl : (x : A) → same x x ≡ true) (new : (before : List A) (x : A) → test before x ≡ true → any (λ y. same y x) before ≡ false) where
+    apart : (xs : List A) → each test [] xs ≡ true → (d : A) (i j : ℕ) → i < j → j < length xs → getD xs i d ≡ getD xs j d → ⊥
+    apart xs e d i j h k s =
+        let p : any (λ y. same y (getD xs j d)) (take j xs) ≡ false = new (take j xs) (getD xs j d) (each-at test d xs e j k) in
+        let q : any (λ y. same y (getD xs j d)) (take j xs) ≡ true =
+        any-some (λ y. same y (getD xs j d)) d (take j xs) i (omega (arith, length-take-le j xs (omega arith)))
+        (ap (λ (x : A). same x (getD xs j d)) (getD-take j xs i d h ∙ s) ∙ same-refl (getD xs j d)) in
+        let z : _≡_ {A = ℕ} 0 1 = cc in
+        omega arith
+
+    each-differ : (xs : List A) → each test [] xs ≡ true → Differ xs
+    each-differ xs e d i j h k s = go (ltb i j) (ltb j i) refl refl
+      where
+        go : (a b : Bool) → ltb i j ≡ a → ltb j i ≡ b → i ≡ j
+        go true b p q = absurd (apart xs e d i j (ltb-true _ _ p) k s)
+        go false true p q = absurd (apart xs e d j i (ltb-true _ _ q) h (sym s))
+        go false false p q = omega (arith, ltb-false i j p, ltb-false j i q)
+
+  differ-new : ((x y : A) → same x y ≡ true → x ≡ y) → (xs : List A) → Differ xs → (d : A) (k : ℕ) → k < length xs
+      → any (λ y. same y (getD xs k d)) (take k xs) ≡ false
+  differ-new law xs D d k h = any-none (λ y. same y (getD xs k d)) d (take k xs) (λ j g. go j g (same (getD (take k xs) j d) (getD xs k d)) refl)
+    where
+      go : (j : ℕ) → j < length (take k xs) → (b : Bool) → same (getD (take k xs) j d) (getD xs k d) ≡ b → b ≡ false
+      go j g true e =
+          let below : j < k = omega (arith, length-take-le k xs (omega arith)) in
+          let one : j ≡ k = D d j k (omega arith) h (sym (getD-take k xs j d below) ∙ law _ _ e) in
+          absurd (omega arith)
+      go j g false e = refl
+
+-- what holds of each element and the next holds of the last one before
+last-from : {A : Type 0} (test : A → A → Bool) (d : A) (xs : List A) → ((i : ℕ) → suc i < length xs → test (getD xs i d) (getD xs (suc i) d) ≡ true)
+    → (k : ℕ) → k < length xs → lastIs (λ y. test y (getD xs k d)) (take k xs) ≡ true
+last-from test d xs f zero h = refl
+last-from test d xs f (suc i) h = last-take (λ y. test y (getD xs (suc i) d)) d xs i (omega arith) ∙ f i h
+
+-- What keeps the rules is new, and sources rise from the first on.
+
+initial-new : (states : ℕ) (before : List ℕ) (s : ℕ) → initialPasses states before s ≡ true → any (λ r. eqb r s) before ≡ false
+initial-new states before s e = not-true _ (and-right (stateHolds states s) (initialIsNew before s) (sym (initial-clear states before s) ∙ e))
+
+arc-new : (states : ℕ) (before : List Arc) (a : Arc) → arcPasses states before a ≡ true → any (λ b. sameArc b a) before ≡ false
+arc-new states before a e =
+    not-true _
+    (and-four (stateHolds states (a .source) && stateHolds states (a .target)) (letterHolds (a .upper) && letterHolds (a .lower)) (sourceHolds before a) (arcIsNew before a)
+    (sym (arc-clear states before a) ∙ e) .3)
+
+same-arc-refl : (a : Arc) → sameArc a a ≡ true
+same-arc-refl a = rw (eq-eqb (a .source) (a .source) refl, eq-eqb (a .upper) (a .upper) refl, eq-eqb (a .lower) (a .lower) refl, eq-eqb (a .target) (a .target) refl)
+
+terminals-up : (states : ℕ) (xs : List ℕ) → each (terminalPasses states) [] xs ≡ true → each terminalRises [] xs ≡ true
+terminals-up states xs e =
+    each-weaken (terminalPasses states) terminalRises
+    (λ before s k. and-right (stateHolds states s) (terminalRises before s) (sym (terminal-clear states before s) ∙ k)) [] xs e
+
+rises : (m : ℕ) (before xs : List Arc) → ((a : Arc) → sourceHolds before a ≡ true → m ≤ a .source) → each sourceHolds before xs ≡ true → AtLeast m xs
+unfolding each
+rises m before [] h e = tt
+rises m before (a ∷ bs) h e =
+    (h a (and-left (sourceHolds before a) _ e), rises (a .source) (before ++ (a ∷ [])) bs last (and-right (sourceHolds before a) _ e))
+  where
+    last : (c : Arc) → sourceHolds (before ++ (a ∷ [])) c ≡ true → a .source ≤ c .source
+    last c k = leb-true _ _ (sym (last-snoc (λ b. leb (b .source) (c .source)) before a) ∙ k)
+
+pub ruled : (t : Table) → keepsRules t ≡ true → Ruled t
+ruled t e =
+    record {
+      some-state = b .some-state;
+      few-states = b .states;
+      some-initial = b .some-initial;
+      few-initials = b .initials;
+      few-terminals = b .terminals;
+      few-arcs = b .arcs;
+      initial-in = all-mem (λ s. s < t .states) (t .initials) (initials-below t e);
+      terminal-in = all-mem (λ s. s < t .states) (t .terminals) (terminals-below t e);
+      terminals-rise = λ i h. ltb-true _ _ (each-last ltb 0 (t .terminals) (terminals-up (t .states) (t .terminals) (k .terminals)) i h);
+      source-in = λ a m. arc a m .source;
+      target-in = λ a m. arc a m .target;
+      upper-in = λ a m. arc a m .upper;
+      lower-in = λ a m. arc a m .lower;
+      rising = rises 0 [] (t .arcs) (λ a h. omega arith) (arcs-rise (t .states) (t .arcs) (k .arcs));
+      arcs-differ = each-differ sameArc _ same-arc-refl (arc-new (t .states)) (t .arcs) (k .arcs);
+      initials-differ = each-differ eqb _ (λ s. eq-eqb s s refl) (initial-new (t .states)) (t .initials) (k .initials);
+    }
+  where
+    b : Bounded (countsOf t)
+    b = table-bounded t e
+
+    k : Keeps t
+    k = keeps-parts t .0 e
+
+    arc : (a : Arc) → List·Memᴰ a (t .arcs) → ArcBounded (t .states) a
+    arc = all-mem (ArcBounded (t .states)) (t .arcs) (arcs-bounded t e)
+
+-- What is as document 01 says keeps the rules.
+
+same-arc-eq : (a b : Arc) → sameArc a b ≡ true → a ≡ b
+same-arc-eq a b e =
+    let h = and-four (eqb (a .source) (b .source)) (eqb (a .upper) (b .upper)) (eqb (a .lower) (b .lower)) (eqb (a .target) (b .target)) e in
+    λ i.
+    record {
+      source = eqb-true (a .source) (b .source) (h .0) i;
+      upper = eqb-true (a .upper) (b .upper) (h .1) i;
+      lower = eqb-true (a .lower) (b .lower) (h .2) i;
+      target = eqb-true (a .target) (b .target) (h .3) i;
+    }
+
+source-next : (d : Arc) (m : ℕ) (xs : List Arc) → AtLeast m xs → (i : ℕ) → suc i < length xs → getD xs i d .source ≤ getD xs (suc i) d .source
+source-next d m [] A i h = absurd (omega arith)
+source-next d m (a ∷ []) A i h = absurd (omega arith)
+source-next d m (a ∷ b ∷ bs) A zero h = A .1 .0
+source-next d m (a ∷ b ∷ bs) A (suc i) h = source-next d (a .source) (b ∷ bs) (A .1) i (omega arith)
+
+module _ (t : Table) (R : Ruled t) where
+  counts-kept : countsHold (countsOf t) ≡ true
+  unfolding countsHold
+  counts-kept =
+      and-both (le-leb _ _ (R .some-state))
+      (and-both (le-leb _ _ (R .few-states))
+      (and-both (le-leb _ _ (R .some-initial))
+      (and-both (le-leb _ _ (R .few-initials)) (and-both (le-leb _ _ (R .few-terminals)) (le-leb _ _ (R .few-arcs))))))
+
+  initials-kept : each (initialPasses (t .states)) [] (t .initials) ≡ true
+  initials-kept =
+      each-from (initialPasses (t .states)) 0 (t .initials)
+      (λ k h.
+      let s = getD (t .initials) k 0 in
+      initial-clear (t .states) (take k (t .initials)) s
+      ∙ and-both (lt-ltb _ _ (R .initial-in s (at-mem (t .initials) k 0 h))) (ap not (differ-new eqb eqb-true (t .initials) (R .initials-differ) 0 k h)))
+
+  terminals-kept : each (terminalPasses (t .states)) [] (t .terminals) ≡ true
+  terminals-kept =
+      each-from (terminalPasses (t .states)) 0 (t .terminals)
+      (λ k h.
+      let s = getD (t .terminals) k 0 in
+      terminal-clear (t .states) (take k (t .terminals)) s
+      ∙ and-both (lt-ltb _ _ (R .terminal-in s (at-mem (t .terminals) k 0 h)))
+      (last-from ltb 0 (t .terminals) (λ i g. lt-ltb _ _ (R .terminals-rise i g)) k h))
+
+  -- any arc, where none is listed
+  abbrev none : Arc
+  none = record { source = 0; upper = 0; lower = 0; target = 0 }
+
+  arcs-kept : each (arcPasses (t .states)) [] (t .arcs) ≡ true
+  arcs-kept =
+      each-from (arcPasses (t .states)) none (t .arcs)
+      (λ k h.
+      let a = getD (t .arcs) k none in
+      let m = at-mem (t .arcs) k none h in
+      arc-clear (t .states) (take k (t .arcs)) a
+      ∙ and-both (and-both (lt-ltb _ _ (R .source-in a m)) (lt-ltb _ _ (R .target-in a m)))
+      (and-both (and-both (le-leb _ _ (R .upper-in a m)) (le-leb _ _ (R .lower-in a m)))
+      (and-both (last-from (λ b c. leb (b .source) (c .source)) none (t .arcs) (λ i g. le-leb _ _ (source-next none 0 (t .arcs) (R .rising) i g)) k h)
+      (ap not (differ-new sameArc same-arc-eq (t .arcs) (R .arcs-differ) none k h)))))
+
+pub kept : (t : Table) → Ruled t → keepsRules t ≡ true
+kept t R = keeps-parts t .1 (record { counts = counts-kept t R; initials = initials-kept t R; terminals = terminals-kept t R; arcs = arcs-kept t R })
+
+-- Both together.
+pub rules-are : (t : Table) → (keepsRules t ≡ true) ↔ Ruled t
+rules-are t = (ruled t, kept t)

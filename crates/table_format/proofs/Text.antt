@@ -1,0 +1,165 @@
+-- Numbers of two bytes, the bytes of each kind of line and what they say, and the length of a table's text.
+use Prim.Native.Nat.{ℕ, zero, suc, _+_, _*_, _/_, _%_, _<_}
+use native.Mathlib.Omega.{arith}
+use mathlib.Core.Path.{_≡_, refl, sym, ap, ap₂, _∙_}
+use mathlib.Core.Bool.{true, and-eq-true-iff}
+use mathlib.Core.List.{List, [], _∷_, _++_, map, append-assoc, append-nil}
+use lib.ListN.{length, getD, length-append}
+use borrow.Author.Tests.{eqb-true}
+use Rattle.table_format.specs.Table.{Arc, Table, Counts, countsOf}
+use Rattle.table_format.specs.Rules.{keepsRules}
+use Rattle.table_format.specs.Index.{tabulate}
+use Rattle.table_format.specs.Line.{lineText}
+use Rattle.table_format.specs.Text.{number, headerBytes, initialBytes, terminalBytes, arcBytes, endBytes, linesBefore, itemLines, joinLines, textOf}
+use Rattle.table_format.specs.Parse.{hasForm, isHeader, Kind, initial, terminal, arc, end, numberAt, countsFrom, arcFrom, codeOf, widthOf, isOf}
+use Rattle.table_format.proofs.All.{All, all-append, all-map, all-getD}
+use Rattle.table_format.proofs.Rules.{Bounded, ArcBounded, table-bounded, initials-below, terminals-below, arcs-bounded}
+use Rattle.table_format.proofs.Line.{IsByte, Bytes, length-chars}
+
+-- Numbers of two bytes.
+
+pub number-value : (n : ℕ) → n / 256 * 256 + n % 256 ≡ n
+number-value n = omega arith
+
+pub number-exact : (h l : ℕ) → l < 256 → number (h * 256 + l) ≡ h ∷ l ∷ []
+number-exact h l k = ap₂ (λ (x y : ℕ). x ∷ y ∷ []) q r
+  where
+    q : (h * 256 + l) / 256 ≡ h
+    q = omega arith
+
+    r : (h * 256 + l) % 256 ≡ l
+    r = omega arith
+
+-- A list is the elements that are looked at.
+
+tabulate-shift : (f : ℕ → ℕ) (i n : ℕ) → tabulate f (suc i) n ≡ tabulate (λ j. f (suc j)) i n
+tabulate-shift f i zero = refl
+tabulate-shift f i (suc n) = ap (λ (l : List ℕ). f (suc i) ∷ l) (tabulate-shift f (suc i) n)
+
+pub tabulated : (b : List ℕ) → b ≡ tabulate (λ i. getD b i 0) 0 (length b)
+tabulated [] = refl
+tabulated (x ∷ b) = ap (λ (l : List ℕ). x ∷ l) (tabulated b ∙ sym (tabulate-shift (λ i. getD (x ∷ b) i 0) 0 (length b)))
+
+-- What the bytes of a line say; bytes of a kind are those of what they say.
+
+-- a line has its kind's first byte and length
+form-parts : (code width : ℕ) (b : List ℕ) → hasForm code width b ≡ true → (getD b 0 0 ≡ code) × (b ≡ tabulate (λ i. getD b i 0) 0 width)
+form-parts code width b e =
+    let h = and-eq-true-iff _ _ .0 e in
+    (eqb-true _ _ (h .0), tabulated b ∙ ap (tabulate (λ i. getD b i 0) 0) (eqb-true (length b) width (h .1)))
+
+pub header-says : (c : Counts) → countsFrom (headerBytes c) ≡ c
+header-says c =
+    λ i.
+    record {
+      states = number-value (c .states) i;
+      initials = number-value (c .initials) i;
+      terminals = number-value (c .terminals) i;
+      arcs = number-value (c .arcs) i;
+    }
+
+pub arc-says : (a : Arc) → arcFrom (arcBytes a) ≡ a
+arc-says a = λ i. record { source = number-value (a .source) i; upper = a .upper; lower = a .lower; target = number-value (a .target) i }
+
+module _ (b : List ℕ) (small : All IsByte b) where
+  number-here : (i : ℕ) → number (numberAt b i) ≡ getD b i 0 ∷ getD b (i + 1) 0 ∷ []
+  number-here i = number-exact (getD b i 0) (getD b (i + 1) 0) (all-getD IsByte b (i + 1) 0 (omega arith) small)
+
+  pub header-only : isHeader b ≡ true → b ≡ headerBytes (countsFrom b)
+  header-only e =
+      let p = form-parts 1 9 b e in
+      p .1 ∙ sym (λ i. sym (p .0) i ∷ (number-here 1 i ++ (number-here 3 i ++ (number-here 5 i ++ number-here 7 i))))
+
+  pub arc-only : isOf arc b ≡ true → b ≡ arcBytes (arcFrom b)
+  arc-only e =
+      let p = form-parts 4 7 b e in
+      p .1 ∙ sym (λ i. sym (p .0) i ∷ (number-here 1 i ++ (getD b 3 0 ∷ getD b 4 0 ∷ number-here 5 i)))
+
+  -- a line of one number
+  short-only : (k : Kind) → widthOf k ≡ 3 → isOf k b ≡ true → b ≡ codeOf k ∷ number (numberAt b 1)
+  short-only k w e =
+      let p = form-parts (codeOf k) (widthOf k) b e in
+      p .1 ∙ ap (tabulate (λ i. getD b i 0) 0) w ∙ sym (λ i. sym (p .0) i ∷ number-here 1 i)
+
+  pub initial-only : isOf initial b ≡ true → b ≡ initialBytes (numberAt b 1)
+  initial-only = short-only initial refl
+
+  pub terminal-only : isOf terminal b ≡ true → b ≡ terminalBytes (numberAt b 1)
+  terminal-only = short-only terminal refl
+
+  pub end-only : isOf end b ≡ true → b ≡ endBytes (numberAt b 1)
+  end-only = short-only end refl
+
+-- The lines of a table that keeps the rules say bytes.
+
+module _ (t : Table) (keeps : keepsRules t ≡ true) where
+  bounds : Bounded (countsOf t)
+  bounds = table-bounded t keeps
+
+  header-bytes : Bytes (headerBytes (countsOf t))
+  header-bytes = let b = bounds in record { some = refl; small = omega arith }
+
+  -- lines of one state each
+  states-bytes : (f : ℕ → List ℕ) → ((s : ℕ) → s < 256 → Bytes (f s)) → (xs : List ℕ) → All (λ s. s < t .states) xs → All Bytes (map f xs)
+  states-bytes f law xs p = let b = bounds in all-map (λ (s : ℕ). s < t .states) Bytes f (λ s h. law s (omega arith)) xs p
+
+  initials-bytes : All Bytes (map initialBytes (t .initials))
+  initials-bytes = states-bytes initialBytes (λ s h. record { some = refl; small = omega arith }) (t .initials) (initials-below t keeps)
+
+  terminals-bytes : All Bytes (map terminalBytes (t .terminals))
+  terminals-bytes = states-bytes terminalBytes (λ s h. record { some = refl; small = omega arith }) (t .terminals) (terminals-below t keeps)
+
+  arcs-bytes : All Bytes (map arcBytes (t .arcs))
+  arcs-bytes =
+      let b = bounds in
+      all-map (ArcBounded (t .states)) Bytes arcBytes (λ a h. record { some = refl; small = omega arith }) (t .arcs) (arcs-bounded t keeps)
+
+  pub lines-below : linesBefore t < 65536
+  lines-below = let b = bounds in omega arith
+
+  end-bytes : Bytes (endBytes (linesBefore t))
+  end-bytes = let h : linesBefore t < 65536 = lines-below in record { some = refl; small = omega arith }
+
+  pub lines-bytes : All Bytes (headerBytes (countsOf t) ∷ itemLines t)
+  unfolding itemLines
+  lines-bytes = (
+    header-bytes,
+    all-append Bytes (map initialBytes (t .initials)) _ initials-bytes
+        (all-append Bytes (map terminalBytes (t .terminals)) _ terminals-bytes
+        (all-append Bytes (map arcBytes (t .arcs)) (endBytes (linesBefore t) ∷ []) arcs-bytes (end-bytes, tt))),
+  )
+
+-- The parts of a table's text, and its length.
+
+join-append : (bs cs : List (List ℕ)) → joinLines (bs ++ cs) ≡ joinLines bs ++ joinLines cs
+unfolding joinLines
+join-append [] cs = refl
+join-append (b ∷ bs) cs = ap (λ (l : List ℕ). lineText b ++ l) (join-append bs cs) ∙ sym (append-assoc (lineText b) (joinLines bs) (joinLines cs))
+
+pub text-parts : (t : Table)
+    → textOf t
+    ≡ lineText (headerBytes (countsOf t))
+    ++ (joinLines (map initialBytes (t .initials))
+    ++ (joinLines (map terminalBytes (t .terminals)) ++ (joinLines (map arcBytes (t .arcs)) ++ lineText (endBytes (linesBefore t)))))
+unfolding textOf itemLines joinLines
+text-parts t =
+    ap (λ (l : List ℕ). lineText (headerBytes (countsOf t)) ++ l)
+    (join-append (map initialBytes (t .initials)) _
+    ∙ ap (λ (l : List ℕ). joinLines (map initialBytes (t .initials)) ++ l)
+    (join-append (map terminalBytes (t .terminals)) _
+    ∙ ap (λ (l : List ℕ). joinLines (map terminalBytes (t .terminals)) ++ l)
+    (join-append (map arcBytes (t .arcs)) _
+    ∙ ap (λ (l : List ℕ). joinLines (map arcBytes (t .arcs)) ++ l) (append-nil (lineText (endBytes (linesBefore t)))))))
+
+pub length-lines : {A : Type 0} (f : A → List ℕ) (w : ℕ) → ((x : A) → length (f x) ≡ w) → (xs : List A)
+    → length (joinLines (map f xs)) ≡ (2 * w + 1) * length xs
+unfolding joinLines
+length-lines f w law [] = omega arith
+length-lines f w law (x ∷ xs) = simp (length-append, length-chars, law, length-lines f w law xs) (omega arith)
+
+pub length-text : (t : Table) → length (textOf t) ≡ 19 + 7 * length (t .initials) + 7 * length (t .terminals) + 15 * length (t .arcs) + 7
+length-text t =
+    let is : length (joinLines (map initialBytes (t .initials))) ≡ 7 * length (t .initials) = length-lines initialBytes 3 (λ s. refl) (t .initials) in
+    let ts : length (joinLines (map terminalBytes (t .terminals))) ≡ 7 * length (t .terminals) = length-lines terminalBytes 3 (λ s. refl) (t .terminals) in
+    let rs : length (joinLines (map arcBytes (t .arcs))) ≡ 15 * length (t .arcs) = length-lines arcBytes 7 (λ a. refl) (t .arcs) in
+    ap length (text-parts t) ∙ simp (length-append, length-chars, is, ts, rs) (omega arith)

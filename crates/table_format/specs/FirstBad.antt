@@ -1,0 +1,37 @@
+-- Document 01: "the first bad line wins, within it the lowest number; a missing line counts as standing at the end". The same as in
+-- Parse, as a relation between lines and a refusal.
+use Prim.Native.Nat.{_≤_}
+use mathlib.Core.Path.{_≡_}
+use mathlib.Core.List.{List, [], _∷_, _++_, List·Memᴰ}
+use Rattle.table_format.specs.declared.InputCause.{InputCause}
+use Rattle.table_format.specs.declared.InputCause.the-variants.{Misplaced}
+use Rattle.table_format.specs.Refusal.{inputNumber}
+use Rattle.table_format.specs.Table.{Table}
+use Rattle.table_format.specs.Line.{Line, bytesOf}
+use Rattle.table_format.specs.Parse.{Progress, closed, lineFaults, onward}
+
+-- how far a text has been read after some lines
+abbrev pub after : Progress → List Line → Progress
+after p [] = p
+after p (l ∷ ls) = after (onward p (bytesOf (l .chars))) ls
+
+-- each line earns no refusal at its place
+abbrev pub Clear : Progress → List Line → Type 0
+Clear p [] = Unit {0}
+Clear p (l ∷ ls) = (lineFaults p l ≡ []) × Clear (onward p (bytesOf (l .chars))) ls
+
+-- a line that earns the refusal, and none of a lower number, after lines that earn none
+pub record FirstBad (p : Progress) (ls : List Line) (cause : InputCause) : Type 0 where
+  pub before : List Line
+  pub line : Line
+  pub behind : List Line
+  pub cut : ls ≡ before ++ (line ∷ behind)
+  pub clear : Clear p before
+  pub earned : List·Memᴰ cause (lineFaults (after p before) line)
+  pub lowest : (other : InputCause) → List·Memᴰ other (lineFaults (after p before) line) → inputNumber cause ≤ inputNumber other
+
+-- no line earns a refusal, and the end line has not come: 2
+pub record LineMissing (p : Progress) (ls : List Line) (cause : InputCause) : Type 0 where
+  pub clear : Clear p ls
+  pub unfinished : (t : Table) → after p ls ≡ closed t → ⊥
+  pub cause-is : cause ≡ Misplaced

@@ -1,0 +1,60 @@
+-- A loaded table: a list of cells that begins with the four counts, the initial states, the terminal states, and four cells an arc
+-- (source, upper letter, lower letter, target). The list may be longer than the table.
+use Prim.Native.Nat.{ℕ, zero, suc, _+_, _*_}
+use mathlib.Core.Bool.{cond, _&&_}
+use mathlib.Core.Option.{Option, none, some}
+use mathlib.Core.List.{List, [], _∷_, _++_}
+use lib.Dec.{leb}
+use lib.ListN.{length, getD, take, drop}
+use Rattle.table_format.specs.Table.{Arc, Table, Counts, countsOf}
+use Rattle.table_format.specs.Rules.{keepsRules}
+
+-- From a table to its cells.
+
+abbrev pub countCells : Counts → List ℕ
+countCells c = c .states ∷ c .initials ∷ c .terminals ∷ c .arcs ∷ []
+
+abbrev pub arcCells : Arc → List ℕ
+arcCells a = a .source ∷ a .upper ∷ a .lower ∷ a .target ∷ []
+
+unfoldable pub arcsCells : List Arc → List ℕ
+arcsCells [] = []
+arcsCells (a ∷ rest) = arcCells a ++ arcsCells rest
+
+unfoldable pub cellsOf : Table → List ℕ
+cellsOf t = countCells (countsOf t) ++ (t .initials ++ (t .terminals ++ arcsCells (t .arcs)))
+
+-- From cells to the table that they begin with.
+
+abbrev pub countsIn : List ℕ → Counts
+countsIn cells = record { states = getD cells 0 0; initials = getD cells 1 0; terminals = getD cells 2 0; arcs = getD cells 3 0 }
+
+abbrev pub arcIn : List ℕ → Arc
+arcIn cells = record { source = getD cells 0 0; upper = getD cells 1 0; lower = getD cells 2 0; target = getD cells 3 0 }
+
+unfoldable pub arcsIn : ℕ → List ℕ → List Arc
+arcsIn zero cells = []
+arcsIn (suc n) cells = arcIn cells ∷ arcsIn n (drop 4 cells)
+
+-- where the terminal states and the arcs begin, and how many cells there are in all
+abbrev pub terminalsAt : Counts → ℕ
+terminalsAt c = 4 + c .initials
+
+abbrev pub arcsAt : Counts → ℕ
+arcsAt c = 4 + c .initials + c .terminals
+
+abbrev pub extent : Counts → ℕ
+extent c = 4 + c .initials + c .terminals + 4 * c .arcs
+
+unfoldable pub tableIn : List ℕ → Table
+tableIn cells =
+    record {
+      states = countsIn cells .states;
+      initials = take (countsIn cells .initials) (drop 4 cells);
+      terminals = take (countsIn cells .terminals) (drop (terminalsAt (countsIn cells)) cells);
+      arcs = arcsIn (countsIn cells .arcs) (drop (arcsAt (countsIn cells)) cells);
+    }
+
+-- 20: the cells' table, where they hold it whole and it keeps the rules
+unfoldable pub loaded : List ℕ → Option Table
+loaded cells = cond (leb (extent (countsIn cells)) (length cells) && keepsRules (tableIn cells)) (some (tableIn cells)) none

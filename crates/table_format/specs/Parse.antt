@@ -1,0 +1,130 @@
+-- Document 01, "Turned down for the input": reading a text. Each line earns the refusals of the rules that it breaks, lowest number
+-- first; one that breaks 1 or 2 says nothing that the others could judge. The first line that earns any decides. A missing line counts as
+-- standing at the end.
+use Prim.Native.Nat.{ℕ, _+_, _*_}
+use mathlib.Core.Bool.{Bool, cond, _&&_}
+use mathlib.Core.List.{List, [], _∷_, _++_}
+use lib.Dec.{eqb, ltb}
+use lib.ListN.{length, getD}
+use Rattle.table_format.specs.declared.InputCause.{InputCause}
+use Rattle.table_format.specs.declared.InputCause.the-variants.{Malformed, Misplaced, LineCount}
+use Rattle.table_format.specs.Table.{Arc, Table, Counts}
+use Rattle.table_format.specs.Rules.{unless, headerFaults, initialFaults, terminalFaults, arcFaults}
+use Rattle.table_format.specs.Line.{Line, linesOf, malformed, bytesOf}
+use Rattle.table_format.specs.Text.{linesBefore}
+
+-- What a line's bytes say, where they are of its kind.
+
+abbrev pub numberAt : List ℕ → ℕ → ℕ
+numberAt b i = getD b i 0 * 256 + getD b (i + 1) 0
+
+abbrev pub countsFrom : List ℕ → Counts
+countsFrom b = record { states = numberAt b 1; initials = numberAt b 3; terminals = numberAt b 5; arcs = numberAt b 7 }
+
+abbrev pub arcFrom : List ℕ → Arc
+arcFrom b = record { source = numberAt b 1; upper = getD b 3 0; lower = getD b 4 0; target = numberAt b 5 }
+
+-- 2: a line has the first byte and the length in bytes of its place, or no other rule judges it.
+
+abbrev pub hasForm : ℕ → ℕ → List ℕ → Bool
+hasForm code width b = eqb (getD b 0 0) code && eqb (length b) width
+
+abbrev pub inPlace : Bool → List InputCause → List InputCause
+inPlace has faults = cond has faults (Misplaced ∷ [])
+
+abbrev pub isHeader : List ℕ → Bool
+isHeader b = hasForm 1 9 b
+
+-- The kinds of the lines after the header's, each with its first byte and its length.
+
+pub data Kind : Type 0 where
+  initial terminal arc end : Kind
+
+abbrev pub codeOf : Kind → ℕ
+codeOf initial = 2
+codeOf terminal = 3
+codeOf arc = 4
+codeOf end = 5
+
+abbrev pub widthOf : Kind → ℕ
+widthOf initial = 3
+widthOf terminal = 3
+widthOf arc = 7
+widthOf end = 3
+
+abbrev pub isOf : Kind → List ℕ → Bool
+isOf k b = hasForm (codeOf k) (widthOf k) b
+
+-- How far a text has been read: nothing yet; the header's counts and the items so far; all, with the end line.
+
+pub data Progress : Type 0 where
+  opening : Progress
+  within : Counts → Table → Progress
+  closed : Table → Progress
+
+-- the kind of the next line
+abbrev pub due : Counts → Table → Kind
+due c t =
+    cond (ltb (length (t .initials)) (c .initials)) initial
+    (cond (ltb (length (t .terminals)) (c .terminals)) terminal (cond (ltb (length (t .arcs)) (c .arcs)) arc end))
+
+-- the table of a header line, with no item yet
+abbrev pub emptyTable : ℕ → Table
+emptyTable states = record { states = states; initials = []; terminals = []; arcs = [] }
+
+-- what a line of its kind earns: 4 to 9
+unfoldable pub itemFaults : Kind → Table → List ℕ → List InputCause
+itemFaults initial t b = initialFaults (t .states) (t .initials) (numberAt b 1)
+itemFaults terminal t b = terminalFaults (t .states) (t .terminals) (numberAt b 1)
+itemFaults arc t b = arcFaults (t .states) (t .arcs) (arcFrom b)
+itemFaults end t b = unless (eqb (numberAt b 1) (linesBefore t)) LineCount
+
+abbrev pub kindFaults : Kind → Table → List ℕ → List InputCause
+kindFaults k t b = inPlace (isOf k b) (itemFaults k t b)
+
+-- what a line's bytes earn, at each place; after the end line any text is misplaced
+unfoldable pub bytesFaults : Progress → List ℕ → List InputCause
+bytesFaults opening b = inPlace (isHeader b) (headerFaults (countsFrom b))
+bytesFaults (within c t) b = kindFaults (due c t) t b
+bytesFaults (closed t) b = Misplaced ∷ []
+
+unfoldable pub lineFaults : Progress → Line → List InputCause
+lineFaults p l = cond (malformed l) (Malformed ∷ []) (bytesFaults p (bytesOf (l .chars)))
+
+-- the progress after a line that earns none
+abbrev pub added : Kind → Counts → Table → List ℕ → Progress
+added initial c t b =
+    within c (record { states = t .states; initials = t .initials ++ (numberAt b 1 ∷ []); terminals = t .terminals; arcs = t .arcs })
+added terminal c t b =
+    within c (record { states = t .states; initials = t .initials; terminals = t .terminals ++ (numberAt b 1 ∷ []); arcs = t .arcs })
+added arc c t b =
+    within c (record { states = t .states; initials = t .initials; terminals = t .terminals; arcs = t .arcs ++ (arcFrom b ∷ []) })
+added end c t b = closed t
+
+unfoldable pub onward : Progress → List ℕ → Progress
+onward opening b = within (countsFrom b) (emptyTable (countsFrom b .states))
+onward (within c t) b = added (due c t) c t b
+onward (closed t) b = closed t
+
+-- What a text gives: a table, or the refusal of its first bad line.
+
+pub data Parsed : Type 0 where
+  accepted : Table → Parsed
+  turnedDown : InputCause → Parsed
+
+abbrev pub decide : List InputCause → Parsed → Parsed
+decide [] p = p
+decide (f ∷ fs) p = turnedDown f
+
+-- no line is left: the end line has come, or it is missing
+abbrev pub atEnd : Progress → Parsed
+atEnd opening = turnedDown Misplaced
+atEnd (within c t) = turnedDown Misplaced
+atEnd (closed t) = accepted t
+
+unfoldable pub parseFrom : Progress → List Line → Parsed
+parseFrom p [] = atEnd p
+parseFrom p (l ∷ ls) = decide (lineFaults p l) (parseFrom (onward p (bytesOf (l .chars))) ls)
+
+unfoldable pub parsed : List ℕ → Parsed
+parsed text = parseFrom opening (linesOf text)

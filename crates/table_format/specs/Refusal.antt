@@ -1,0 +1,33 @@
+-- Document 01, "Turned down for the input" and "Turned down for the state": the number of each refusal.
+use Prim.Native.Nat.{ℕ}
+use Rattle.table_format.specs.declared.InputCause.{InputCause}
+use Rattle.table_format.specs.declared.InputCause.the-variants.{Malformed, Misplaced, CountLimit, StateNumber, LetterLimit, StateOrder, SourceOrder, ArcRepeated, LineCount, WordFault, TaskFault, IdleCycle}
+use Rattle.table_format.specs.declared.StateCause.{StateCause}
+use Rattle.table_format.specs.declared.StateCause.the-variants.{LoadedTable, Place, StackFull, OutputFull, DestinationShort}
+use Rattle.table_format.specs.declared.Refusal.{Refusal}
+use Rattle.table_format.specs.declared.Refusal.the-variants.{Input, State}
+
+abbrev pub inputNumber : InputCause → ℕ
+inputNumber Malformed = 1
+inputNumber Misplaced = 2
+inputNumber CountLimit = 3
+inputNumber StateNumber = 4
+inputNumber LetterLimit = 5
+inputNumber StateOrder = 6
+inputNumber SourceOrder = 7
+inputNumber ArcRepeated = 8
+inputNumber LineCount = 9
+inputNumber WordFault = 10
+inputNumber TaskFault = 11
+inputNumber IdleCycle = 12
+
+abbrev pub stateNumber : StateCause → ℕ
+stateNumber LoadedTable = 20
+stateNumber Place = 21
+stateNumber StackFull = 22
+stateNumber OutputFull = 23
+stateNumber DestinationShort = 24
+
+abbrev pub numberOf : Refusal → ℕ
+numberOf (Input i) = inputNumber i
+numberOf (State s) = stateNumber s

@@ -1,0 +1,43 @@
+-- What document 01 says of a table, as facts on its counts and items. A table keeps the rules of Rules exactly where these hold.
+use Prim.Native.Nat.{ℕ, suc, _≤_, _<_}
+use mathlib.Core.Path.{_≡_}
+use mathlib.Core.List.{List, [], _∷_, List·Memᴰ}
+use lib.ListN.{length, getD}
+use Rattle.table_format.specs.Table.{Arc, Table}
+
+-- equal elements have one place
+abbrev pub Differ : {A : Type 0} → List A → Type 0
+Differ {A} l = (d : A) (i j : ℕ) → i < length l → j < length l → getD l i d ≡ getD l j d → i ≡ j
+
+-- each number is above the one before it
+abbrev pub Rise : List ℕ → Type 0
+Rise l = (i : ℕ) → suc i < length l → getD l i 0 < getD l (suc i) 0
+
+-- sources do not fall, from s on
+abbrev pub AtLeast : ℕ → List Arc → Type 0
+AtLeast s [] = Unit {0}
+AtLeast s (a ∷ bs) = (s ≤ a .source) × AtLeast (a .source) bs
+
+pub record Ruled (t : Table) : Type 0 where
+  -- "1 to 256 states numbered from 0"
+  pub some-state : 1 ≤ t .states
+  pub few-states : t .states ≤ 256
+  -- "an ordered list of 1 or more different initial states", "1 to states"
+  pub some-initial : 1 ≤ length (t .initials)
+  pub few-initials : length (t .initials) ≤ t .states
+  pub initial-in : (s : ℕ) → List·Memᴰ s (t .initials) → s < t .states
+  pub initials-differ : Differ (t .initials)
+  -- "a set of terminal states (it may be empty)", "rising", "0 to states"
+  pub few-terminals : length (t .terminals) ≤ t .states
+  pub terminal-in : (s : ℕ) → List·Memᴰ s (t .terminals) → s < t .states
+  pub terminals-rise : Rise (t .terminals)
+  -- "0 to 1,024 arcs", "by rising source"
+  pub few-arcs : length (t .arcs) ≤ 1024
+  pub rising : AtLeast 0 (t .arcs)
+  -- "a source state, an upper letter, a lower letter and a target state. Letters are 1 to 63; 0 on an arc means no letter."
+  pub source-in : (a : Arc) → List·Memᴰ a (t .arcs) → a .source < t .states
+  pub target-in : (a : Arc) → List·Memᴰ a (t .arcs) → a .target < t .states
+  pub upper-in : (a : Arc) → List·Memᴰ a (t .arcs) → a .upper ≤ 63
+  pub lower-in : (a : Arc) → List·Memᴰ a (t .arcs) → a .lower ≤ 63
+  -- "No two arcs agree in all four fields."
+  pub arcs-differ : Differ (t .arcs)

@@ -1,0 +1,103 @@
+-- Document 01, "Turned down for the input", 3 to 8: for a header and for each item of a table, the refusals that it earns, lowest
+-- number first. An item is judged by the table's states and by the items of its kind before it.
+use Prim.Native.Nat.{ℕ}
+use mathlib.Core.Bool.{Bool, true, false, not, _&&_, _||_}
+use mathlib.Core.List.{List, [], _∷_, _++_}
+use lib.Dec.{eqb, leb, ltb}
+use Rattle.table_format.specs.declared.InputCause.{InputCause}
+use Rattle.table_format.specs.declared.InputCause.the-variants.{CountLimit, StateNumber, LetterLimit, StateOrder, SourceOrder, ArcRepeated}
+use Rattle.table_format.specs.Table.{Arc, Table, Counts, countsOf}
+
+-- Tests on lists.
+
+abbrev pub isEmpty : {A : Type 0} → List A → Bool
+isEmpty [] = true
+isEmpty (x ∷ xs) = false
+
+-- some element passes the test
+abbrev pub any : {A : Type 0} → (A → Bool) → List A → Bool
+any test [] = false
+any test (x ∷ xs) = test x || any test xs
+
+-- the last element, if there is one, passes the test
+abbrev pub lastIs : {A : Type 0} → (A → Bool) → List A → Bool
+lastIs test [] = true
+lastIs test (x ∷ []) = test x
+lastIs test (x ∷ y ∷ ys) = lastIs test (y ∷ ys)
+
+-- each element, with those before it, passes the test
+unfoldable pub each : {A : Type 0} → (List A → A → Bool) → List A → List A → Bool
+each test before [] = true
+each test before (x ∷ xs) = test before x && each test (before ++ (x ∷ [])) xs
+
+-- The rules: what holds where a rule is kept.
+
+-- 3: each count is within its limit
+unfoldable pub countsHold : Counts → Bool
+countsHold c =
+    leb 1 (c .states)
+    && (leb (c .states) 256 && (leb 1 (c .initials) && (leb (c .initials) (c .states) && (leb (c .terminals) (c .states) && leb (c .arcs) 1024))))
+
+-- 4: a state number is below the count of states
+abbrev pub stateHolds : ℕ → ℕ → Bool
+stateHolds states s = ltb s states
+
+-- 5: an arc's letter is at most 63
+abbrev pub letterHolds : ℕ → Bool
+letterHolds x = leb x 63
+
+-- 6: an initial state is not among those before it
+abbrev pub initialIsNew : List ℕ → ℕ → Bool
+initialIsNew before s = not (any (λ r. eqb r s) before)
+
+-- 6: a terminal state is above the one before it
+abbrev pub terminalRises : List ℕ → ℕ → Bool
+terminalRises before s = lastIs (λ r. ltb r s) before
+
+-- 7: an arc's source is not below that of the one before it
+abbrev pub sourceHolds : List Arc → Arc → Bool
+sourceHolds before a = lastIs (λ b. leb (b .source) (a .source)) before
+
+-- 8: an arc equals none before it
+abbrev pub sameArc : Arc → Arc → Bool
+sameArc a b = eqb (a .source) (b .source) && (eqb (a .upper) (b .upper) && (eqb (a .lower) (b .lower) && eqb (a .target) (b .target)))
+
+abbrev pub arcIsNew : List Arc → Arc → Bool
+arcIsNew before a = not (any (λ b. sameArc b a) before)
+
+-- What a header and an item earn.
+
+abbrev pub unless : Bool → InputCause → List InputCause
+unless true cause = []
+unless false cause = cause ∷ []
+
+unfoldable pub headerFaults : Counts → List InputCause
+headerFaults c = unless (countsHold c) CountLimit
+
+unfoldable pub initialFaults : ℕ → List ℕ → ℕ → List InputCause
+initialFaults states before s = unless (stateHolds states s) StateNumber ++ unless (initialIsNew before s) StateOrder
+
+unfoldable pub terminalFaults : ℕ → List ℕ → ℕ → List InputCause
+terminalFaults states before s = unless (stateHolds states s) StateNumber ++ unless (terminalRises before s) StateOrder
+
+unfoldable pub arcFaults : ℕ → List Arc → Arc → List InputCause
+arcFaults states before a =
+    unless (stateHolds states (a .source) && stateHolds states (a .target)) StateNumber
+    ++ (unless (letterHolds (a .upper) && letterHolds (a .lower)) LetterLimit
+    ++ (unless (sourceHolds before a) SourceOrder ++ unless (arcIsNew before a) ArcRepeated))
+
+-- A table keeps the rules where its counts and items earn no refusal.
+
+abbrev pub initialsKeep : ℕ → List ℕ → Bool
+initialsKeep states = each (λ before s. isEmpty (initialFaults states before s)) []
+
+abbrev pub terminalsKeep : ℕ → List ℕ → Bool
+terminalsKeep states = each (λ before s. isEmpty (terminalFaults states before s)) []
+
+abbrev pub arcsKeep : ℕ → List Arc → Bool
+arcsKeep states = each (λ before a. isEmpty (arcFaults states before a)) []
+
+unfoldable pub keepsRules : Table → Bool
+keepsRules t =
+    isEmpty (headerFaults (countsOf t))
+    && (initialsKeep (t .states) (t .initials) && (terminalsKeep (t .states) (t .terminals) && arcsKeep (t .states) (t .arcs)))

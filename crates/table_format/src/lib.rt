@@ -1,0 +1,90 @@
+// What a table, its cells and its text are, as definitions with their laws. The only code tells the number of a refusal and widens a
+// cell.
+ghost use mathlib.Core.Path.{_≡_};
+ghost use Prim.Native.Nat.{_<_};
+ghost use Rattle.table_format.specs.Refusal.{inputNumber, stateNumber, numberOf};
+
+// Why an input is turned down, document 01's 1 to 12.
+pub enum InputCause {
+    Malformed,
+    Misplaced,
+    CountLimit,
+    StateNumber,
+    LetterLimit,
+    StateOrder,
+    SourceOrder,
+    ArcRepeated,
+    LineCount,
+    WordFault,
+    TaskFault,
+    IdleCycle,
+}
+
+// Why a state is turned down, document 01's 20 to 24.
+pub enum StateCause {
+    LoadedTable,
+    Place,
+    StackFull,
+    OutputFull,
+    DestinationShort,
+}
+
+pub enum Refusal {
+    Input(InputCause),
+    State(StateCause),
+}
+
+fn input_number(cause: InputCause) -> u8
+    ensures { λ r. ⌜ r ≡ inputNumber cause ⌝ }
+{
+    match cause {
+        InputCause::Malformed => 1,
+        InputCause::Misplaced => 2,
+        InputCause::CountLimit => 3,
+        InputCause::StateNumber => 4,
+        InputCause::LetterLimit => 5,
+        InputCause::StateOrder => 6,
+        InputCause::SourceOrder => 7,
+        InputCause::ArcRepeated => 8,
+        InputCause::LineCount => 9,
+        InputCause::WordFault => 10,
+        InputCause::TaskFault => 11,
+        InputCause::IdleCycle => 12,
+    }
+}
+
+fn state_number(cause: StateCause) -> u8
+    ensures { λ r. ⌜ r ≡ stateNumber cause ⌝ }
+{
+    match cause {
+        StateCause::LoadedTable => 20,
+        StateCause::Place => 21,
+        StateCause::StackFull => 22,
+        StateCause::OutputFull => 23,
+        StateCause::DestinationShort => 24,
+    }
+}
+
+// Document 01's number of a refusal.
+pub fn number(refusal: Refusal) -> u8
+    ensures { λ r. ⌜ r ≡ numberOf refusal ⌝ }
+{
+    match refusal {
+        Refusal::Input(cause) => input_number(cause),
+        Refusal::State(cause) => state_number(cause),
+    }
+}
+
+// A cell as an index.
+pub fn wide(cell: u16) -> usize
+    ensures { λ r. ⌜ (r ≡ cell) × (r < 65536) ⌝ }
+{
+    cell as usize
+}
+
+// A cell as a count.
+pub fn longer(cell: u16) -> u32
+    ensures { λ r. ⌜ r ≡ cell ⌝ }
+{
+    cell as u32
+}

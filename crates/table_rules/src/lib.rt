@@ -1,0 +1,209 @@
+// The rules of a table, 3 to 8, on a header and on one item, with the items of its kind before it.
+use table_format::InputCause;
+ghost use mathlib.Core.Path.{_≡_};
+ghost use Prim.Native.Nat.{_≤_};
+ghost use mathlib.Core.Bool.{true};
+ghost use Rattle.table_format.specs.Rules.{countsHold, initialFaults, terminalFaults, arcFaults, arcsKeep};
+ghost use Rattle.table_rules.specs.Judge.{judged, hasState, largest, stateKey, arcKey, lastSource, SourcesRise, repeated, joinedLetters, joinedHold, keyBy, risesBy};
+ghost use Rattle.table_format.specs.Cells.{countsAs, arcAs, arcsAs, Whole};
+
+// How a rule judges an item: kept, or the lowest refusal that it earns.
+pub enum Judged {
+    Kept,
+    Broken(InputCause),
+}
+
+// Rule 3: each count is within its limit.
+pub fn counts_hold(states: u16, initials: u16, terminals: u16, arcs: u16) -> bool
+    ensures { λ r. ⌜ r ≡ countsHold (countsAs states initials terminals arcs) ⌝ }
+{
+    if states < 1 {
+        return false;
+    }
+    if 256 < states {
+        return false;
+    }
+    if initials < 1 {
+        return false;
+    }
+    if states < initials {
+        return false;
+    }
+    if states < terminals {
+        return false;
+    }
+    arcs <= 1024
+}
+
+// Whether a state is in a list.
+fn has_state(list: &[u16], state: u16) -> bool
+    ensures { λ r. ⌜ r ≡ hasState (now (list .entry)) state ⌝ }
+{
+    let mut k = 0;
+    while k < list.len() {
+        if list[k] == state {
+            return true;
+        }
+        k += 1;
+    }
+    false
+}
+
+// A number for a state, so that most are seen to be new by one comparison.
+pub fn state_key(state: u16) -> u64
+    ensures { λ r. ⌜ r ≡ stateKey state ⌝ }
+{
+    state as u64 + 1
+}
+
+// An initial state. A state whose key is above `top`, which no key before it is, is new.
+pub fn initial_fault(before: &[u16], states: u16, state: u16, top: u64) -> Judged
+    requires { ⌜ largest stateKey (now before) ≤ top ⌝ }
+    ensures { λ r. ⌜ r ≡ judged (initialFaults states (now (before .entry)) state) ⌝ }
+{
+    if states <= state {
+        return Judged::Broken(InputCause::StateNumber);
+    }
+    if top < state_key(state) {
+        return Judged::Kept;
+    }
+    if has_state(before, state) {
+        Judged::Broken(InputCause::StateOrder)
+    } else {
+        Judged::Kept
+    }
+}
+
+// A terminal state.
+pub fn terminal_fault(before: &[u16], states: u16, state: u16) -> Judged
+    ensures { λ r. ⌜ r ≡ judged (terminalFaults states (now (before .entry)) state) ⌝ }
+{
+    if states <= state {
+        return Judged::Broken(InputCause::StateNumber);
+    }
+    let n = before.len();
+    if n == 0 {
+        return Judged::Kept;
+    }
+    if before[n - 1] < state {
+        Judged::Kept
+    } else {
+        Judged::Broken(InputCause::StateOrder)
+    }
+}
+
+// A number for an arc, to the same end.
+pub fn arc_key(source: u16, upper: u16, lower: u16, target: u16) -> u64
+    ensures { λ r. ⌜ r ≡ arcKey (arcAs source upper lower target) ⌝ }
+{
+    source as u64 * 4294967296 + lower as u64 * 16777216 + upper as u64 * 65536 + target as u64 + 1
+}
+
+// The source of the last of some arcs, 0 where there is none.
+fn last_source(before: &[u16]) -> u16
+    requires { ⌜ Whole (now before) ⌝ }
+    ensures { λ r. ⌜ r ≡ lastSource (arcsAs (now (before .entry))) ⌝ }
+{
+    let n = before.len();
+    if n < 4 {
+        return 0;
+    }
+    before[n - 4]
+}
+
+// Whether an arc is in a list of whole arcs whose sources rise to at most its own: it is looked for among the last ones, of its source.
+fn is_repeated(before: &[u16], source: u16, upper: u16, lower: u16, target: u16) -> bool
+    requires { ⌜ Whole (now before) ⌝ }
+    requires { ⌜ SourcesRise (now before) source ⌝ }
+    ensures { λ r. ⌜ r ≡ repeated (arcsAs (now (before .entry))) (arcAs source upper lower target) ⌝ }
+{
+    let mut at = before.len();
+    while 4 <= at {
+        at -= 4;
+        if before[at] != source {
+            return false;
+        }
+        if before[at + 1] == upper {
+            if before[at + 2] == lower {
+                if before[at + 3] == target {
+                    return true;
+                }
+            }
+        }
+    }
+    false
+}
+
+// An arc, after arcs that keep the rules. One whose key is above `top`, which no key before it is, is new.
+pub fn arc_fault(
+    before: &[u16],
+    states: u16,
+    source: u16,
+    upper: u16,
+    lower: u16,
+    target: u16,
+    top: u64,
+) -> Judged
+    requires { ⌜ Whole (now before) ⌝ }
+    requires { ⌜ arcsKeep states (arcsAs (now before)) ≡ true ⌝ }
+    requires { ⌜ largest arcKey (arcsAs (now before)) ≤ top ⌝ }
+    ensures { λ r. ⌜ r ≡ judged (arcFaults states (arcsAs (now (before .entry))) (arcAs source upper lower target)) ⌝ }
+{
+    if states <= source {
+        return Judged::Broken(InputCause::StateNumber);
+    }
+    if states <= target {
+        return Judged::Broken(InputCause::StateNumber);
+    }
+    if 63 < upper {
+        return Judged::Broken(InputCause::LetterLimit);
+    }
+    if 63 < lower {
+        return Judged::Broken(InputCause::LetterLimit);
+    }
+    if source < last_source(before) {
+        return Judged::Broken(InputCause::SourceOrder);
+    }
+    if top < arc_key(source, upper, lower, target) {
+        return Judged::Kept;
+    }
+    if is_repeated(before, source, upper, lower, target) {
+        Judged::Broken(InputCause::ArcRepeated)
+    } else {
+        Judged::Kept
+    }
+}
+
+// The letters of an arc as one number.
+pub fn letters(upper: u16, lower: u16) -> u32
+    ensures { λ r. ⌜ r ≡ joinedLetters upper lower ⌝ }
+{
+    lower as u32 * 65536 + upper as u32
+}
+
+// Whether letters joined by `|` are all in their limit.
+pub fn joined_hold(joined: u32) -> bool
+    ensures { λ r. ⌜ r ≡ joinedHold joined ⌝ }
+{
+    if 63 < joined % 65536 {
+        return false;
+    }
+    joined / 65536 <= 63
+}
+
+// A number for an arc by its source and letters, which rises where arcs stand in order.
+pub fn order_key(source: u16, letters: u32) -> u64
+    ensures { λ r. ⌜ r ≡ keyBy source letters ⌝ }
+{
+    source as u64 * 4294967296 + letters as u64 + 1
+}
+
+// Whether an arc has a target that is a state and a key above `top`.
+pub fn is_rising(states: u16, target: u16, key: u64, top: u64) -> bool
+    ensures { λ r. ⌜ r ≡ risesBy states target key top ⌝ }
+{
+    if states <= target {
+        return false;
+    }
+    top < key
+}
