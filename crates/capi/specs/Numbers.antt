@@ -1,10 +1,10 @@
 -- Each answer as a struct of numbers, for C. Kind: 0 done, 1 found, 2 paused, 3 ended, 4 refused. A field that has no meaning for an
 -- answer is 0.
 use Prim.Native.Nat.{ℕ}
-use Rattle.table_format.specs.declared.Refusal.{Refusal}
+use Rattle.refusal.specs.declared.Refusal.{Refusal}
 use Rattle.table.specs.declared.Answer as T
 use Rattle.table.specs.declared.Answer.the-variants as T′
-use Rattle.table_format.specs.Refusal.{numberOf}
+use Rattle.refusal.specs.Refusal.{numberOf}
 use Rattle.machine.specs.declared.Answer.{Answer}
 use Rattle.machine.specs.declared.Answer.the-variants.{Found, Paused, Ended, Refused}
 use Rattle.capi.specs.declared.Reply.{Reply}

@@ -1,6 +1,6 @@
 // Each answer as a struct of numbers.
 use crate::Reply;
-use table_format::Refusal;
+use refusal::Refusal;
 ghost use mathlib.Core.Path.{_≡_};
 ghost use Prim.Native.Nat.{ℕ, _<_, _^_};
 ghost use Rattle.table.specs.declared.Answer.the-variants.{Done};
@@ -11,7 +11,7 @@ ghost use Rattle.capi.specs.Start.{startNumbers};
 pub fn refused(refusal: Refusal, steps: u32, length: u32) -> Reply
     ensures { λ r. ⌜ r ≡ refused refusal steps length ⌝ }
 {
-    let number = table_format::number(refusal) as u32;
+    let number = refusal::number(refusal) as u32;
     Reply {
         kind: 4,
         number,

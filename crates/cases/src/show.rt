@@ -23,8 +23,8 @@ pub fn touched(kept: bool) {
     }
 }
 
-fn refused(refusal: table_format::Refusal) {
-    number(b" refused ", table_format::number(refusal) as u64);
+fn refused(refusal: refusal::Refusal) {
+    number(b" refused ", refusal::number(refusal) as u64);
 }
 
 fn cell(x: u16) {

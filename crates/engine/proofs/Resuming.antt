@@ -7,7 +7,7 @@ use mathlib.Core.Option.{Option, some}
 use mathlib.Core.List.{List}
 use lib.ListN.{length, take, drop}
 use Rattle.table.specs.declared.Layout.{Layout}
-use Rattle.table_format.specs.declared.Refusal.{Refusal}
+use Rattle.refusal.specs.declared.Refusal.{Refusal}
 use Rattle.table_format.specs.Table.{Table}
 use Rattle.table_format.specs.Rules.{keepsRules}
 use Rattle.table_format.specs.Loaded.{countsIn, tableIn}

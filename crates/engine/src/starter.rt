@@ -1,7 +1,7 @@
 // The start of a search: 20, 11, 10, then 12.
 use engine_admission::Admission;
-use table_format::InputCause;
-use table_format::Refusal;
+use refusal::InputCause;
+use refusal::Refusal;
 use machine::Run;
 use machine::StartAnswer;
 use machine::Started;

@@ -9,10 +9,10 @@ use mathlib.Core.List.{List, [], _∷_}
 use lib.Dec.{eqb, leb}
 use lib.ListN.{length, getD, take}
 use borrow.Author.Tests.{eqb-true, ne-eqb, le-leb, lt-leb}
-use Rattle.table_format.specs.declared.Refusal.{Refusal}
-use Rattle.table_format.specs.declared.Refusal.the-variants.{Input, State}
-use Rattle.table_format.specs.declared.InputCause.the-variants.{WordFault, TaskFault}
-use Rattle.table_format.specs.declared.StateCause.the-variants.{LoadedTable}
+use Rattle.refusal.specs.declared.Refusal.{Refusal}
+use Rattle.refusal.specs.declared.Refusal.the-variants.{Input, State}
+use Rattle.refusal.specs.declared.InputCause.the-variants.{WordFault, TaskFault}
+use Rattle.refusal.specs.declared.StateCause.the-variants.{LoadedTable}
 use Rattle.table_format.specs.Table.{Table}
 use Rattle.table_format.specs.Rules.{isEmpty}
 use Rattle.table_format.specs.Loaded.{tableIn, loaded}

@@ -1,7 +1,7 @@
 // Refusals 20, 11 and 10, which a start and a call look for in this order; and the sides that a task reads.
-use table_format::InputCause;
-use table_format::Refusal;
-use table_format::StateCause;
+use refusal::InputCause;
+use refusal::Refusal;
+use refusal::StateCause;
 ghost use mathlib.Core.Path.{_≡_};
 ghost use mathlib.Core.Bool.{_||_};
 ghost use mathlib.Core.Option.{some};

@@ -1,11 +1,9 @@
 -- What the code of the side rules answers, in the terms of Transducer, where a flag says whether a side is read.
-use Prim.Native.Nat.{ℕ, _+_, _*_}
+use Prim.Native.Nat.{ℕ, _+_}
 use mathlib.Core.Bool.{Bool, _&&_}
 use mathlib.Core.Option.{Option, none, some}
 use mathlib.Core.List.{List}
-use lib.ListN.{getD}
 use Rattle.table_format.specs.Table.{Arc}
-use Rattle.table_format.specs.Cells.{arcAs}
 use Rattle.machine.specs.Transducer.{sideFollow, sideDone, sideWritten, Passed, both}
 use Rattle.engine_frames.specs.declared.Setup.{Setup}
 use Rattle.engine_frames.specs.declared.Count.{Count}
@@ -26,10 +24,6 @@ fitOf (some d) = Fits (d .up) (d .low)
 -- what was passed on each side
 abbrev pub passedOf : ℕ → ℕ → Passed
 passedOf u l = record { up = u; low = l }
-
--- the arc of number n in cells that hold whole arcs
-abbrev pub arcOf : List ℕ → ℕ → Arc
-arcOf arcs n = arcAs (getD arcs (4 * n) 0) (getD arcs (4 * n + 1) 0) (getD arcs (4 * n + 2) 0) (getD arcs (4 * n + 3) 0)
 
 -- an arc fits where it fits on both sides
 abbrev pub followBy : Setup → List ℕ → List ℕ → Arc → Passed → Option Passed

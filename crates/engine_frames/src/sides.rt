@@ -7,7 +7,8 @@ ghost use mathlib.Core.Bool.{true, _&&_, _||_};
 ghost use Prim.Native.Nat.{_+_, _*_, _<_};
 ghost use lib.ListN.{length};
 ghost use Rattle.machine.specs.Transducer.{member, sideFollow, sideDone};
-ghost use Rattle.engine_frames.specs.Sides.{countOf, fitOf, arcOf, passedOf, followBy, doneBy, writtenOf};
+ghost use Rattle.table_format.specs.Cells.{arcOf};
+ghost use Rattle.engine_frames.specs.Sides.{countOf, fitOf, passedOf, followBy, doneBy, writtenOf};
 
 // A letter on a side that is read (or written) after n letters.
 pub fn follow_side(read: bool, word: &[u8], letter: u16, n: u32) -> Count

@@ -31,7 +31,7 @@ fn leads(arcs: &[u16], n: usize, upper: bool, lower: bool, alive: &[u8]) -> bool
 {
     if side_idle(upper, arcs[4 * n + 1]) {
         if side_idle(lower, arcs[4 * n + 2]) {
-            let target = table_format::wide(arcs[4 * n + 3]);
+            let target = widen::cell_as_index(arcs[4 * n + 3]);
             return alive[target] == 1;
         }
     }
@@ -44,8 +44,8 @@ fn next(arcs: &[u16], first: &[u16], q: usize, upper: bool, lower: bool, alive: 
     requires { ⌜ q < length (now alive) ⌝ }
     ensures { λ r. ⌜ Next (now (arcs .entry)) upper lower (now (alive .entry)) q r ⌝ }
 {
-    let end = table_format::wide(first[q + 1]);
-    let mut n = table_format::wide(first[q]);
+    let end = widen::cell_as_index(first[q + 1]);
+    let mut n = widen::cell_as_index(first[q]);
     while n < end {
         if leads(arcs, n, upper, lower, alive) {
             return arcs[4 * n + 3];
@@ -130,13 +130,13 @@ fn walk(arcs: &[u16], first: &[u16], upper: bool, lower: bool, alive: &[u8], sta
     let mut s = start;
     let mut at: u16 = 0;
     while at == 0 {
-        order[table_format::wide(n)] = s;
+        order[widen::cell_as_index(n)] = s;
         n += 1;
-        place[table_format::wide(s)] = n;
-        s = next(arcs, first, table_format::wide(s), upper, lower, alive);
-        at = place[table_format::wide(s)];
+        place[widen::cell_as_index(s)] = n;
+        s = next(arcs, first, widen::cell_as_index(s), upper, lower, alive);
+        at = place[widen::cell_as_index(s)];
     }
-    part(&order, table_format::wide(at) - 1, table_format::wide(n))
+    part(&order, widen::cell_as_index(at) - 1, widen::cell_as_index(n))
 }
 
 // The states of an idle cycle among the arcs of a table, where all states live at first.

@@ -28,7 +28,8 @@ use Rattle.engine_frames.specs.declared.Setup.{Setup}
 use Rattle.engine_frames.specs.declared.Frame.{Frame}
 use Rattle.engine_frames.specs.declared.Fit.the-variants.{Fits, Fails}
 use Rattle.engine_frames.specs.Frames.{frameOf}
-use Rattle.engine_frames.specs.Sides.{fitOf, arcOf, passedOf, followBy}
+use Rattle.table_format.specs.Cells.{arcOf}
+use Rattle.engine_frames.specs.Sides.{fitOf, passedOf, followBy}
 use Rattle.engine_step.specs.Setting.{queryBy, tableBy, machineBy, held, Prepared, InBounds}
 use Rattle.engine_place.specs.Place.{nextBy, bottomBy, linkBy, Linkable}
 use Rattle.engine_step.proofs.Moves.{pred-suc, follow-is}

@@ -7,7 +7,8 @@ use lib.ListN.{length, getD}
 use Rattle.machine.specs.Machine.{tested}
 use Rattle.engine_frames.specs.declared.Setup.{Setup}
 use Rattle.engine_frames.specs.declared.Frame.{Frame}
-use Rattle.engine_frames.specs.Sides.{arcOf, passedOf, followBy}
+use Rattle.table_format.specs.Cells.{arcOf}
+use Rattle.engine_frames.specs.Sides.{passedOf, followBy}
 
 -- a next arc inside its state's arcs
 abbrev pub nextBy : List ℕ → ℕ → ℕ → Bool

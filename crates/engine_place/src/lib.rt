@@ -22,10 +22,10 @@ fn next_holds(first: &[u16], state: u32, next: u32) -> bool
     ensures { λ r. ⌜ r ≡ nextBy (now (first .entry)) state next ⌝ }
 {
     let at = state as usize;
-    if next < table_format::longer(first[at]) {
+    if next < widen::cell_as_count(first[at]) {
         return false;
     }
-    next <= table_format::longer(first[at + 1])
+    next <= widen::cell_as_count(first[at + 1])
 }
 
 // The bottom frame is the last started state with nothing passed.
@@ -34,7 +34,7 @@ fn bottom_holds(initials: &[u16], started: u32, f: Frame) -> bool
     ensures { λ r. ⌜ r ≡ bottomBy (now (initials .entry)) started f ⌝ }
 {
     let i = started as usize - 1;
-    if f.state != table_format::longer(initials[i]) {
+    if f.state != widen::cell_as_count(initials[i]) {
         return false;
     }
     if 0 != f.up {
@@ -61,7 +61,7 @@ fn link_holds(
 {
     let state = g.state as usize;
     let next = g.next;
-    if next <= table_format::longer(first[state]) {
+    if next <= widen::cell_as_count(first[state]) {
         return false;
     }
     let n = next as usize - 1;
@@ -69,7 +69,7 @@ fn link_holds(
         Fit::Fails => false,
         Fit::Fits(up, low) => {
             let f = cells::look(stack, i);
-            if f.state != table_format::longer(arcs[4 * n + 3]) {
+            if f.state != widen::cell_as_count(arcs[4 * n + 3]) {
                 return false;
             }
             if up != f.up {

@@ -9,8 +9,8 @@ use lib.ListN.{length, drop}
 use borrow.Author.Tests.{eqb-true, eq-eqb, leb-true, leb-false}
 use Rattle.table_format.proofs.Tests.{and-left, and-right}
 use Rattle.table_format.specs.Table.{Table}
-use Rattle.table_format.specs.declared.StateCause.{StateCause}
-use Rattle.table_format.specs.declared.Refusal.the-variants.{Input, State}
+use Rattle.refusal.specs.declared.StateCause.{StateCause}
+use Rattle.refusal.specs.declared.Refusal.the-variants.{Input, State}
 use Rattle.machine.specs.declared.Run.{Run}
 use Rattle.machine.specs.declared.Answer.{Answer}
 use Rattle.machine.specs.declared.Answer.the-variants.{Found, Paused, Ended, Refused}

@@ -4,8 +4,8 @@ use mathlib.Core.Path.{_≡_, refl, sym, ap, subst, _∙_}
 use mathlib.Core.Bool.{Bool, true, false}
 use mathlib.Core.List.{List, []}
 use lib.ListN.{length}
-use Rattle.table_format.specs.declared.Refusal.the-variants.{State}
-use Rattle.table_format.specs.declared.StateCause.the-variants.{Place}
+use Rattle.refusal.specs.declared.Refusal.the-variants.{State}
+use Rattle.refusal.specs.declared.StateCause.the-variants.{Place}
 use Rattle.machine.specs.declared.Run.{Run}
 use Rattle.machine.specs.declared.Called.{Called}
 use Rattle.machine.specs.declared.Answer.the-variants.{Refused}

@@ -1,6 +1,6 @@
 // A call on a table that keeps the rules: 21, then steps until the end, a reading, the allowance or a refusal.
-use table_format::Refusal;
-use table_format::StateCause;
+use refusal::Refusal;
+use refusal::StateCause;
 use engine_frames::Setup;
 use machine::Answer;
 use machine::Called;

@@ -22,7 +22,8 @@ use Rattle.machine.specs.Place.{Placed, Good}
 use Rattle.machine.proofs.Range.{in-range, InRange, below-length}
 use Rattle.machine.proofs.Transducer.{at-mem}
 use Rattle.engine_frames.specs.declared.Setup.{Setup}
-use Rattle.engine_frames.specs.Sides.{arcOf, doneBy, writtenOf}
+use Rattle.table_format.specs.Cells.{arcOf}
+use Rattle.engine_frames.specs.Sides.{doneBy, writtenOf}
 use Rattle.engine_frames.specs.Output.{letterIn, letterAt, lettersUpTo, Tried, sideBy, lettersBy}
 use Rattle.engine_step.specs.Setting.{queryBy, tableBy, machineBy, held, Prepared, InBounds, Top}
 use Rattle.engine_step.proofs.Moves.{reads-up, reads-low}

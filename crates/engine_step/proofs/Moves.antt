@@ -28,7 +28,8 @@ use Rattle.engine_step.specs.declared.Verdict.{Verdict}
 use Rattle.engine_step.specs.declared.Verdict.the-variants.{Turned, Enters, Accepts}
 use Rattle.engine_frames.specs.declared.Frame.{Frame}
 use Rattle.engine_frames.specs.Frames.{frameOf}
-use Rattle.engine_frames.specs.Sides.{fitOf, arcOf, passedOf, followBy}
+use Rattle.table_format.specs.Cells.{arcOf}
+use Rattle.engine_frames.specs.Sides.{fitOf, passedOf, followBy}
 use Rattle.engine_step.specs.Setting.{taskBy, queryBy, machineBy, held, InBounds, Top}
 use Rattle.engine_step.specs.Stepping.{moveAs, refusesBy, triedBelow, countedCells, enteredAt}
 

@@ -7,7 +7,7 @@ use mathlib.Core.List.{List, _++_}
 use lib.Dec.{ltb}
 use lib.ListN.{length, getD, drop}
 use borrow.Author.Tests.{ltb-true, ltb-false, lt-ltb, le-ltb}
-use Rattle.table_format.specs.declared.StateCause.the-variants.{StackFull, OutputFull}
+use Rattle.refusal.specs.declared.StateCause.the-variants.{StackFull, OutputFull}
 use Rattle.machine.specs.Frames as F
 use Rattle.machine.specs.Transducer.{Passed, member}
 use Rattle.machine.specs.Stack.{framesIn, roomIn, putAt}

@@ -9,9 +9,9 @@ use lib.Dec.{ltb}
 use lib.ListN.{length, getD}
 use borrow.Author.Tests.{ltb-false}
 use Rattle.table_format.specs.Table.{Table}
-use Rattle.table_format.specs.declared.StateCause.{StateCause}
-use Rattle.table_format.specs.declared.StateCause.the-variants.{StackFull, OutputFull}
-use Rattle.table_format.specs.declared.Refusal.the-variants.{State}
+use Rattle.refusal.specs.declared.StateCause.{StateCause}
+use Rattle.refusal.specs.declared.StateCause.the-variants.{StackFull, OutputFull}
+use Rattle.refusal.specs.declared.Refusal.the-variants.{State}
 use Rattle.machine.specs.Query.{Query}
 use Rattle.machine.specs.Machine.{accepts, output}
 use Rattle.machine.specs.Frames as F

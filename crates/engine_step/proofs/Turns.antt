@@ -8,8 +8,8 @@ use lib.Dec.{ltb}
 use lib.ListN.{length, getD, drop}
 use borrow.Author.Tests.{ltb-true}
 use Rattle.table_format.specs.Table.{Table}
-use Rattle.table_format.specs.declared.StateCause.{StateCause}
-use Rattle.table_format.specs.declared.Refusal.the-variants.{State}
+use Rattle.refusal.specs.declared.StateCause.{StateCause}
+use Rattle.refusal.specs.declared.Refusal.the-variants.{State}
 use Rattle.machine.specs.declared.Run.{Run}
 use Rattle.machine.specs.Query.{Query}
 use Rattle.machine.specs.Machine.{Machine, accepts, output}

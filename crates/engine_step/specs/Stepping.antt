@@ -5,9 +5,9 @@ use mathlib.Core.Bool.{Bool, true, false, cond, _&&_, _||_}
 use mathlib.Core.List.{List, _++_}
 use lib.Dec.{ltb}
 use lib.ListN.{length, getD, drop}
-use Rattle.table_format.specs.declared.Refusal.{Refusal}
-use Rattle.table_format.specs.declared.Refusal.the-variants.{Input, State}
-use Rattle.table_format.specs.declared.StateCause.the-variants.{StackFull, OutputFull}
+use Rattle.refusal.specs.declared.Refusal.{Refusal}
+use Rattle.refusal.specs.declared.Refusal.the-variants.{Input, State}
+use Rattle.refusal.specs.declared.StateCause.the-variants.{StackFull, OutputFull}
 use Rattle.machine.specs.Frames as F
 use Rattle.machine.specs.Frames.{Held, entering}
 use Rattle.machine.specs.Step as S

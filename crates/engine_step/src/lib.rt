@@ -1,5 +1,5 @@
 // One step of a search.
-use table_format::StateCause;
+use refusal::StateCause;
 use engine_frames::Fit;
 use engine_frames::Frame;
 use engine_frames::Setup;
@@ -87,7 +87,7 @@ fn choose(
     let f = cells::look(stack, depth as usize - 1);
     let state = f.state as usize;
     let next = f.next as usize;
-    let end = table_format::wide(first[state + 1]);
+    let end = widen::cell_as_index(first[state + 1]);
     if end <= next {
         return Move::Drops;
     }
@@ -185,8 +185,8 @@ fn enter(first: &[u16], top: u32, state: u16, up: u32, low: u32, stack: &mut [u3
 {
     let i = state as usize;
     let f = Frame {
-        state: table_format::longer(state),
-        next: table_format::longer(first[i]),
+        state: widen::cell_as_count(state),
+        next: widen::cell_as_count(first[i]),
         up,
         low,
     };

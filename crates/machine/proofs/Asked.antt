@@ -10,11 +10,11 @@ use mathlib.Core.List.{List}
 use lib.ListN.{length}
 use lib.Dec.{leb}
 use borrow.Author.Tests.{leb-true}
-use Rattle.table_format.specs.declared.Refusal.{Refusal}
-use Rattle.table_format.specs.declared.Refusal.the-variants.{Input}
-use Rattle.table_format.specs.declared.InputCause.the-variants.{WordFault, TaskFault}
+use Rattle.refusal.specs.declared.Refusal.{Refusal}
+use Rattle.refusal.specs.declared.Refusal.the-variants.{Input}
+use Rattle.refusal.specs.declared.InputCause.the-variants.{WordFault, TaskFault}
 use Rattle.table_format.specs.Table.{Table}
-use Rattle.table_format.specs.Refusal.{numberOf}
+use Rattle.refusal.specs.Refusal.{numberOf}
 use Rattle.table_format.specs.Rules.{keepsRules}
 use Rattle.table_format.specs.Loaded.{countsIn, extent, tableIn, loaded}
 use Rattle.table_format.proofs.Tests.{and-left, and-right}

@@ -8,9 +8,9 @@ use mathlib.Core.List.{List, [], _∷_, _++_, append-assoc, cons≢nil, tail}
 use lib.ListN.{length}
 use lib.Dec.{ltb, leb}
 use borrow.Author.Tests.{ltb-true, ltb-false, leb-true, leb-false}
-use Rattle.table_format.specs.declared.Refusal.{Refusal}
-use Rattle.table_format.specs.declared.Refusal.the-variants.{State}
-use Rattle.table_format.specs.declared.StateCause.the-variants.{Place, StackFull, OutputFull}
+use Rattle.refusal.specs.declared.Refusal.{Refusal}
+use Rattle.refusal.specs.declared.Refusal.the-variants.{State}
+use Rattle.refusal.specs.declared.StateCause.the-variants.{Place, StackFull, OutputFull}
 use Rattle.machine.specs.Machine.{Machine, Path, accepts, output, Bounded}
 use Rattle.machine.specs.Frames.{Frame, Store, framesOf, Held, viewOf, pathOf, walkOf, walkTo, untried, placeHolds}
 use Rattle.machine.specs.Step.{Move, over, drops, begins, skips, pushes, Stepped, ends, moves, finds, refuses, move, effect, offered, arrived, pushed, made, step}

@@ -10,10 +10,10 @@ use lib.ListN.{length, take, length-append}
 use lib.Seq.{take-append-seam, take-length}
 use lib.Dec.{leb}
 use borrow.Author.Tests.{leb-true, leb-false, le-leb, lt-leb}
-use Rattle.table_format.specs.declared.Refusal.{Refusal}
+use Rattle.refusal.specs.declared.Refusal.{Refusal}
 use Rattle.table_format.specs.Table.{Table}
 use Rattle.table_format.specs.Loaded.{loaded}
-use Rattle.table_format.specs.Refusal.{numberOf}
+use Rattle.refusal.specs.Refusal.{numberOf}
 use Rattle.machine.specs.declared.Run.{Run}
 use Rattle.machine.specs.Query.{Query}
 use Rattle.machine.specs.Machine.{Machine, Bounded}

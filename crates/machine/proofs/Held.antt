@@ -8,8 +8,8 @@ use mathlib.Core.List.{List, _∷_, tail}
 use lib.ListN.{length}
 use lib.Dec.{ltb}
 use borrow.Author.Tests.{ltb-true, ltb-false}
-use Rattle.table_format.specs.declared.Refusal.the-variants.{State}
-use Rattle.table_format.specs.declared.StateCause.the-variants.{OutputFull}
+use Rattle.refusal.specs.declared.Refusal.the-variants.{State}
+use Rattle.refusal.specs.declared.StateCause.the-variants.{OutputFull}
 use Rattle.machine.specs.Machine.{Machine, Path, accepts, output, Allowed}
 use Rattle.machine.specs.Frames.{Frame, Store, framesOf, Held, walkOf, viewOf, pathOf, untried}
 use Rattle.machine.specs.Step.{Move, over, drops, begins, skips, pushes, Stepped, ends, moves, finds, refuses, tryArc, moveTop, moveStart, moveBy, move, effect, offered, arrived, pushed, made, step}

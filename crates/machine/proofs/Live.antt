@@ -6,7 +6,7 @@ use mathlib.Core.Logic.{_⊎_, inl, inr, ⊎-elim}
 use mathlib.Core.List.{List, [], _∷_}
 use lib.ListN.{length}
 use Rattle.table_format.specs.Table.{Table}
-use Rattle.table_format.specs.Refusal.{numberOf}
+use Rattle.refusal.specs.Refusal.{numberOf}
 use Rattle.machine.specs.declared.Run.{Run}
 use Rattle.machine.specs.Query.{Task, recognition, synthesis, analysis, upperSide, lowerSide, reads, Query}
 use Rattle.machine.specs.Machine.{Path, size, output, Allowed, Bounded}

@@ -8,11 +8,11 @@ use mathlib.Core.Option.{some}
 use mathlib.Core.List.{List, [], _∷_, List·Memᴰ·cases-cons, List·Memᴰ·not-nil}
 use lib.ListN.{length, take, replicate, length-append, length-replicate}
 use lib.Seq.{take-append-seam}
-use Rattle.table_format.specs.declared.Refusal.{Refusal}
-use Rattle.table_format.specs.declared.Refusal.the-variants.{Input}
-use Rattle.table_format.specs.declared.InputCause.the-variants.{IdleCycle}
+use Rattle.refusal.specs.declared.Refusal.{Refusal}
+use Rattle.refusal.specs.declared.Refusal.the-variants.{Input}
+use Rattle.refusal.specs.declared.InputCause.the-variants.{IdleCycle}
 use Rattle.table_format.specs.Table.{Table}
-use Rattle.table_format.specs.Refusal.{numberOf}
+use Rattle.refusal.specs.Refusal.{numberOf}
 use Rattle.table_format.specs.Loaded.{loaded}
 use Rattle.table_format.proofs.Ruled.{Ruled, ruled}
 use Rattle.machine.specs.declared.StartAnswer.the-variants.{Ready, Refused}

@@ -7,9 +7,9 @@ use mathlib.Core.Bool.{Bool, true, false}
 use mathlib.Core.List.{List}
 use lib.ListN.{length}
 use lib.Dec.{ltb}
-use Rattle.table_format.specs.declared.Refusal.{Refusal}
-use Rattle.table_format.specs.declared.Refusal.the-variants.{State}
-use Rattle.table_format.specs.declared.StateCause.the-variants.{StackFull, OutputFull}
+use Rattle.refusal.specs.declared.Refusal.{Refusal}
+use Rattle.refusal.specs.declared.Refusal.the-variants.{State}
+use Rattle.refusal.specs.declared.StateCause.the-variants.{StackFull, OutputFull}
 use Rattle.machine.specs.Machine.{Machine, accepts, output}
 use Rattle.machine.specs.Frames.{Frame, Store, Held, pathOf}
 use Rattle.machine.specs.Place.{Good}

@@ -3,7 +3,7 @@ use Prim.Native.Nat.{ℕ, zero, suc, _+_}
 use native.Mathlib.Omega.{arith}
 use mathlib.Core.Path.{_≡_, refl, ap, _∙_}
 use mathlib.Core.List.{List}
-use Rattle.table_format.specs.declared.Refusal.{Refusal}
+use Rattle.refusal.specs.declared.Refusal.{Refusal}
 use Rattle.machine.specs.Machine.{Machine}
 use Rattle.machine.specs.Frames.{Frame, Store, Held}
 use Rattle.machine.specs.Step.{Move, over, drops, begins, skips, pushes, Stepped, moves, finds, refuses, move, made, step}

@@ -3,10 +3,10 @@ use Prim.Native.Nat.{ℕ}
 use mathlib.Core.Bool.{cond}
 use mathlib.Core.Option.{Option, none, some}
 use mathlib.Core.List.{List}
-use Rattle.table_format.specs.declared.Refusal.{Refusal}
-use Rattle.table_format.specs.declared.Refusal.the-variants.{Input, State}
-use Rattle.table_format.specs.declared.InputCause.the-variants.{WordFault, TaskFault}
-use Rattle.table_format.specs.declared.StateCause.the-variants.{LoadedTable}
+use Rattle.refusal.specs.declared.Refusal.{Refusal}
+use Rattle.refusal.specs.declared.Refusal.the-variants.{Input, State}
+use Rattle.refusal.specs.declared.InputCause.the-variants.{WordFault, TaskFault}
+use Rattle.refusal.specs.declared.StateCause.the-variants.{LoadedTable}
 use Rattle.table_format.specs.Table.{Table}
 use Rattle.table_format.specs.Loaded.{loaded}
 use Rattle.machine.specs.Query.{Task, taskOf, Query, wordsHold, sidesHold}

@@ -6,9 +6,9 @@ use mathlib.Core.Bool.{Bool, true, false}
 use mathlib.Core.List.{List}
 use mathlib.Core.Path.{_≡_}
 use lib.ListN.{length}
-use Rattle.table_format.specs.declared.Refusal.{Refusal}
-use Rattle.table_format.specs.declared.Refusal.the-variants.{State}
-use Rattle.table_format.specs.declared.StateCause.the-variants.{Place}
+use Rattle.refusal.specs.declared.Refusal.{Refusal}
+use Rattle.refusal.specs.declared.Refusal.the-variants.{State}
+use Rattle.refusal.specs.declared.StateCause.the-variants.{Place}
 use Rattle.machine.specs.Machine.{Machine}
 use Rattle.machine.specs.Frames.{Frame, Store, Held, placeHolds}
 use Rattle.machine.specs.Step.{Move, over, drops, begins, skips, pushes, Stepped, ends, moves, finds, refuses, move, step}

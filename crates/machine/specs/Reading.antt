@@ -5,9 +5,9 @@ use mathlib.Core.Path.{_≡_}
 use mathlib.Core.Logic.{_⊎_}
 use mathlib.Core.List.{List, _++_}
 use lib.ListN.{length, drop}
-use Rattle.table_format.specs.declared.Refusal.{Refusal}
-use Rattle.table_format.specs.declared.Refusal.the-variants.{State}
-use Rattle.table_format.specs.declared.StateCause.the-variants.{Place}
+use Rattle.refusal.specs.declared.Refusal.{Refusal}
+use Rattle.refusal.specs.declared.Refusal.the-variants.{State}
+use Rattle.refusal.specs.declared.StateCause.the-variants.{Place}
 use Rattle.table_format.specs.Table.{Table}
 use Rattle.machine.specs.declared.Run.{Run}
 use Rattle.machine.specs.declared.Answer.{Answer}

@@ -25,7 +25,7 @@ pub enum Answer {
     },
     Refused {
         steps: u32,
-        refusal: table_format::Refusal,
+        refusal: refusal::Refusal,
     },
 }
 
@@ -38,7 +38,7 @@ pub struct Called {
 // What a start answers.
 pub enum StartAnswer {
     Ready,
-    Refused(table_format::Refusal),
+    Refused(refusal::Refusal),
 }
 
 // What a start gives back: the run to go on with, and with refusal 12 the states of an idle cycle.

@@ -5,9 +5,9 @@ use mathlib.Core.Bool.{cond}
 use mathlib.Core.List.{List, []}
 use lib.Dec.{ltb}
 use lib.ListN.{length}
-use Rattle.table_format.specs.declared.InputCause.the-variants.{CountLimit}
-use Rattle.table_format.specs.declared.Refusal.{Refusal}
-use Rattle.table_format.specs.declared.Refusal.the-variants.{Input}
+use Rattle.refusal.specs.declared.InputCause.the-variants.{CountLimit}
+use Rattle.refusal.specs.declared.Refusal.{Refusal}
+use Rattle.refusal.specs.declared.Refusal.the-variants.{Input}
 use Rattle.table_format.specs.Loaded.{cellsOf}
 use Rattle.table_format.specs.Line.{Line, linesOf}
 use Rattle.table_format.specs.Parse.{Parsed, accepted, turnedDown, parsed}

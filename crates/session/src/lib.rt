@@ -3,7 +3,7 @@
 pub mod opener;
 pub mod speaker;
 
-use table_format::Refusal;
+use refusal::Refusal;
 use machine::Run;
 
 // What an opening answers: the talk to begin with, or a refusal.

@@ -2,8 +2,8 @@
 use crate::Opening;
 use crate::Talk;
 use engine::starter;
-use table_format::InputCause;
-use table_format::Refusal;
+use refusal::InputCause;
+use refusal::Refusal;
 use machine::Run;
 use machine::StartAnswer;
 use session_query::Asking;
@@ -33,12 +33,6 @@ fn copy_cells(from: &[u16], to: &mut [u16])
     }
 }
 
-fn longer(b: u8) -> u32
-    ensures { λ r. ⌜ r ≡ b ⌝ }
-{
-    b as u32
-}
-
 // No reading told yet, and 65,536 calls.
 fn first_talk(run: Run) -> Talk
     ensures { λ r. ⌜ r ≡ firstTalk run ⌝ }
@@ -66,7 +60,7 @@ fn begin_query(
         return Opening::Refused(Refusal::Input(cause));
     }
     let bytes = question.bytes;
-    let task = longer(bytes[1]);
+    let task = widen::byte_as_count(bytes[1]);
     let asked = &bytes;
     let started = starter::start(cells, task, words::upper(asked), words::lower(asked));
     let answer = started.answer;

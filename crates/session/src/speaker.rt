@@ -2,7 +2,7 @@
 use crate::Lined;
 use crate::Talk;
 use session_calls::Said;
-use table_format::Refusal;
+use refusal::Refusal;
 use session_query::words;
 ghost use mathlib.Core.Path.{_≡_};
 ghost use Prim.Native.Nat.{_<_};
@@ -51,7 +51,7 @@ fn tell(said: Said, count: u16, output: &[u8; 4096], line: &mut [u8; 8203]) -> L
             length: session_replies::count_line(line, 47, count),
         },
         Said::Refused(refusal) => Lined::Last {
-            length: session_replies::refusal_line(line, table_format::number(refusal)),
+            length: session_replies::refusal_line(line, refusal::number(refusal)),
         },
         Said::Spent => Lined::Last {
             length: session_replies::count_line(line, 45, count),
@@ -86,5 +86,5 @@ pub fn next_line(
 pub fn refused_line(refusal: Refusal, line: &mut [u8; 8203]) -> usize
     ensures { λ r. ⌜ (r ≡ length (lineText (refusalLine refusal))) × (now (line .exit) ≡ storedLine (refusalLine refusal) (now (line .entry))) ⌝ }
 {
-    session_replies::refusal_line(line, table_format::number(refusal))
+    session_replies::refusal_line(line, refusal::number(refusal))
 }

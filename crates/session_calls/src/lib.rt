@@ -1,6 +1,6 @@
 // Calls for a reading, one after the other.
 use engine::advance;
-use table_format::Refusal;
+use refusal::Refusal;
 use machine::Answer;
 use machine::Run;
 ghost use mathlib.Core.Path.{_≡_};

@@ -8,8 +8,8 @@ use lib.Dec.{eqb}
 use lib.ListN.{length, getD, take, drop, replicate, length-drop, length-replicate, List·getD-append}
 use lib.Seq.{take-at, take-append-le, drop-append-le}
 use borrow.Author.Tests.{eqb-true, eq-eqb}
-use Rattle.table_format.specs.declared.InputCause.{InputCause}
-use Rattle.table_format.specs.declared.InputCause.the-variants.{Malformed, Misplaced}
+use Rattle.refusal.specs.declared.InputCause.{InputCause}
+use Rattle.refusal.specs.declared.InputCause.the-variants.{Malformed, Misplaced}
 use Rattle.table_format.specs.Rules.{isEmpty}
 use Rattle.table_format.specs.Line.{Line, linesOf, malformed, bytesOf}
 use Rattle.table_format.proofs.Tests.{and-left, and-right}

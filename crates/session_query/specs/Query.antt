@@ -4,8 +4,8 @@ use mathlib.Core.Bool.{Bool, cond, _&&_}
 use mathlib.Core.List.{List, [], _∷_, _++_}
 use lib.Dec.{eqb}
 use lib.ListN.{length, getD, take, drop, replicate}
-use Rattle.table_format.specs.declared.InputCause.{InputCause}
-use Rattle.table_format.specs.declared.InputCause.the-variants.{Malformed, Misplaced}
+use Rattle.refusal.specs.declared.InputCause.{InputCause}
+use Rattle.refusal.specs.declared.InputCause.the-variants.{Malformed, Misplaced}
 use Rattle.table_format.specs.Rules.{isEmpty}
 use Rattle.table_format.specs.Line.{Line, malformed, bytesOf}
 

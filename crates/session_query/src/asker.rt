@@ -2,8 +2,7 @@
 use crate::Asking;
 use crate::FirstLine;
 use crate::Question;
-use crate::wide;
-use table_format::InputCause;
+use refusal::InputCause;
 use hex::Decoded;
 ghost use mathlib.Core.Path.{_≡_};
 ghost use Prim.Native.Nat.{_<_};
@@ -55,11 +54,11 @@ fn is_query(bytes: &[u8]) -> bool
     if bytes[0] != 16 {
         return false;
     }
-    let at = 3 + wide(bytes[2]);
+    let at = 3 + widen::byte_as_index(bytes[2]);
     if bytes.len() <= at {
         return false;
     }
-    bytes.len() == at + 1 + wide(bytes[at])
+    bytes.len() == at + 1 + widen::byte_as_index(bytes[at])
 }
 
 // No query, for a cause.

@@ -3,7 +3,7 @@ pub mod asker;
 pub mod splitter;
 pub mod words;
 
-use table_format::InputCause;
+use refusal::InputCause;
 ghost use mathlib.Core.Path.{_≡_};
 ghost use Prim.Native.Nat.{_<_};
 
@@ -23,10 +23,4 @@ pub enum Asking {
 pub struct Question {
     pub asking: Asking,
     pub bytes: [u8; 514],
-}
-
-fn wide(b: u8) -> usize
-    ensures { λ r. ⌜ (r ≡ b) × (r < 256) ⌝ }
-{
-    b as usize
 }

@@ -10,10 +10,10 @@ use lib.Dec.{leb}
 use lib.ListN.{length, take, drop, length-append, length-drop}
 use lib.Seq.{take-at}
 use borrow.Author.Tests.{leb-true, leb-false, le-leb, lt-leb}
-use Rattle.table_format.specs.declared.InputCause.{InputCause}
-use Rattle.table_format.specs.declared.StateCause.the-variants.{LoadedTable, DestinationShort}
-use Rattle.table_format.specs.declared.Refusal.{Refusal}
-use Rattle.table_format.specs.declared.Refusal.the-variants.{Input, State}
+use Rattle.refusal.specs.declared.InputCause.{InputCause}
+use Rattle.refusal.specs.declared.StateCause.the-variants.{LoadedTable, DestinationShort}
+use Rattle.refusal.specs.declared.Refusal.{Refusal}
+use Rattle.refusal.specs.declared.Refusal.the-variants.{Input, State}
 use Rattle.table.specs.declared.Answer.the-variants.{Done, Refused}
 use Rattle.table_format.specs.Table.{Table, countsOf}
 use Rattle.table_format.specs.Rules.{keepsRules}

@@ -5,9 +5,9 @@ use mathlib.Core.Path.{_≡_, refl, sym, ap, ap₂, _∙_}
 use mathlib.Core.List.{List, _++_}
 use lib.ListN.{length, take, drop}
 use borrow.Author.Tests.{le-leb, lt-leb}
-use Rattle.table_format.specs.declared.InputCause.{InputCause}
-use Rattle.table_format.specs.declared.StateCause.the-variants.{DestinationShort}
-use Rattle.table_format.specs.declared.Refusal.the-variants.{Input, State}
+use Rattle.refusal.specs.declared.InputCause.{InputCause}
+use Rattle.refusal.specs.declared.StateCause.the-variants.{DestinationShort}
+use Rattle.refusal.specs.declared.Refusal.the-variants.{Input, State}
 use Rattle.table.specs.declared.Answer.{Answer}
 use Rattle.table.specs.declared.Answer.the-variants.{Done, Refused}
 use Rattle.table_parser.specs.declared.Gathered.{Gathered}

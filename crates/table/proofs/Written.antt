@@ -9,8 +9,8 @@ use lib.Dec.{leb}
 use lib.ListN.{length, getD, take, drop}
 use lib.Seq.{sets, sets-eq}
 use borrow.Author.Tests.{leb-true, leb-false, lt-leb}
-use Rattle.table_format.specs.declared.StateCause.the-variants.{LoadedTable, DestinationShort}
-use Rattle.table_format.specs.declared.Refusal.the-variants.{State}
+use Rattle.refusal.specs.declared.StateCause.the-variants.{LoadedTable, DestinationShort}
+use Rattle.refusal.specs.declared.Refusal.the-variants.{State}
 use Rattle.table.specs.declared.Answer.the-variants.{Done, Refused}
 use Rattle.table.specs.declared.Layout.{Layout}
 use Rattle.table_format.specs.Table.{Arc, Table, Counts, countsOf}

@@ -6,8 +6,8 @@ use mathlib.Core.Option.{Option, none, some}
 use mathlib.Core.List.{List, _++_}
 use lib.Dec.{leb}
 use lib.ListN.{length, drop, replicate}
-use Rattle.table_format.specs.declared.StateCause.the-variants.{LoadedTable, DestinationShort}
-use Rattle.table_format.specs.declared.Refusal.the-variants.{Input, State}
+use Rattle.refusal.specs.declared.StateCause.the-variants.{LoadedTable, DestinationShort}
+use Rattle.refusal.specs.declared.Refusal.the-variants.{Input, State}
 use Rattle.table.specs.declared.Answer.{Answer}
 use Rattle.table.specs.declared.Answer.the-variants.{Done, Refused}
 use Rattle.table.specs.declared.Checked.{Checked}

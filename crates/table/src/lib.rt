@@ -3,7 +3,7 @@ pub mod checker;
 pub mod reader;
 pub mod writer;
 
-use table_format::Refusal;
+use refusal::Refusal;
 
 // What reading and writing answer: how many cells or bytes were written, or a refusal.
 pub enum Answer {

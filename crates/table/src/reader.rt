@@ -1,7 +1,7 @@
 // Text to loaded table. The cells are gathered first, so that a refused text leaves the destination as it was.
 use crate::Answer;
-use table_format::Refusal;
-use table_format::StateCause;
+use refusal::Refusal;
+use refusal::StateCause;
 use table_parser::Read;
 ghost use mathlib.Core.Path.{_≡_};
 ghost use mathlib.Core.List.{_++_};

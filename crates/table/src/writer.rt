@@ -1,8 +1,8 @@
 // A loaded table written as text.
 use crate::Answer;
 use crate::checker;
-use table_format::Refusal;
-use table_format::StateCause;
+use refusal::Refusal;
+use refusal::StateCause;
 ghost use mathlib.Core.Path.{_≡_};
 ghost use mathlib.Core.Option.{some};
 ghost use mathlib.Core.List.{_++_};

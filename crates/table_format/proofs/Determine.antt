@@ -9,7 +9,7 @@ use mathlib.Core.List.{List, [], _∷_, _++_, map, append-assoc}
 use lib.ListN.{length, length-append, length-map}
 use lib.Dec.{eqb}
 use borrow.Author.Tests.{eqb-true, eq-eqb}
-use Rattle.table_format.specs.declared.InputCause.{InputCause}
+use Rattle.refusal.specs.declared.InputCause.{InputCause}
 use Rattle.table_format.specs.Table.{Table, Counts, countsOf}
 use Rattle.table_format.specs.Rules.{countsHold, keepsRules}
 use Rattle.table_format.specs.Line.{linesOf}

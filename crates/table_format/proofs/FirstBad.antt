@@ -6,9 +6,9 @@ use mathlib.Core.Path.{_≡_, refl, sym, ap, subst, _∙_}
 use mathlib.Core.Bool.{true}
 use mathlib.Core.Logic.{_↔_, _⊎_, inl, inr, ⊎-elim}
 use mathlib.Core.List.{List, [], _∷_, _++_, List·Memᴰ, List·Memᴰ·head, List·Memᴰ·not-nil, List·Memᴰ·cases-cons}
-use Rattle.table_format.specs.declared.InputCause.{InputCause}
-use Rattle.table_format.specs.declared.InputCause.the-variants.{Misplaced}
-use Rattle.table_format.specs.Refusal.{inputNumber}
+use Rattle.refusal.specs.declared.InputCause.{InputCause}
+use Rattle.refusal.specs.declared.InputCause.the-variants.{Misplaced}
+use Rattle.refusal.specs.Refusal.{inputNumber}
 use Rattle.table_format.specs.Table.{Table}
 use Rattle.table_format.specs.Line.{Line, bytesOf}
 use Rattle.table_format.specs.Parse.{Progress, opening, within, closed, lineFaults, onward, turnedDown, decide, atEnd, parseFrom}

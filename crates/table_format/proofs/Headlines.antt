@@ -7,7 +7,7 @@ use mathlib.Core.Bool.{true}
 use mathlib.Core.Option.{some}
 use mathlib.Core.List.{List, [], _∷_, _++_}
 use lib.ListN.{length, drop}
-use Rattle.table_format.specs.declared.InputCause.{InputCause}
+use Rattle.refusal.specs.declared.InputCause.{InputCause}
 use Rattle.table_format.specs.Table.{Table}
 use Rattle.table_format.specs.Rules.{keepsRules}
 use Rattle.table_format.specs.Ruled.{Ruled}

@@ -5,8 +5,8 @@ use mathlib.Core.Bool.{Bool, true, false, _&&_, and-eq-true-iff}
 use mathlib.Core.Logic.{_↔_}
 use mathlib.Core.List.{List, [], _++_}
 use borrow.Author.Tests.{leb-true, ltb-true}
-use Rattle.table_format.specs.declared.InputCause.{InputCause}
-use Rattle.table_format.specs.declared.InputCause.the-variants.{CountLimit}
+use Rattle.refusal.specs.declared.InputCause.{InputCause}
+use Rattle.refusal.specs.declared.InputCause.the-variants.{CountLimit}
 use Rattle.table_format.specs.Table.{Arc, Table, Counts, countsOf}
 use Rattle.table_format.specs.Rules.{isEmpty, each, countsHold, stateHolds, letterHolds, initialIsNew, terminalRises, sourceHolds, arcIsNew, unless, headerFaults, initialFaults, terminalFaults, arcFaults, arcsKeep, keepsRules}
 use Rattle.table_format.proofs.All.{All, all-each}

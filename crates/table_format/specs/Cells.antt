@@ -1,10 +1,11 @@
 -- Numbers and cells as code holds them, as the counts and arcs that they say.
-use Prim.Native.Nat.{ℕ, _*_, _/_}
+use Prim.Native.Nat.{ℕ, _+_, _*_, _/_}
 use mathlib.Core.Path.{_≡_}
 use mathlib.Core.List.{List}
-use lib.ListN.{length}
+use lib.ListN.{length, getD}
+use Rattle.table_format.specs.declared.Arc as Held
 use Rattle.table_format.specs.Table.{Arc, Counts}
-use Rattle.table_format.specs.Loaded.{arcsIn}
+use Rattle.table_format.specs.Loaded.{arcWidth, arcsIn}
 
 abbrev pub countsAs : ℕ → ℕ → ℕ → ℕ → Counts
 countsAs s i t a = record { states = s; initials = i; terminals = t; arcs = a }
@@ -12,10 +13,23 @@ countsAs s i t a = record { states = s; initials = i; terminals = t; arcs = a }
 abbrev pub arcAs : ℕ → ℕ → ℕ → ℕ → Arc
 arcAs s u l t = record { source = s; upper = u; lower = l; target = t }
 
--- the arcs of a list of cells that holds whole arcs
+-- an arc as code holds it
+abbrev pub arcHeld : Arc → Held.Arc
+arcHeld a = record { source = a .source; upper = a .upper; lower = a .lower; target = a .target }
+
+-- how many arcs a list of cells holds
+abbrev pub arcCount : List ℕ → ℕ
+arcCount cells = length cells / arcWidth
+
+-- the arc of number n
+abbrev pub arcOf : List ℕ → ℕ → Arc
+arcOf cells n =
+    arcAs (getD cells (arcWidth * n) 0) (getD cells (arcWidth * n + 1) 0) (getD cells (arcWidth * n + 2) 0) (getD cells (arcWidth * n + 3) 0)
+
+-- the arcs
 abbrev pub arcsAs : List ℕ → List Arc
-arcsAs cells = arcsIn (length cells / 4) cells
+arcsAs cells = arcsIn (arcCount cells) cells
 
 -- cells that hold whole arcs
 abbrev pub Whole : List ℕ → Type 0
-Whole cells = length cells ≡ 4 * (length cells / 4)
+Whole cells = length cells ≡ arcWidth * arcCount cells

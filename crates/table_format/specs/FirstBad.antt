@@ -3,9 +3,9 @@
 use Prim.Native.Nat.{_≤_}
 use mathlib.Core.Path.{_≡_}
 use mathlib.Core.List.{List, [], _∷_, _++_, List·Memᴰ}
-use Rattle.table_format.specs.declared.InputCause.{InputCause}
-use Rattle.table_format.specs.declared.InputCause.the-variants.{Misplaced}
-use Rattle.table_format.specs.Refusal.{inputNumber}
+use Rattle.refusal.specs.declared.InputCause.{InputCause}
+use Rattle.refusal.specs.declared.InputCause.the-variants.{Misplaced}
+use Rattle.refusal.specs.Refusal.{inputNumber}
 use Rattle.table_format.specs.Table.{Table}
 use Rattle.table_format.specs.Line.{Line, bytesOf}
 use Rattle.table_format.specs.Parse.{Progress, closed, lineFaults, onward}

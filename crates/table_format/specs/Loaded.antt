@@ -9,6 +9,18 @@ use lib.ListN.{length, getD, take, drop}
 use Rattle.table_format.specs.Table.{Arc, Table, Counts, countsOf}
 use Rattle.table_format.specs.Rules.{keepsRules}
 
+-- the cells of an arc
+abbrev pub arcWidth : ℕ
+arcWidth = 4
+
+-- where the initial states begin, after the counts
+abbrev pub initialsAt : ℕ
+initialsAt = 4
+
+-- the most cells of a table: 256 initial states, 256 terminal states, 1,024 arcs
+abbrev pub mostCells : ℕ
+mostCells = initialsAt + 256 + 256 + arcWidth * 1024
+
 -- From a table to its cells.
 
 abbrev pub countCells : Counts → List ℕ
@@ -34,23 +46,23 @@ arcIn cells = record { source = getD cells 0 0; upper = getD cells 1 0; lower = 
 
 unfoldable pub arcsIn : ℕ → List ℕ → List Arc
 arcsIn zero cells = []
-arcsIn (suc n) cells = arcIn cells ∷ arcsIn n (drop 4 cells)
+arcsIn (suc n) cells = arcIn cells ∷ arcsIn n (drop arcWidth cells)
 
 -- where the terminal states and the arcs begin, and how many cells there are in all
 abbrev pub terminalsAt : Counts → ℕ
-terminalsAt c = 4 + c .initials
+terminalsAt c = initialsAt + c .initials
 
 abbrev pub arcsAt : Counts → ℕ
-arcsAt c = 4 + c .initials + c .terminals
+arcsAt c = initialsAt + c .initials + c .terminals
 
 abbrev pub extent : Counts → ℕ
-extent c = 4 + c .initials + c .terminals + 4 * c .arcs
+extent c = initialsAt + c .initials + c .terminals + arcWidth * c .arcs
 
 unfoldable pub tableIn : List ℕ → Table
 tableIn cells =
     record {
       states = countsIn cells .states;
-      initials = take (countsIn cells .initials) (drop 4 cells);
+      initials = take (countsIn cells .initials) (drop initialsAt cells);
       terminals = take (countsIn cells .terminals) (drop (terminalsAt (countsIn cells)) cells);
       arcs = arcsIn (countsIn cells .arcs) (drop (arcsAt (countsIn cells)) cells);
     }

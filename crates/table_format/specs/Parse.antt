@@ -6,8 +6,8 @@ use mathlib.Core.Bool.{Bool, cond, _&&_}
 use mathlib.Core.List.{List, [], _∷_, _++_}
 use lib.Dec.{eqb, ltb}
 use lib.ListN.{length, getD}
-use Rattle.table_format.specs.declared.InputCause.{InputCause}
-use Rattle.table_format.specs.declared.InputCause.the-variants.{Malformed, Misplaced, LineCount}
+use Rattle.refusal.specs.declared.InputCause.{InputCause}
+use Rattle.refusal.specs.declared.InputCause.the-variants.{Malformed, Misplaced, LineCount}
 use Rattle.table_format.specs.Table.{Arc, Table, Counts}
 use Rattle.table_format.specs.Rules.{unless, headerFaults, initialFaults, terminalFaults, arcFaults}
 use Rattle.table_format.specs.Line.{Line, linesOf, malformed, bytesOf}

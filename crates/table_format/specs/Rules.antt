@@ -4,8 +4,8 @@ use Prim.Native.Nat.{ℕ}
 use mathlib.Core.Bool.{Bool, true, false, not, _&&_, _||_}
 use mathlib.Core.List.{List, [], _∷_, _++_}
 use lib.Dec.{eqb, leb, ltb}
-use Rattle.table_format.specs.declared.InputCause.{InputCause}
-use Rattle.table_format.specs.declared.InputCause.the-variants.{CountLimit, StateNumber, LetterLimit, StateOrder, SourceOrder, ArcRepeated}
+use Rattle.refusal.specs.declared.InputCause.{InputCause}
+use Rattle.refusal.specs.declared.InputCause.the-variants.{CountLimit, StateNumber, LetterLimit, StateOrder, SourceOrder, ArcRepeated}
 use Rattle.table_format.specs.Table.{Arc, Table, Counts, countsOf}
 
 -- Tests on lists.

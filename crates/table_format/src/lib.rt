@@ -1,90 +1,35 @@
-// What a table, its cells and its text are, as definitions with their laws. The only code tells the number of a refusal and widens a
-// cell.
+// What a table, its cells and its text are, as definitions with their laws. The only code takes an arc out of its cells.
 ghost use mathlib.Core.Path.{_≡_};
 ghost use Prim.Native.Nat.{_<_};
-ghost use Rattle.table_format.specs.Refusal.{inputNumber, stateNumber, numberOf};
+ghost use Rattle.table_format.specs.Cells.{arcCount, arcOf, arcHeld};
 
-// Why an input is turned down, document 01's 1 to 12.
-pub enum InputCause {
-    Malformed,
-    Misplaced,
-    CountLimit,
-    StateNumber,
-    LetterLimit,
-    StateOrder,
-    SourceOrder,
-    ArcRepeated,
-    LineCount,
-    WordFault,
-    TaskFault,
-    IdleCycle,
+// The cells of an arc.
+pub const ARC_WIDTH: usize = 4;
+
+// Where the initial states of a loaded table begin, after its counts.
+pub const INITIALS_AT: usize = 4;
+
+// The most cells of a table: 256 initial states, 256 terminal states, 1,024 arcs.
+pub const MOST_CELLS: usize = 4612;
+
+// An arc, out of its cells.
+pub struct Arc {
+    pub source: u16,
+    pub upper: u16,
+    pub lower: u16,
+    pub target: u16,
 }
 
-// Why a state is turned down, document 01's 20 to 24.
-pub enum StateCause {
-    LoadedTable,
-    Place,
-    StackFull,
-    OutputFull,
-    DestinationShort,
-}
-
-pub enum Refusal {
-    Input(InputCause),
-    State(StateCause),
-}
-
-fn input_number(cause: InputCause) -> u8
-    ensures { λ r. ⌜ r ≡ inputNumber cause ⌝ }
+// The arc of number `n`.
+pub fn arc_at(arcs: &[u16], n: usize) -> Arc
+    requires { ⌜ n < arcCount (now arcs) ⌝ }
+    ensures { λ r. ⌜ r ≡ arcHeld (arcOf (now (arcs .entry)) n) ⌝ }
 {
-    match cause {
-        InputCause::Malformed => 1,
-        InputCause::Misplaced => 2,
-        InputCause::CountLimit => 3,
-        InputCause::StateNumber => 4,
-        InputCause::LetterLimit => 5,
-        InputCause::StateOrder => 6,
-        InputCause::SourceOrder => 7,
-        InputCause::ArcRepeated => 8,
-        InputCause::LineCount => 9,
-        InputCause::WordFault => 10,
-        InputCause::TaskFault => 11,
-        InputCause::IdleCycle => 12,
+    let at = ARC_WIDTH * n;
+    Arc {
+        source: arcs[at],
+        upper: arcs[at + 1],
+        lower: arcs[at + 2],
+        target: arcs[at + 3],
     }
-}
-
-fn state_number(cause: StateCause) -> u8
-    ensures { λ r. ⌜ r ≡ stateNumber cause ⌝ }
-{
-    match cause {
-        StateCause::LoadedTable => 20,
-        StateCause::Place => 21,
-        StateCause::StackFull => 22,
-        StateCause::OutputFull => 23,
-        StateCause::DestinationShort => 24,
-    }
-}
-
-// Document 01's number of a refusal.
-pub fn number(refusal: Refusal) -> u8
-    ensures { λ r. ⌜ r ≡ numberOf refusal ⌝ }
-{
-    match refusal {
-        Refusal::Input(cause) => input_number(cause),
-        Refusal::State(cause) => state_number(cause),
-    }
-}
-
-// A cell as an index.
-pub fn wide(cell: u16) -> usize
-    ensures { λ r. ⌜ (r ≡ cell) × (r < 65536) ⌝ }
-{
-    cell as usize
-}
-
-// A cell as a count.
-pub fn longer(cell: u16) -> u32
-    ensures { λ r. ⌜ r ≡ cell ⌝ }
-{
-    cell as u32
 }

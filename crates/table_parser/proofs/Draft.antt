@@ -9,8 +9,8 @@ use lib.Dec.{eqb, ltb}
 use lib.ListN.{length, getD, take, drop, set, replicate, length-append, getD-replicate, List·getD-append, List·getD-eq-default}
 use lib.Seq.{getD-take, getD-append-add, sets, take-nil, drop-at}
 use borrow.Author.Tests.{ltb-true, ltb-false, eq-eqb, ne-eqb, le-leb, lt-leb}
-use Rattle.table_format.specs.declared.InputCause.{InputCause}
-use Rattle.table_format.specs.declared.InputCause.the-variants.{Misplaced, LineCount}
+use Rattle.refusal.specs.declared.InputCause.{InputCause}
+use Rattle.refusal.specs.declared.InputCause.the-variants.{Misplaced, LineCount}
 use Rattle.table_rules.specs.declared.Judged.the-variants.{Kept, Broken}
 use Rattle.table_format.specs.Table.{Arc, Table, Counts}
 use Rattle.table_format.specs.Rules.{each, unless, countsHold, initialFaults, terminalFaults, arcFaults, arcsKeep}

@@ -6,8 +6,8 @@ use mathlib.Core.Bool.{Bool, true, false}
 use mathlib.Core.List.{List, [], _∷_}
 use lib.ListN.{length, drop, drop-of-length-le}
 use lib.Seq.{sets}
-use Rattle.table_format.specs.declared.InputCause.{InputCause}
-use Rattle.table_format.specs.declared.InputCause.the-variants.{Malformed, Misplaced, CountLimit}
+use Rattle.refusal.specs.declared.InputCause.{InputCause}
+use Rattle.refusal.specs.declared.InputCause.the-variants.{Malformed, Misplaced, CountLimit}
 use Rattle.table_rules.specs.declared.Judged.the-variants.{Kept, Broken}
 use Rattle.table_parser.specs.declared.Scanned.{Scanned}
 use Rattle.table_parser.specs.declared.Gathered.{Gathered}

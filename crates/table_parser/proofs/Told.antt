@@ -7,7 +7,7 @@ use mathlib.Core.List.{List, [], _∷_}
 use lib.Dec.{eqb}
 use lib.ListN.{length, drop, length-drop}
 use lib.Seq.{drop-drop}
-use Rattle.table_format.specs.declared.InputCause.the-variants.{Malformed}
+use Rattle.refusal.specs.declared.InputCause.the-variants.{Malformed}
 use Rattle.table_parser.specs.declared.Scanned.{Scanned}
 use Rattle.table_format.specs.Line.{Line, withChar, linesOf, malformed, bytesOf}
 use Rattle.table_format.specs.Parse.{Progress, bytesFaults, lineFaults, onward, turnedDown, decide, parseFrom}

@@ -1,7 +1,7 @@
 // The lines of a text to the cells of a table: each line is scanned, judged and appended.
 mod scanner;
 
-use table_format::InputCause;
+use refusal::InputCause;
 use table_rules::Judged;
 ghost use mathlib.Core.Path.{_≡_};
 ghost use mathlib.Core.Bool.{true};
@@ -39,26 +39,20 @@ pub struct Gathered {
     pub cells: [u16; 4612],
 }
 
-fn letter(b: u8) -> u16
-    ensures { λ r. ⌜ r ≡ b ⌝ }
-{
-    b as u16
-}
-
 // The kind of the next line, from the counts and the lines so far.
 fn kind_due(cells: &[u16], lines: usize) -> u8
     requires { ⌜ 4 ≤ length (now cells) ⌝ }
     ensures { λ r. ⌜ r ≡ kindAfter (countsIn (now (cells .entry))) lines ⌝ }
 {
-    let initials = table_format::wide(cells[1]);
+    let initials = widen::cell_as_index(cells[1]);
     if lines <= initials {
         return 2;
     }
-    let terminals = initials + table_format::wide(cells[2]);
+    let terminals = initials + widen::cell_as_index(cells[2]);
     if lines <= terminals {
         return 3;
     }
-    if lines <= terminals + table_format::wide(cells[3]) {
+    if lines <= terminals + widen::cell_as_index(cells[3]) {
         return 4;
     }
     5
@@ -73,8 +67,8 @@ fn arc_item(before: &[u16], states: u16, bytes: [u8; 9], top: u64) -> Judged
         before,
         states,
         scanner::number_at(bytes, 1),
-        letter(bytes[3]),
-        letter(bytes[4]),
+        widen::byte_as_cell(bytes[3]),
+        widen::byte_as_cell(bytes[4]),
         scanner::number_at(bytes, 5),
         top,
     )
@@ -101,7 +95,7 @@ fn item_fault(
         if count != 7 {
             return Judged::Broken(InputCause::Misplaced);
         }
-        let from = 4 + table_format::wide(cells[1]) + table_format::wide(cells[2]);
+        let from = 4 + widen::cell_as_index(cells[1]) + widen::cell_as_index(cells[2]);
         return arc_item(&cells[from..filled], cells[0], bytes, top);
     }
     if count != 3 {
@@ -112,10 +106,10 @@ fn item_fault(
         return table_rules::initial_fault(&cells[4..filled], cells[0], number, top);
     }
     if kind == 3 {
-        let from = 4 + table_format::wide(cells[1]);
+        let from = 4 + widen::cell_as_index(cells[1]);
         return table_rules::terminal_fault(&cells[from..filled], cells[0], number);
     }
-    if table_format::wide(number) == lines {
+    if widen::cell_as_index(number) == lines {
         Judged::Kept
     } else {
         Judged::Broken(InputCause::LineCount)
@@ -133,8 +127,8 @@ fn append(cells: &mut [u16], kind: u8, bytes: [u8; 9], filled: usize) -> usize
     if kind != 4 {
         return filled + 1;
     }
-    cells[filled + 1] = letter(bytes[3]);
-    cells[filled + 2] = letter(bytes[4]);
+    cells[filled + 1] = widen::byte_as_cell(bytes[3]);
+    cells[filled + 2] = widen::byte_as_cell(bytes[4]);
     cells[filled + 3] = scanner::number_at(bytes, 5);
     filled + 4
 }
@@ -149,8 +143,8 @@ fn item_key(kind: u8, bytes: [u8; 9]) -> u64
     if kind == 4 {
         return table_rules::arc_key(
             scanner::number_at(bytes, 1),
-            letter(bytes[3]),
-            letter(bytes[4]),
+            widen::byte_as_cell(bytes[3]),
+            widen::byte_as_cell(bytes[4]),
             scanner::number_at(bytes, 5),
         );
     }

@@ -55,16 +55,10 @@ pub fn scan(text: &[u8], start: usize) -> Scanned
     malformed()
 }
 
-fn wide(b: u8) -> u16
-    ensures { λ r. ⌜ (r ≡ b) × (r < 256) ⌝ }
-{
-    b as u16
-}
-
 // The number of two bytes at a place, high byte first.
 pub fn number_at(bytes: [u8; 9], at: usize) -> u16
     requires { ⌜ at < 8 ⌝ }
     ensures { λ r. ⌜ r ≡ numberAt bytes at ⌝ }
 {
-    wide(bytes[at]) * 256 + wide(bytes[at + 1])
+    widen::byte_as_cell(bytes[at]) * 256 + widen::byte_as_cell(bytes[at + 1])
 }

@@ -7,7 +7,7 @@ use mathlib.Core.List.{List, [], _∷_}
 use lib.Dec.{eqb, leb, ltb}
 use lib.ListN.{length, getD}
 use borrow.Author.Tests.{ltb-true, ltb-false, leb-true, eqb-true, lt-ltb, le-ltb, le-leb, lt-leb, ne-eqb}
-use Rattle.table_format.specs.declared.InputCause.the-variants.{StateNumber, LetterLimit, StateOrder, SourceOrder, ArcRepeated}
+use Rattle.refusal.specs.declared.InputCause.the-variants.{StateNumber, LetterLimit, StateOrder, SourceOrder, ArcRepeated}
 use Rattle.table_rules.specs.declared.Judged.the-variants.{Kept, Broken}
 use Rattle.table_format.specs.Table.{Arc}
 use Rattle.table_format.specs.Rules.{any, lastIs, each, sourceHolds, sameArc, initialFaults, terminalFaults, arcFaults}

@@ -7,7 +7,7 @@ use mathlib.Core.Bool.{true, false}
 use mathlib.Core.List.{List, [], _∷_, _++_}
 use lib.ListN.{length, getD, take}
 use lib.Seq.{take-suc}
-use Rattle.table_format.specs.declared.InputCause.{InputCause}
+use Rattle.refusal.specs.declared.InputCause.{InputCause}
 use Rattle.table_rules.specs.declared.Judged.the-variants.{Kept, Broken}
 use Rattle.table_format.specs.Rules.{isEmpty, each, arcFaults, arcsKeep}
 use Rattle.table_format.specs.Table.{Arc}

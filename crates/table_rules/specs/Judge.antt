@@ -4,7 +4,7 @@ use mathlib.Core.Path.{_≡_}
 use mathlib.Core.Bool.{Bool, true, _&&_}
 use mathlib.Core.List.{List, [], _∷_}
 use lib.Dec.{eqb, leb, ltb}
-use Rattle.table_format.specs.declared.InputCause.{InputCause}
+use Rattle.refusal.specs.declared.InputCause.{InputCause}
 use Rattle.table_rules.specs.declared.Judged.{Judged}
 use Rattle.table_rules.specs.declared.Judged.the-variants.{Kept, Broken}
 use Rattle.table_format.specs.Table.{Arc}

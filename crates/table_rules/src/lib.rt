@@ -1,5 +1,5 @@
 // The rules of a table, 3 to 8, on a header and on one item, with the items of its kind before it.
-use table_format::InputCause;
+use refusal::InputCause;
 ghost use mathlib.Core.Path.{_≡_};
 ghost use Prim.Native.Nat.{_≤_};
 ghost use mathlib.Core.Bool.{true};

@@ -41,26 +41,26 @@ shared-slice-read-side-idle-2 c = search needs
 side-idle-requires-2 : tie.Need-side-idle-requires-2
 side-idle-requires-2 c κs = search needs
 
-mul-wide : tie.Need-mul-wide
-mul-wide c = search needs
+mul-cell-as-index : tie.Need-mul-cell-as-index
+mul-cell-as-index c = search needs
 
-add-wide : tie.Need-add-wide
-add-wide c = search needs
+add-cell-as-index : tie.Need-add-cell-as-index
+add-cell-as-index c = search needs
 
-mul-wide-2 : tie.Need-mul-wide-2
-mul-wide-2 c = search needs
+mul-cell-as-index-2 : tie.Need-mul-cell-as-index-2
+mul-cell-as-index-2 c = search needs
 
-shared-slice-read-wide : tie.Need-shared-slice-read-wide
-shared-slice-read-wide c = search needs
+shared-slice-read-cell-as-index : tie.Need-shared-slice-read-cell-as-index
+shared-slice-read-cell-as-index c = search needs
 
-wide-requires : tie.Need-wide-requires
-wide-requires c κs = search needs
+cell-as-index-requires : tie.Need-cell-as-index-requires
+cell-as-index-requires c κs = search needs
 
 shared-slice-read-result : tie.Need-shared-slice-read-result
-shared-slice-read-result c = omega (arith, c .before .wide .ensures .0, c .before .before .before .before .before .before .before .before .before .before .before .pre)
+shared-slice-read-result c = omega (arith, c .before .cell-as-index .ensures .0, c .before .before .before .before .before .before .before .before .before .before .before .pre)
 
 returns : tie.Need-returns
-returns c = ap (λ (x : ℕ). eqb (getD (now (c .before .before .before .before .before .before .before .before .before .before .before .args .alive)) x 0) 1) (c .before .wide .ensures .0) ∙ both-then (sideIdle (c .before .before .before .before .before .before .before .before .before .before .before .args .upper) (getD (now (c .before .before .before .before .before .before .before .before .before .before .before .args .arcs)) (4 * c .before .before .before .before .before .before .before .before .before .before .before .args .n + 1) 0)) (sideIdle (c .before .before .before .before .before .before .before .before .before .before .before .args .lower) (getD (now (c .before .before .before .before .before .before .before .before .before .before .before .args .arcs)) (4 * c .before .before .before .before .before .before .before .before .before .before .before .args .n + 2) 0)) (eqb (getD (now (c .before .before .before .before .before .before .before .before .before .before .before .args .alive)) (getD (now (c .before .before .before .before .before .before .before .before .before .before .before .args .arcs)) (4 * c .before .before .before .before .before .before .before .before .before .before .before .args .n + 3) 0) 0) 1) (sym (c .before .before .before .before .before .before .before .side-idle .ensures) ∙ c .before .before .before .before .before .before .if1 .taken) (sym (c .before .before .before .before .side-idle2 .ensures) ∙ c .before .before .before .if2 .taken)
+returns c = ap (λ (x : ℕ). eqb (getD (now (c .before .before .before .before .before .before .before .before .before .before .before .args .alive)) x 0) 1) (c .before .cell-as-index .ensures .0) ∙ both-then (sideIdle (c .before .before .before .before .before .before .before .before .before .before .before .args .upper) (getD (now (c .before .before .before .before .before .before .before .before .before .before .before .args .arcs)) (4 * c .before .before .before .before .before .before .before .before .before .before .before .args .n + 1) 0)) (sideIdle (c .before .before .before .before .before .before .before .before .before .before .before .args .lower) (getD (now (c .before .before .before .before .before .before .before .before .before .before .before .args .arcs)) (4 * c .before .before .before .before .before .before .before .before .before .before .before .args .n + 2) 0)) (eqb (getD (now (c .before .before .before .before .before .before .before .before .before .before .before .args .alive)) (getD (now (c .before .before .before .before .before .before .before .before .before .before .before .args .arcs)) (4 * c .before .before .before .before .before .before .before .before .before .before .before .args .n + 3) 0) 0) 1) (sym (c .before .before .before .before .before .before .before .side-idle .ensures) ∙ c .before .before .before .before .before .before .if1 .taken) (sym (c .before .before .before .before .side-idle2 .ensures) ∙ c .before .before .before .if2 .taken)
 
 returns-2 : tie.Need-returns-2
 returns-2 c = second-fails (sideIdle (c .before .before .before .before .before .before .before .before .args .upper) (getD (now (c .before .before .before .before .before .before .before .before .args .arcs)) (4 * c .before .before .before .before .before .before .before .before .args .n + 1) 0)) (sideIdle (c .before .before .before .before .before .before .before .before .args .lower) (getD (now (c .before .before .before .before .before .before .before .before .args .arcs)) (4 * c .before .before .before .before .before .before .before .before .args .n + 2) 0)) (eqb (getD (now (c .before .before .before .before .before .before .before .before .args .alive)) (getD (now (c .before .before .before .before .before .before .before .before .args .arcs)) (4 * c .before .before .before .before .before .before .before .before .args .n + 3) 0) 0) 1) (sym (c .before .side-idle2 .ensures) ∙ c .if2 .left)
@@ -82,11 +82,11 @@ leads-spec =
     mul-side-idle-4
     shared-slice-read-side-idle-2
     side-idle-requires-2
-    mul-wide
-    add-wide
-    mul-wide-2
-    shared-slice-read-wide
-    wide-requires
+    mul-cell-as-index
+    add-cell-as-index
+    mul-cell-as-index-2
+    shared-slice-read-cell-as-index
+    cell-as-index-requires
     shared-slice-read-result
     returns
     returns-2

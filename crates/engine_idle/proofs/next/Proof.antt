@@ -16,29 +16,29 @@ Inv-loop arcs first q upper lower alive end n₀ n = (getD first q 0 ≤ n) × (
 abbrev μ-loop : tie.MeasureT-loop
 μ-loop arcs first q upper lower alive end n₀ n = end - n
 
-add-wide : tie.Need-add-wide Inv-loop μ-loop
-add-wide c = omega (arith, c .before .before .before .pre .0 .few, c .before .before .before .pre .1)
+add-cell-as-index : tie.Need-add-cell-as-index Inv-loop μ-loop
+add-cell-as-index c = omega (arith, c .before .before .before .pre .0 .few, c .before .before .before .pre .1)
 
-mul-wide : tie.Need-mul-wide Inv-loop μ-loop
-mul-wide c = search needs
+mul-cell-as-index : tie.Need-mul-cell-as-index Inv-loop μ-loop
+mul-cell-as-index c = search needs
 
-shared-slice-read-wide : tie.Need-shared-slice-read-wide Inv-loop μ-loop
-shared-slice-read-wide c = omega (arith, c .before .before .before .before .pre .0 .few, c .before .before .before .before .pre .1, c .before .before .before .before .pre .0 .index)
+shared-slice-read-cell-as-index : tie.Need-shared-slice-read-cell-as-index Inv-loop μ-loop
+shared-slice-read-cell-as-index c = omega (arith, c .before .before .before .before .pre .0 .few, c .before .before .before .before .pre .1, c .before .before .before .before .pre .0 .index)
 
-wide-requires : tie.Need-wide-requires Inv-loop μ-loop
-wide-requires c κs = search needs
+cell-as-index-requires : tie.Need-cell-as-index-requires Inv-loop μ-loop
+cell-as-index-requires c κs = search needs
 
-mul-wide-2 : tie.Need-mul-wide-2 Inv-loop μ-loop
-mul-wide-2 c = search needs
+mul-cell-as-index-2 : tie.Need-mul-cell-as-index-2 Inv-loop μ-loop
+mul-cell-as-index-2 c = search needs
 
-shared-slice-read-wide-2 : tie.Need-shared-slice-read-wide-2 Inv-loop μ-loop
-shared-slice-read-wide-2 c = omega (arith, c .before .before .before .before .before .before .pre .0 .few, c .before .before .before .before .before .before .pre .1, c .before .before .before .before .before .before .pre .0 .index)
+shared-slice-read-cell-as-index-2 : tie.Need-shared-slice-read-cell-as-index-2 Inv-loop μ-loop
+shared-slice-read-cell-as-index-2 c = omega (arith, c .before .before .before .before .before .before .pre .0 .few, c .before .before .before .before .before .before .pre .1, c .before .before .before .before .before .before .pre .0 .index)
 
-wide-requires-2 : tie.Need-wide-requires-2 Inv-loop μ-loop
-wide-requires-2 c κs = search needs
+cell-as-index-requires-2 : tie.Need-cell-as-index-requires-2 Inv-loop μ-loop
+cell-as-index-requires-2 c κs = search needs
 
 loop-holds : tie.Need-loop-holds Inv-loop μ-loop
-loop-holds c = (omega (arith, c .wide2 .ensures .0), omega (arith, c .before .before .wide .ensures .0), λ i h k. absurd (omega (arith, c .wide2 .ensures .0)))
+loop-holds c = (omega (arith, c .cell-as-index2 .ensures .0), omega (arith, c .before .before .cell-as-index .ensures .0), λ i h k. absurd (omega (arith, c .cell-as-index2 .ensures .0)))
 
 leads-requires : tie.Need-leads-requires Inv-loop μ-loop
 leads-requires c κs = let i = c .before .before .before .before .before .before .before .before .before .pre .0 .numbered (c .before .before .before .before .before .before .before .before .before .args .q) (c .before .loop .n) (c .before .before .before .before .before .before .before .before .before .pre .1) (omega (arith, c .before .loop .inv .0)) (omega (arith, c .before .loop .inv .1)) in (i .0, c .before .before .before .before .before .before .before .before .before .pre .0 .target-in _ (i .0))
@@ -76,13 +76,13 @@ next-spec =
     (tie.spec
     Inv-loop
     μ-loop
-    add-wide
-    mul-wide
-    shared-slice-read-wide
-    wide-requires
-    mul-wide-2
-    shared-slice-read-wide-2
-    wide-requires-2
+    add-cell-as-index
+    mul-cell-as-index
+    shared-slice-read-cell-as-index
+    cell-as-index-requires
+    mul-cell-as-index-2
+    shared-slice-read-cell-as-index-2
+    cell-as-index-requires-2
     loop-holds
     leads-requires
     mul-result

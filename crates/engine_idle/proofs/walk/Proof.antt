@@ -19,65 +19,65 @@ abbrev μ-loop : tie.MeasureT-loop
 loop-holds : tie.Need-loop-holds Inv-loop μ-loop
 loop-holds c = let f = c .before .before .before .pre .0 .few in (walk-begins (now (c .before .before .before .args .arcs)) (c .before .before .before .args .upper) (c .before .before .before .args .lower) (now (c .before .before .before .args .alive)) f (c .before .before .before .args .start) (c .before .before .before .pre .1 .1 .0) (c .before .before .before .pre .1 .1 .1), sym (getD-replicate 256 (c .before .before .before .args .start) 0 0 (omega (arith, c .before .before .before .pre .1 .1 .0))))
 
-wide-requires : tie.Need-wide-requires Inv-loop μ-loop
-wide-requires c κs = search needs
+cell-as-index-requires : tie.Need-cell-as-index-requires Inv-loop μ-loop
+cell-as-index-requires c κs = search needs
 
 mul-order : tie.Need-mul-order Inv-loop μ-loop
-mul-order c = omega (arith, c .wide .ensures .0, walk-room (now (c .before .before .before .before .before .before .args .arcs)) (c .before .before .before .before .before .before .args .upper) (c .before .before .before .before .before .before .args .lower) (now (c .before .before .before .before .before .before .args .alive)) (c .before .before .before .before .before .before .pre .0 .few) (c .before .before .loop .order) (c .before .before .loop .place) (c .before .before .loop .n) (c .before .before .loop .s) (c .before .before .loop .inv .0) (sym (c .before .before .loop .inv .1) ∙ c .before .loop-test .taken))
+mul-order c = omega (arith, c .cell-as-index .ensures .0, walk-room (now (c .before .before .before .before .before .before .args .arcs)) (c .before .before .before .before .before .before .args .upper) (c .before .before .before .before .before .before .args .lower) (now (c .before .before .before .before .before .before .args .alive)) (c .before .before .before .before .before .before .pre .0 .few) (c .before .before .loop .order) (c .before .before .loop .place) (c .before .before .loop .n) (c .before .before .loop .s) (c .before .before .loop .inv .0) (sym (c .before .before .loop .inv .1) ∙ c .before .loop-test .taken))
 
 array-write-order : tie.Need-array-write-order Inv-loop μ-loop
-array-write-order c = omega (arith, c .wide .ensures .0, walk-room (now (c .before .before .before .before .before .before .args .arcs)) (c .before .before .before .before .before .before .args .upper) (c .before .before .before .before .before .before .args .lower) (now (c .before .before .before .before .before .before .args .alive)) (c .before .before .before .before .before .before .pre .0 .few) (c .before .before .loop .order) (c .before .before .loop .place) (c .before .before .loop .n) (c .before .before .loop .s) (c .before .before .loop .inv .0) (sym (c .before .before .loop .inv .1) ∙ c .before .loop-test .taken))
+array-write-order c = omega (arith, c .cell-as-index .ensures .0, walk-room (now (c .before .before .before .before .before .before .args .arcs)) (c .before .before .before .before .before .before .args .upper) (c .before .before .before .before .before .before .args .lower) (now (c .before .before .before .before .before .before .args .alive)) (c .before .before .before .before .before .before .pre .0 .few) (c .before .before .loop .order) (c .before .before .loop .place) (c .before .before .loop .n) (c .before .before .loop .s) (c .before .before .loop .inv .0) (sym (c .before .before .loop .inv .1) ∙ c .before .loop-test .taken))
 
 add-n : tie.Need-add-n Inv-loop μ-loop
 add-n c = omega (arith, walk-room (now (c .before .before .before .before .before .before .args .arcs)) (c .before .before .before .before .before .before .args .upper) (c .before .before .before .before .before .before .args .lower) (now (c .before .before .before .before .before .before .args .alive)) (c .before .before .before .before .before .before .pre .0 .few) (c .before .before .loop .order) (c .before .before .loop .place) (c .before .before .loop .n) (c .before .before .loop .s) (c .before .before .loop .inv .0) (sym (c .before .before .loop .inv .1) ∙ c .before .loop-test .taken))
 
-wide-requires-2 : tie.Need-wide-requires-2 Inv-loop μ-loop
-wide-requires-2 c κs = search needs
+cell-as-index-requires-2 : tie.Need-cell-as-index-requires-2 Inv-loop μ-loop
+cell-as-index-requires-2 c κs = search needs
 
 mul-place : tie.Need-mul-place Inv-loop μ-loop
-mul-place c = omega (arith, c .wide2 .ensures .0, c .before .before .before .loop .inv .0 .inside, c .before .before .before .before .before .before .before .pre .0 .few)
+mul-place c = omega (arith, c .cell-as-index2 .ensures .0, c .before .before .before .loop .inv .0 .inside, c .before .before .before .before .before .before .before .pre .0 .few)
 
 array-write-place : tie.Need-array-write-place Inv-loop μ-loop
-array-write-place c = omega (arith, c .wide2 .ensures .0, c .before .before .before .loop .inv .0 .inside, c .before .before .before .before .before .before .before .pre .0 .few)
+array-write-place c = omega (arith, c .cell-as-index2 .ensures .0, c .before .before .before .loop .inv .0 .inside, c .before .before .before .before .before .before .before .pre .0 .few)
 
-wide-requires-3 : tie.Need-wide-requires-3 Inv-loop μ-loop
-wide-requires-3 c κs = search needs
+cell-as-index-requires-3 : tie.Need-cell-as-index-requires-3 Inv-loop μ-loop
+cell-as-index-requires-3 c κs = search needs
 
 next-requires : tie.Need-next-requires Inv-loop μ-loop
-next-requires c κs = (c .before .before .before .before .before .before .before .before .pre .0, omega (arith, c .wide3 .ensures .0, c .before .before .before .before .loop .inv .0 .inside))
+next-requires c κs = (c .before .before .before .before .before .before .before .before .pre .0, omega (arith, c .cell-as-index3 .ensures .0, c .before .before .before .before .loop .inv .0 .inside))
 
-wide-requires-4 : tie.Need-wide-requires-4 Inv-loop μ-loop
-wide-requires-4 c κs = search needs
+cell-as-index-requires-4 : tie.Need-cell-as-index-requires-4 Inv-loop μ-loop
+cell-as-index-requires-4 c κs = search needs
 
 mul-at : tie.Need-mul-at Inv-loop μ-loop
-mul-at c = omega (arith, c .wide4 .ensures .0, next-lives (now (c .before .before .before .before .before .before .before .before .before .before .args .arcs)) (c .before .before .before .before .before .before .before .before .before .before .args .upper) (c .before .before .before .before .before .before .before .before .before .before .args .lower) (now (c .before .before .before .before .before .before .before .before .before .before .args .first)) (now (c .before .before .before .before .before .before .before .before .before .before .args .alive)) (c .before .before .before .before .before .before .before .before .before .before .pre .0) (c .before .before .before .before .before .before .before .before .before .before .pre .1 .0) (c .before .before .before .before .before .before .loop .s) (c .before .next .result) (c .before .before .before .before .before .before .loop .inv .0 .inside) (c .before .before .before .before .before .before .loop .inv .0 .lives) (subst (λ (x : ℕ). Next (now (c .before .before .before .before .before .before .before .before .before .before .args .arcs)) (c .before .before .before .before .before .before .before .before .before .before .args .upper) (c .before .before .before .before .before .before .before .before .before .before .args .lower) (now (c .before .before .before .before .before .before .before .before .before .before .args .alive)) x (c .before .next .result)) (c .before .before .wide3 .ensures .0) (c .before .next .ensures)) .1, c .before .before .before .before .before .before .before .before .before .before .pre .0 .few)
+mul-at c = omega (arith, c .cell-as-index4 .ensures .0, next-lives (now (c .before .before .before .before .before .before .before .before .before .before .args .arcs)) (c .before .before .before .before .before .before .before .before .before .before .args .upper) (c .before .before .before .before .before .before .before .before .before .before .args .lower) (now (c .before .before .before .before .before .before .before .before .before .before .args .first)) (now (c .before .before .before .before .before .before .before .before .before .before .args .alive)) (c .before .before .before .before .before .before .before .before .before .before .pre .0) (c .before .before .before .before .before .before .before .before .before .before .pre .1 .0) (c .before .before .before .before .before .before .loop .s) (c .before .next .result) (c .before .before .before .before .before .before .loop .inv .0 .inside) (c .before .before .before .before .before .before .loop .inv .0 .lives) (subst (λ (x : ℕ). Next (now (c .before .before .before .before .before .before .before .before .before .before .args .arcs)) (c .before .before .before .before .before .before .before .before .before .before .args .upper) (c .before .before .before .before .before .before .before .before .before .before .args .lower) (now (c .before .before .before .before .before .before .before .before .before .before .args .alive)) x (c .before .next .result)) (c .before .before .cell-as-index3 .ensures .0) (c .before .next .ensures)) .1, c .before .before .before .before .before .before .before .before .before .before .pre .0 .few)
 
 array-read-at : tie.Need-array-read-at Inv-loop μ-loop
-array-read-at c = omega (arith, c .wide4 .ensures .0, next-lives (now (c .before .before .before .before .before .before .before .before .before .before .args .arcs)) (c .before .before .before .before .before .before .before .before .before .before .args .upper) (c .before .before .before .before .before .before .before .before .before .before .args .lower) (now (c .before .before .before .before .before .before .before .before .before .before .args .first)) (now (c .before .before .before .before .before .before .before .before .before .before .args .alive)) (c .before .before .before .before .before .before .before .before .before .before .pre .0) (c .before .before .before .before .before .before .before .before .before .before .pre .1 .0) (c .before .before .before .before .before .before .loop .s) (c .before .next .result) (c .before .before .before .before .before .before .loop .inv .0 .inside) (c .before .before .before .before .before .before .loop .inv .0 .lives) (subst (λ (x : ℕ). Next (now (c .before .before .before .before .before .before .before .before .before .before .args .arcs)) (c .before .before .before .before .before .before .before .before .before .before .args .upper) (c .before .before .before .before .before .before .before .before .before .before .args .lower) (now (c .before .before .before .before .before .before .before .before .before .before .args .alive)) x (c .before .next .result)) (c .before .before .wide3 .ensures .0) (c .before .next .ensures)) .1, c .before .before .before .before .before .before .before .before .before .before .pre .0 .few)
+array-read-at c = omega (arith, c .cell-as-index4 .ensures .0, next-lives (now (c .before .before .before .before .before .before .before .before .before .before .args .arcs)) (c .before .before .before .before .before .before .before .before .before .before .args .upper) (c .before .before .before .before .before .before .before .before .before .before .args .lower) (now (c .before .before .before .before .before .before .before .before .before .before .args .first)) (now (c .before .before .before .before .before .before .before .before .before .before .args .alive)) (c .before .before .before .before .before .before .before .before .before .before .pre .0) (c .before .before .before .before .before .before .before .before .before .before .pre .1 .0) (c .before .before .before .before .before .before .loop .s) (c .before .next .result) (c .before .before .before .before .before .before .loop .inv .0 .inside) (c .before .before .before .before .before .before .loop .inv .0 .lives) (subst (λ (x : ℕ). Next (now (c .before .before .before .before .before .before .before .before .before .before .args .arcs)) (c .before .before .before .before .before .before .before .before .before .before .args .upper) (c .before .before .before .before .before .before .before .before .before .before .args .lower) (now (c .before .before .before .before .before .before .before .before .before .before .args .alive)) x (c .before .next .result)) (c .before .before .cell-as-index3 .ensures .0) (c .before .next .ensures)) .1, c .before .before .before .before .before .before .before .before .before .before .pre .0 .few)
 
 loop-less : tie.Need-loop-less Inv-loop μ-loop
 loop-less c = omega (arith, walk-room (now (c .before .before .before .before .before .before .before .before .before .before .args .arcs)) (c .before .before .before .before .before .before .before .before .before .before .args .upper) (c .before .before .before .before .before .before .before .before .before .before .args .lower) (now (c .before .before .before .before .before .before .before .before .before .before .args .alive)) (c .before .before .before .before .before .before .before .before .before .before .pre .0 .few) (c .before .before .before .before .before .before .loop .order) (c .before .before .before .before .before .before .loop .place) (c .before .before .before .before .before .before .loop .n) (c .before .before .before .before .before .before .loop .s) (c .before .before .before .before .before .before .loop .inv .0) (sym (c .before .before .before .before .before .before .loop .inv .1) ∙ c .before .before .before .before .before .loop-test .taken))
 
 loop-again : tie.Need-loop-again Inv-loop μ-loop
-loop-again c = (walk-next (now (c .before .before .before .before .before .before .before .before .before .before .args .arcs)) (c .before .before .before .before .before .before .before .before .before .before .args .upper) (c .before .before .before .before .before .before .before .before .before .before .args .lower) (now (c .before .before .before .before .before .before .before .before .before .before .args .first)) (now (c .before .before .before .before .before .before .before .before .before .before .args .alive)) (c .before .before .before .before .before .before .before .before .before .before .pre .0) (c .before .before .before .before .before .before .before .before .before .before .pre .1 .0) (c .before .before .before .before .before .before .loop .order) (c .before .before .before .before .before .before .loop .place) (c .before .before .before .before .before .before .loop .n) (c .before .before .before .before .before .before .loop .s) (c .before .before .before .before .before .before .loop .at) (c .before .before .before .before .before .before .loop .inv .0) (c .before .before .before .before .before .before .loop .inv .1) (c .before .before .before .before .before .loop-test .taken) (c .before .before .before .before .wide .result) (c .before .before .before .wide2 .result) (c .before .before .wide3 .result) (c .before .next .result) (c .before .before .before .before .wide .ensures .0) (c .before .before .before .wide2 .ensures .0) (c .before .before .wide3 .ensures .0) (c .before .next .ensures), ap (λ (x : ℕ). getD (set (c .before .before .before .before .before .before .loop .place) (c .before .before .before .wide2 .result) (c .before .before .before .before .before .before .loop .n + 1)) x 0) (c .wide4 .ensures .0))
+loop-again c = (walk-next (now (c .before .before .before .before .before .before .before .before .before .before .args .arcs)) (c .before .before .before .before .before .before .before .before .before .before .args .upper) (c .before .before .before .before .before .before .before .before .before .before .args .lower) (now (c .before .before .before .before .before .before .before .before .before .before .args .first)) (now (c .before .before .before .before .before .before .before .before .before .before .args .alive)) (c .before .before .before .before .before .before .before .before .before .before .pre .0) (c .before .before .before .before .before .before .before .before .before .before .pre .1 .0) (c .before .before .before .before .before .before .loop .order) (c .before .before .before .before .before .before .loop .place) (c .before .before .before .before .before .before .loop .n) (c .before .before .before .before .before .before .loop .s) (c .before .before .before .before .before .before .loop .at) (c .before .before .before .before .before .before .loop .inv .0) (c .before .before .before .before .before .before .loop .inv .1) (c .before .before .before .before .before .loop-test .taken) (c .before .before .before .before .cell-as-index .result) (c .before .before .before .cell-as-index2 .result) (c .before .before .cell-as-index3 .result) (c .before .next .result) (c .before .before .before .before .cell-as-index .ensures .0) (c .before .before .before .cell-as-index2 .ensures .0) (c .before .before .cell-as-index3 .ensures .0) (c .before .next .ensures), ap (λ (x : ℕ). getD (set (c .before .before .before .before .before .before .loop .place) (c .before .before .before .cell-as-index2 .result) (c .before .before .before .before .before .before .loop .n + 1)) x 0) (c .cell-as-index4 .ensures .0))
 
 slice-aggregate-part : tie.Need-slice-aggregate-part Inv-loop μ-loop
 slice-aggregate-part c = sym (c .before .before .loop .inv .0 .order-long)
 
-wide-requires-5 : tie.Need-wide-requires-5 Inv-loop μ-loop
-wide-requires-5 c κs = search needs
+cell-as-index-requires-5 : tie.Need-cell-as-index-requires-5 Inv-loop μ-loop
+cell-as-index-requires-5 c κs = search needs
 
 sub-part : tie.Need-sub-part Inv-loop μ-loop
-sub-part c = omega (arith, c .wide5 .ensures .0, c .before .before .loop-test .left)
+sub-part c = omega (arith, c .cell-as-index5 .ensures .0, c .before .before .loop-test .left)
 
-wide-requires-6 : tie.Need-wide-requires-6 Inv-loop μ-loop
-wide-requires-6 c κs = search needs
+cell-as-index-requires-6 : tie.Need-cell-as-index-requires-6 Inv-loop μ-loop
+cell-as-index-requires-6 c κs = search needs
 
 part-requires : tie.Need-part-requires Inv-loop μ-loop
-part-requires c κs = walk-part (now (c .before .before .before .before .before .before .before .before .args .arcs)) (c .before .before .before .before .before .before .before .before .args .upper) (c .before .before .before .before .before .before .before .before .args .lower) (now (c .before .before .before .before .before .before .before .before .args .first)) (now (c .before .before .before .before .before .before .before .before .args .alive)) (c .before .before .before .before .before .before .before .before .pre .0) (c .before .before .before .before .before .before .before .before .pre .1 .0) (c .before .before .before .before .loop .order) (c .before .before .before .before .loop .place) (c .before .before .before .before .loop .n) (c .before .before .before .before .loop .s) (c .before .before .before .before .loop .at) (c .before .before .before .before .loop .inv .0) (c .before .before .before .before .loop .inv .1) (c .before .wide5 .result) (c .wide6 .result) (c .before .wide5 .ensures .0) (c .wide6 .ensures .0) (c .before .before .before .loop-test .left)
+part-requires c κs = walk-part (now (c .before .before .before .before .before .before .before .before .args .arcs)) (c .before .before .before .before .before .before .before .before .args .upper) (c .before .before .before .before .before .before .before .before .args .lower) (now (c .before .before .before .before .before .before .before .before .args .first)) (now (c .before .before .before .before .before .before .before .before .args .alive)) (c .before .before .before .before .before .before .before .before .pre .0) (c .before .before .before .before .before .before .before .before .pre .1 .0) (c .before .before .before .before .loop .order) (c .before .before .before .before .loop .place) (c .before .before .before .before .loop .n) (c .before .before .before .before .loop .s) (c .before .before .before .before .loop .at) (c .before .before .before .before .loop .inv .0) (c .before .before .before .before .loop .inv .1) (c .before .cell-as-index5 .result) (c .cell-as-index6 .result) (c .before .cell-as-index5 .ensures .0) (c .cell-as-index6 .ensures .0) (c .before .before .before .loop-test .left)
 
 returns : tie.Need-returns Inv-loop μ-loop
-returns c = walk-found (now (c .before .before .before .before .before .before .before .before .before .args .arcs)) (c .before .before .before .before .before .before .before .before .before .args .upper) (c .before .before .before .before .before .before .before .before .before .args .lower) (now (c .before .before .before .before .before .before .before .before .before .args .first)) (now (c .before .before .before .before .before .before .before .before .before .args .alive)) (c .before .before .before .before .before .before .before .before .before .pre .0) (c .before .before .before .before .before .before .before .before .before .pre .1 .0) (c .before .before .before .before .before .loop .order) (c .before .before .before .before .before .loop .place) (c .before .before .before .before .before .loop .n) (c .before .before .before .before .before .loop .s) (c .before .before .before .before .before .loop .at) (c .before .before .before .before .before .loop .inv .0) (c .before .before .before .before .before .loop .inv .1) (c .before .before .wide5 .result) (c .before .wide6 .result) (c .before .before .wide5 .ensures .0) (c .before .wide6 .ensures .0) (c .before .before .before .before .loop-test .left) (c .part .result) (c .part .ensures)
+returns c = walk-found (now (c .before .before .before .before .before .before .before .before .before .args .arcs)) (c .before .before .before .before .before .before .before .before .before .args .upper) (c .before .before .before .before .before .before .before .before .before .args .lower) (now (c .before .before .before .before .before .before .before .before .before .args .first)) (now (c .before .before .before .before .before .before .before .before .before .args .alive)) (c .before .before .before .before .before .before .before .before .before .pre .0) (c .before .before .before .before .before .before .before .before .before .pre .1 .0) (c .before .before .before .before .before .loop .order) (c .before .before .before .before .before .loop .place) (c .before .before .before .before .before .loop .n) (c .before .before .before .before .before .loop .s) (c .before .before .before .before .before .loop .at) (c .before .before .before .before .before .loop .inv .0) (c .before .before .before .before .before .loop .inv .1) (c .before .before .cell-as-index5 .result) (c .before .cell-as-index6 .result) (c .before .before .cell-as-index5 .ensures .0) (c .before .cell-as-index6 .ensures .0) (c .before .before .before .before .loop-test .left) (c .part .result) (c .part .ensures)
 
 pub walk-spec : {M : Type 1} → statement M
 walk-spec =
@@ -86,23 +86,23 @@ walk-spec =
     Inv-loop
     μ-loop
     loop-holds
-    wide-requires
+    cell-as-index-requires
     mul-order
     array-write-order
     add-n
-    wide-requires-2
+    cell-as-index-requires-2
     mul-place
     array-write-place
-    wide-requires-3
+    cell-as-index-requires-3
     next-requires
-    wide-requires-4
+    cell-as-index-requires-4
     mul-at
     array-read-at
     loop-less
     loop-again
     slice-aggregate-part
-    wide-requires-5
+    cell-as-index-requires-5
     sub-part
-    wide-requires-6
+    cell-as-index-requires-6
     part-requires
     returns)

@@ -12,19 +12,19 @@ use Rattle.engine_place.proofs.link_holds.Tie as tie
 cast-state : tie.Need-cast-state
 cast-state c = search needs
 
-mul-longer : tie.Need-mul-longer
-mul-longer c = search needs
+mul-cell-as-count : tie.Need-mul-cell-as-count
+mul-cell-as-count c = search needs
 
-shared-slice-read-longer : tie.Need-shared-slice-read-longer
-shared-slice-read-longer c = search needs
+shared-slice-read-cell-as-count : tie.Need-shared-slice-read-cell-as-count
+shared-slice-read-cell-as-count c = search needs
 
-longer-requires : tie.Need-longer-requires
-longer-requires c κs = search needs
+cell-as-count-requires : tie.Need-cell-as-count-requires
+cell-as-count-requires c κs = search needs
 
 returns : tie.Need-returns
 returns c =
     let a = c .before .before .before .before .before .before .before .before .before .args in
-    link-untried (a .setup) (now (a .first)) (now (a .arcs)) (now (a .upper)) (now (a .lower)) (a .g) (frameOf (lookAt (now (a .stack)) (a .i))) (subst (λ (x : ℕ). a .g .next ≤ x) (c .before .longer .ensures) (c .if1 .taken))
+    link-untried (a .setup) (now (a .first)) (now (a .arcs)) (now (a .upper)) (now (a .lower)) (a .g) (frameOf (lookAt (now (a .stack)) (a .i))) (subst (λ (x : ℕ). a .g .next ≤ x) (c .before .cell-as-count .ensures) (c .if1 .taken))
 
 cast-n : tie.Need-cast-n
 cast-n c = search needs
@@ -44,25 +44,25 @@ enum-known-up c = search needs
 look-requires : tie.Need-look-requires
 look-requires c κs = search needs
 
-mul-longer-2 : tie.Need-mul-longer-2
-mul-longer-2 c = search needs
+mul-cell-as-count-2 : tie.Need-mul-cell-as-count-2
+mul-cell-as-count-2 c = search needs
 
-add-longer : tie.Need-add-longer
-add-longer c = search needs
+add-cell-as-count : tie.Need-add-cell-as-count
+add-cell-as-count c = search needs
 
-mul-longer-3 : tie.Need-mul-longer-3
-mul-longer-3 c = search needs
+mul-cell-as-count-3 : tie.Need-mul-cell-as-count-3
+mul-cell-as-count-3 c = search needs
 
-shared-slice-read-longer-2 : tie.Need-shared-slice-read-longer-2
-shared-slice-read-longer-2 c = search needs
+shared-slice-read-cell-as-count-2 : tie.Need-shared-slice-read-cell-as-count-2
+shared-slice-read-cell-as-count-2 c = search needs
 
-longer-requires-2 : tie.Need-longer-requires-2
-longer-requires-2 c κs = search needs
+cell-as-count-requires-2 : tie.Need-cell-as-count-requires-2
+cell-as-count-requires-2 c κs = search needs
 
 returns-2 : tie.Need-returns-2
 returns-2 c =
     let a = c .before .before .before .before .before .before .before .before .before .before .before .before .before .before .before .before .before .before .args in
-    link-elsewhere (a .setup) (now (a .first)) (now (a .arcs)) (now (a .upper)) (now (a .lower)) (a .g) (c .before .before .before .before .look .result) (λ e. c .if2 .taken (e ∙ sym (c .before .before .longer2 .ensures))) ∙ ap (linkBy (a .setup) (now (a .first)) (now (a .arcs)) (now (a .upper)) (now (a .lower)) (a .g)) (c .before .before .before .before .look .ensures)
+    link-elsewhere (a .setup) (now (a .first)) (now (a .arcs)) (now (a .upper)) (now (a .lower)) (a .g) (c .before .before .before .before .look .result) (λ e. c .if2 .taken (e ∙ sym (c .before .before .cell-as-count2 .ensures))) ∙ ap (linkBy (a .setup) (now (a .first)) (now (a .arcs)) (now (a .upper)) (now (a .lower)) (a .g)) (c .before .before .before .before .look .ensures)
 
 returns-3 : tie.Need-returns-3
 returns-3 c =
@@ -77,16 +77,16 @@ returns-4 c =
 returns-5 : tie.Need-returns-5
 returns-5 c =
     let a = c .before .before .before .before .before .before .before .before .before .before .before .before .before .before .before .before .before .before .before .before .before .args in
-    link-low (a .setup) (now (a .first)) (now (a .arcs)) (now (a .upper)) (now (a .lower)) (a .g) (c .before .before .before .before .before .before .before .look .result) _ _ (subst (λ (x : ℕ). x < a .g .next) (c .before .before .before .before .before .before .before .before .before .before .before .before .before .longer .ensures) (c .before .before .before .before .before .before .before .before .before .before .before .before .if1 .left)) (c .before .before .before .if2 .left ∙ c .before .before .before .before .before .longer2 .ensures) (sym (c .before .before .before .before .before .before .before .before .before .up .given .1) ∙ c .before .before .before .before .before .before .before .before .before .before .before .follow .ensures) (c .before .if3 .left) ∙ ap (linkBy (a .setup) (now (a .first)) (now (a .arcs)) (now (a .upper)) (now (a .lower)) (a .g)) (c .before .before .before .before .before .before .before .look .ensures)
+    link-low (a .setup) (now (a .first)) (now (a .arcs)) (now (a .upper)) (now (a .lower)) (a .g) (c .before .before .before .before .before .before .before .look .result) _ _ (subst (λ (x : ℕ). x < a .g .next) (c .before .before .before .before .before .before .before .before .before .before .before .before .before .cell-as-count .ensures) (c .before .before .before .before .before .before .before .before .before .before .before .before .if1 .left)) (c .before .before .before .if2 .left ∙ c .before .before .before .before .before .cell-as-count2 .ensures) (sym (c .before .before .before .before .before .before .before .before .before .up .given .1) ∙ c .before .before .before .before .before .before .before .before .before .before .before .follow .ensures) (c .before .if3 .left) ∙ ap (linkBy (a .setup) (now (a .first)) (now (a .arcs)) (now (a .upper)) (now (a .lower)) (a .g)) (c .before .before .before .before .before .before .before .look .ensures)
 
 pub link-holds-spec : {M : Type 1} → statement M
 link-holds-spec =
     tie.close
     (tie.spec
     cast-state
-    mul-longer
-    shared-slice-read-longer
-    longer-requires
+    mul-cell-as-count
+    shared-slice-read-cell-as-count
+    cell-as-count-requires
     returns
     cast-n
     sub-n
@@ -94,11 +94,11 @@ link-holds-spec =
     enum-told
     enum-known-up
     look-requires
-    mul-longer-2
-    add-longer
-    mul-longer-3
-    shared-slice-read-longer-2
-    longer-requires-2
+    mul-cell-as-count-2
+    add-cell-as-count
+    mul-cell-as-count-3
+    shared-slice-read-cell-as-count-2
+    cell-as-count-requires-2
     returns-2
     returns-3
     returns-4

@@ -33,11 +33,11 @@ returns c =
     let one = cells-one k b (c .before .number-at .result) (λ z. c .if1 .taken (e ∙ z)) i (c .before .number-at .ensures ∙ number-as (c .before .before .before .args .t3) b p 1 (omega arith)) in
     (omega (arith, ap length one), ap (sets (now (c .before .before .before .args .cells)) (c .before .before .before .args .filled)) (sym one))
 
-array-read-letter : tie.Need-array-read-letter
-array-read-letter c = search needs
+array-read-byte-as-cell : tie.Need-array-read-byte-as-cell
+array-read-byte-as-cell c = search needs
 
-letter-requires : tie.Need-letter-requires
-letter-requires c κs = search needs
+byte-as-cell-requires : tie.Need-byte-as-cell-requires
+byte-as-cell-requires c κs = search needs
 
 add-cells : tie.Need-add-cells
 add-cells c = search needs
@@ -48,11 +48,11 @@ mul-cells-2 c = search needs
 slice-write-cells-2 : tie.Need-slice-write-cells-2
 slice-write-cells-2 c = simp length-set (omega arith)
 
-array-read-letter-2 : tie.Need-array-read-letter-2
-array-read-letter-2 c = search needs
+array-read-byte-as-cell-2 : tie.Need-array-read-byte-as-cell-2
+array-read-byte-as-cell-2 c = search needs
 
-letter-requires-2 : tie.Need-letter-requires-2
-letter-requires-2 c κs = search needs
+byte-as-cell-requires-2 : tie.Need-byte-as-cell-requires-2
+byte-as-cell-requires-2 c κs = search needs
 
 add-cells-2 : tie.Need-add-cells-2
 add-cells-2 c = search needs
@@ -85,10 +85,10 @@ returns-2 : tie.Need-returns-2
 returns-2 c =
     λ k b e i p.
     let four : itemCells k b ≡ arcCells (arcFrom (c .before .before .before .before .before .before .args .t3)) = ap (λ j. itemCells j b) (kind-one 4 k (sym (c .before .before .before .if1 .left) ∙ e)) ∙ ap arcCells (sym (arc-as (c .before .before .before .before .before .before .args .t3) b p)) in
-    let told : c .before .before .before .before .number-at .result ∷ c .before .before .letter .result ∷ c .before .letter2 .result ∷ c .number-at2 .result ∷ [] ≡ arcCells (arcFrom (c .before .before .before .before .before .before .args .t3)) =
-    λ j. c .before .before .before .before .number-at .ensures j ∷ c .before .before .letter .ensures j ∷ c .before .letter2 .ensures j ∷ c .number-at2 .ensures j ∷ [] in (
+    let told : c .before .before .before .before .number-at .result ∷ c .before .before .byte-as-cell .result ∷ c .before .byte-as-cell2 .result ∷ c .number-at2 .result ∷ [] ≡ arcCells (arcFrom (c .before .before .before .before .before .before .args .t3)) =
+    λ j. c .before .before .before .before .number-at .ensures j ∷ c .before .before .byte-as-cell .ensures .1 j ∷ c .before .byte-as-cell2 .ensures .1 j ∷ c .number-at2 .ensures j ∷ [] in (
       omega (arith, ap length four),
-      put-four (now (c .before .before .before .before .before .before .args .cells)) (c .before .before .before .before .before .before .args .filled) (c .before .before .before .before .number-at .result) (c .before .before .letter .result) (c .before .letter2 .result) (c .number-at2 .result)
+      put-four (now (c .before .before .before .before .before .before .args .cells)) (c .before .before .before .before .before .before .args .filled) (c .before .before .before .before .number-at .result) (c .before .before .byte-as-cell .result) (c .before .byte-as-cell2 .result) (c .number-at2 .result)
           ∙ ap (sets (now (c .before .before .before .before .before .before .args .cells)) (c .before .before .before .before .before .before .args .filled)) (told ∙ sym four),
     )
 
@@ -102,13 +102,13 @@ append-spec =
     add-result
     same-length
     returns
-    array-read-letter
-    letter-requires
+    array-read-byte-as-cell
+    byte-as-cell-requires
     add-cells
     mul-cells-2
     slice-write-cells-2
-    array-read-letter-2
-    letter-requires-2
+    array-read-byte-as-cell-2
+    byte-as-cell-requires-2
     add-cells-2
     mul-cells-3
     slice-write-cells-3

@@ -10,17 +10,17 @@ use Rattle.table_parser.proofs.arc_item.Tie as tie
 number-at-requires : tie.Need-number-at-requires
 number-at-requires c κs = search needs
 
-array-read-letter : tie.Need-array-read-letter
-array-read-letter c = search needs
+array-read-byte-as-cell : tie.Need-array-read-byte-as-cell
+array-read-byte-as-cell c = search needs
 
-letter-requires : tie.Need-letter-requires
-letter-requires c κs = search needs
+byte-as-cell-requires : tie.Need-byte-as-cell-requires
+byte-as-cell-requires c κs = search needs
 
-array-read-letter-2 : tie.Need-array-read-letter-2
-array-read-letter-2 c = search needs
+array-read-byte-as-cell-2 : tie.Need-array-read-byte-as-cell-2
+array-read-byte-as-cell-2 c = search needs
 
-letter-requires-2 : tie.Need-letter-requires-2
-letter-requires-2 c κs = search needs
+byte-as-cell-requires-2 : tie.Need-byte-as-cell-requires-2
+byte-as-cell-requires-2 c κs = search needs
 
 number-at-requires-2 : tie.Need-number-at-requires-2
 number-at-requires-2 c κs = search needs
@@ -31,17 +31,17 @@ arc-fault-requires c κs = search needs
 returns : tie.Need-returns
 returns c =
     c .arc-fault .ensures
-    ∙ (λ i. judged (arcFaults (c .before .before .before .before .before .before .args .states) (arcsAs (now (c .before .before .before .before .before .before .args .before))) (record { source = c .before .before .before .before .number-at .ensures i; upper = c .before .before .before .letter .ensures i; lower = c .before .before .letter2 .ensures i; target = c .before .number-at2 .ensures i })))
+    ∙ (λ i. judged (arcFaults (c .before .before .before .before .before .before .args .states) (arcsAs (now (c .before .before .before .before .before .before .args .before))) (record { source = c .before .before .before .before .number-at .ensures i; upper = c .before .before .before .byte-as-cell .ensures .1 i; lower = c .before .before .byte-as-cell2 .ensures .1 i; target = c .before .number-at2 .ensures i })))
 
 pub arc-item-spec : {M : Type 1} → statement M
 arc-item-spec =
     tie.close
     (tie.spec
     number-at-requires
-    array-read-letter
-    letter-requires
-    array-read-letter-2
-    letter-requires-2
+    array-read-byte-as-cell
+    byte-as-cell-requires
+    array-read-byte-as-cell-2
+    byte-as-cell-requires-2
     number-at-requires-2
     arc-fault-requires
     returns)

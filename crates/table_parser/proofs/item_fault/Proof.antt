@@ -4,7 +4,7 @@ use denote.Ref.{now}
 use borrow.Author.Needs.{needs}
 use Rattle.table_rules.specs.Judge.{judged}
 use Rattle.table_format.specs.Parse.{arc, codeOf, widthOf, due, itemFaults, kindFaults}
-use Rattle.table_parser.proofs.Draft.{byte-at, number-as, arc-as, kind-one, misplaced, not-code, not-wide, width-three, end-due, end-right, end-wrong, judged-initial, judged-terminal, judged-arc, drafted-bounds, drafted-initials, drafted-terminals, drafted-arcs, drafted-ready}
+use Rattle.table_parser.proofs.Draft.{byte-at, number-as, arc-as, kind-one, misplaced, not-code, not-cell-as-index, width-three, end-due, end-right, end-wrong, judged-initial, judged-terminal, judged-arc, drafted-bounds, drafted-initials, drafted-terminals, drafted-arcs, drafted-ready}
 use Rattle.table_parser.proofs.item_fault.Statement.{statement}
 use Rattle.table_parser.proofs.item_fault.Tie as tie
 
@@ -18,26 +18,26 @@ returns-2 : tie.Need-returns-2
 returns-2 c =
     λ d t b T e p q.
     let k = kind-one 4 (due d t) (sym (c .before .if2 .taken) ∙ e) in
-    sym (ap (λ x. judged (kindFaults x t b)) k ∙ misplaced (itemFaults arc t b) (not-wide 4 7 b (λ z. c .if3 .taken (q ∙ z))))
+    sym (ap (λ x. judged (kindFaults x t b)) k ∙ misplaced (itemFaults arc t b) (not-cell-as-index 4 7 b (λ z. c .if3 .taken (q ∙ z))))
 
-shared-slice-read-wide : tie.Need-shared-slice-read-wide
-shared-slice-read-wide c =
+shared-slice-read-cell-as-index : tie.Need-shared-slice-read-cell-as-index
+shared-slice-read-cell-as-index c =
     let w = drafted-bounds (c .before .before .before .before .before .args .lines) (c .before .before .before .before .before .args .filled) (c .before .before .before .before .before .args .top) (now (c .before .before .before .before .before .args .cells)) (c .before .before .before .before .before .args .kind) (c .before .before .before .before .before .pre) in
     omega (arith, w .0, w .1)
 
-wide-requires : tie.Need-wide-requires
-wide-requires c κs = search needs
+cell-as-index-requires : tie.Need-cell-as-index-requires
+cell-as-index-requires c κs = search needs
 
 add-from : tie.Need-add-from
 add-from c = search needs
 
-shared-slice-read-wide-2 : tie.Need-shared-slice-read-wide-2
-shared-slice-read-wide-2 c =
+shared-slice-read-cell-as-index-2 : tie.Need-shared-slice-read-cell-as-index-2
+shared-slice-read-cell-as-index-2 c =
     let w = drafted-bounds (c .before .before .before .before .before .before .before .args .lines) (c .before .before .before .before .before .before .before .args .filled) (c .before .before .before .before .before .before .before .args .top) (now (c .before .before .before .before .before .before .before .args .cells)) (c .before .before .before .before .before .before .before .args .kind) (c .before .before .before .before .before .before .before .pre) in
     omega (arith, w .0, w .1)
 
-wide-requires-2 : tie.Need-wide-requires-2
-wide-requires-2 c κs = search needs
+cell-as-index-requires-2 : tie.Need-cell-as-index-requires-2
+cell-as-index-requires-2 c κs = search needs
 
 add-from-2 : tie.Need-add-from-2
 add-from-2 c = search needs
@@ -46,25 +46,25 @@ mul-arc-item : tie.Need-mul-arc-item
 mul-arc-item c =
     let w = drafted-bounds (c .before .before .before .before .before .before .before .before .args .lines) (c .before .before .before .before .before .before .before .before .args .filled) (c .before .before .before .before .before .before .before .before .args .top) (now (c .before .before .before .before .before .before .before .before .args .cells)) (c .before .before .before .before .before .before .before .before .args .kind) (c .before .before .before .before .before .before .before .before .pre) in
     let v = drafted-arcs (c .before .before .before .before .before .before .before .before .args .lines) (c .before .before .before .before .before .before .before .before .args .filled) (c .before .before .before .before .before .before .before .before .args .top) (now (c .before .before .before .before .before .before .before .before .args .cells)) (c .before .before .before .before .before .before .before .before .args .kind) (c .before .before .before .before .before .before .before .before .pre) (c .before .before .before .before .before .if2 .taken) in
-    omega (arith, w .0, w .1, v, c .before .before .wide .ensures .0, c .wide2 .ensures .0)
+    omega (arith, w .0, w .1, v, c .before .before .cell-as-index .ensures .0, c .cell-as-index2 .ensures .0)
 
 sub-arc-item : tie.Need-sub-arc-item
 sub-arc-item c =
     let w = drafted-bounds (c .before .before .before .before .before .before .before .before .args .lines) (c .before .before .before .before .before .before .before .before .args .filled) (c .before .before .before .before .before .before .before .before .args .top) (now (c .before .before .before .before .before .before .before .before .args .cells)) (c .before .before .before .before .before .before .before .before .args .kind) (c .before .before .before .before .before .before .before .before .pre) in
     let v = drafted-arcs (c .before .before .before .before .before .before .before .before .args .lines) (c .before .before .before .before .before .before .before .before .args .filled) (c .before .before .before .before .before .before .before .before .args .top) (now (c .before .before .before .before .before .before .before .before .args .cells)) (c .before .before .before .before .before .before .before .before .args .kind) (c .before .before .before .before .before .before .before .before .pre) (c .before .before .before .before .before .if2 .taken) in
-    omega (arith, w .0, w .1, v, c .before .before .wide .ensures .0, c .wide2 .ensures .0)
+    omega (arith, w .0, w .1, v, c .before .before .cell-as-index .ensures .0, c .cell-as-index2 .ensures .0)
 
 part-arc-item-start : tie.Need-part-arc-item-start
 part-arc-item-start c =
     let w = drafted-bounds (c .before .before .before .before .before .before .before .before .args .lines) (c .before .before .before .before .before .before .before .before .args .filled) (c .before .before .before .before .before .before .before .before .args .top) (now (c .before .before .before .before .before .before .before .before .args .cells)) (c .before .before .before .before .before .before .before .before .args .kind) (c .before .before .before .before .before .before .before .before .pre) in
     let v = drafted-arcs (c .before .before .before .before .before .before .before .before .args .lines) (c .before .before .before .before .before .before .before .before .args .filled) (c .before .before .before .before .before .before .before .before .args .top) (now (c .before .before .before .before .before .before .before .before .args .cells)) (c .before .before .before .before .before .before .before .before .args .kind) (c .before .before .before .before .before .before .before .before .pre) (c .before .before .before .before .before .if2 .taken) in
-    omega (arith, w .0, w .1, v, c .before .before .wide .ensures .0, c .wide2 .ensures .0)
+    omega (arith, w .0, w .1, v, c .before .before .cell-as-index .ensures .0, c .cell-as-index2 .ensures .0)
 
 part-arc-item-end : tie.Need-part-arc-item-end
 part-arc-item-end c =
     let w = drafted-bounds (c .before .before .before .before .before .before .before .before .args .lines) (c .before .before .before .before .before .before .before .before .args .filled) (c .before .before .before .before .before .before .before .before .args .top) (now (c .before .before .before .before .before .before .before .before .args .cells)) (c .before .before .before .before .before .before .before .before .args .kind) (c .before .before .before .before .before .before .before .before .pre) in
     let v = drafted-arcs (c .before .before .before .before .before .before .before .before .args .lines) (c .before .before .before .before .before .before .before .before .args .filled) (c .before .before .before .before .before .before .before .before .args .top) (now (c .before .before .before .before .before .before .before .before .args .cells)) (c .before .before .before .before .before .before .before .before .args .kind) (c .before .before .before .before .before .before .before .before .pre) (c .before .before .before .before .before .if2 .taken) in
-    omega (arith, w .0, w .1, v, c .before .before .wide .ensures .0, c .wide2 .ensures .0)
+    omega (arith, w .0, w .1, v, c .before .before .cell-as-index .ensures .0, c .cell-as-index2 .ensures .0)
 
 shared-slice-read-arc-item : tie.Need-shared-slice-read-arc-item
 shared-slice-read-arc-item c =
@@ -72,13 +72,13 @@ shared-slice-read-arc-item c =
     omega (arith, w .0, w .1)
 
 arc-item-requires : tie.Need-arc-item-requires
-arc-item-requires c κs = drafted-ready (c .before .before .before .before .before .before .before .before .before .before .args .lines) (c .before .before .before .before .before .before .before .before .before .before .args .filled) (c .before .before .before .before .before .before .before .before .before .before .args .top) (now (c .before .before .before .before .before .before .before .before .before .before .args .cells)) (c .before .before .before .before .before .before .before .before .before .before .args .kind) (c .before .before .before .before .before .before .before .before .before .before .pre) _ (omega (arith, c .before .before .before .before .wide .ensures .0, c .before .before .wide2 .ensures .0)) (c .before .before .before .before .before .before .before .if2 .taken)
+arc-item-requires c κs = drafted-ready (c .before .before .before .before .before .before .before .before .before .before .args .lines) (c .before .before .before .before .before .before .before .before .before .before .args .filled) (c .before .before .before .before .before .before .before .before .before .before .args .top) (now (c .before .before .before .before .before .before .before .before .before .before .args .cells)) (c .before .before .before .before .before .before .before .before .before .before .args .kind) (c .before .before .before .before .before .before .before .before .before .before .pre) _ (omega (arith, c .before .before .before .before .cell-as-index .ensures .0, c .before .before .cell-as-index2 .ensures .0)) (c .before .before .before .before .before .before .before .if2 .taken)
 
 returns-3 : tie.Need-returns-3
 returns-3 c =
     λ d t b T e p q.
     c .arc-item .ensures
-    ∙ judged-arc d t (c .before .before .before .before .before .before .before .before .before .before .before .args .lines) (c .before .before .before .before .before .before .before .before .before .before .before .args .filled) (c .before .before .before .before .before .before .before .before .before .before .before .args .top) (now (c .before .before .before .before .before .before .before .before .before .before .before .args .cells)) T _ _ b (omega (arith, c .before .before .before .before .before .wide .ensures .0, c .before .before .before .wide2 .ensures .0)) (sym (c .before .before .before .before .before .before .before .before .if2 .taken) ∙ e)
+    ∙ judged-arc d t (c .before .before .before .before .before .before .before .before .before .before .before .args .lines) (c .before .before .before .before .before .before .before .before .before .before .before .args .filled) (c .before .before .before .before .before .before .before .before .before .before .before .args .top) (now (c .before .before .before .before .before .before .before .before .before .before .before .args .cells)) T _ _ b (omega (arith, c .before .before .before .before .before .cell-as-index .ensures .0, c .before .before .before .cell-as-index2 .ensures .0)) (sym (c .before .before .before .before .before .before .before .before .if2 .taken) ∙ e)
     (sym (byte-at (c .before .before .before .before .before .before .before .before .before .before .before .args .t3) b p 0 (omega arith)) ∙ c .before .before .before .before .before .before .before .before .before .if1 .left ∙ c .before .before .before .before .before .before .before .before .if2 .taken) (sym q ∙ c .before .before .before .before .before .before .before .if3 .left) (arc-as (c .before .before .before .before .before .before .before .before .before .before .before .args .t3) b p)
 
 returns-4 : tie.Need-returns-4
@@ -86,7 +86,7 @@ returns-4 c =
     λ d t b T e p q.
     sym
     (misplaced (itemFaults (due d t) t b)
-    (not-wide (codeOf (due d t)) (widthOf (due d t)) b (λ z. c .if4 .taken (q ∙ z ∙ width-three d t (c .before .before .before .before .args .lines) (c .before .before .before .before .args .filled) (c .before .before .before .before .args .top) (now (c .before .before .before .before .args .cells)) T (λ y. c .before .if2 .left (e ∙ y))))))
+    (not-cell-as-index (codeOf (due d t)) (widthOf (due d t)) b (λ z. c .if4 .taken (q ∙ z ∙ width-three d t (c .before .before .before .before .args .lines) (c .before .before .before .before .args .filled) (c .before .before .before .before .args .top) (now (c .before .before .before .before .args .cells)) T (λ y. c .before .if2 .left (e ∙ y))))))
 
 number-at-requires : tie.Need-number-at-requires
 number-at-requires c κs = search needs
@@ -121,13 +121,13 @@ returns-5 c =
     ∙ judged-initial d t (c .before .before .before .before .before .before .before .before .before .args .lines) (c .before .before .before .before .before .before .before .before .before .args .filled) (c .before .before .before .before .before .before .before .before .before .args .top) (now (c .before .before .before .before .before .before .before .before .before .args .cells)) T _ b (sym (c .before .before .before .if5 .taken) ∙ e) (sym (byte-at (c .before .before .before .before .before .before .before .before .before .args .t3) b p 0 (omega arith)) ∙ c .before .before .before .before .before .before .before .if1 .left ∙ c .before .before .before .if5 .taken) (sym q ∙ c .before .before .before .before .before .if4 .left)
     (c .before .before .before .before .number-at .ensures ∙ number-as (c .before .before .before .before .before .before .before .before .before .args .t3) b p 1 (omega arith))
 
-shared-slice-read-wide-3 : tie.Need-shared-slice-read-wide-3
-shared-slice-read-wide-3 c =
+shared-slice-read-cell-as-index-3 : tie.Need-shared-slice-read-cell-as-index-3
+shared-slice-read-cell-as-index-3 c =
     let w = drafted-bounds (c .before .before .before .before .before .before .before .before .args .lines) (c .before .before .before .before .before .before .before .before .args .filled) (c .before .before .before .before .before .before .before .before .args .top) (now (c .before .before .before .before .before .before .before .before .args .cells)) (c .before .before .before .before .before .before .before .before .args .kind) (c .before .before .before .before .before .before .before .before .pre) in
     omega (arith, w .0, w .1)
 
-wide-requires-3 : tie.Need-wide-requires-3
-wide-requires-3 c κs = search needs
+cell-as-index-requires-3 : tie.Need-cell-as-index-requires-3
+cell-as-index-requires-3 c κs = search needs
 
 add-from-3 : tie.Need-add-from-3
 add-from-3 c = search needs
@@ -136,25 +136,25 @@ mul-terminal-fault : tie.Need-mul-terminal-fault
 mul-terminal-fault c =
     let w = drafted-bounds (c .before .before .before .before .before .before .before .before .before .args .lines) (c .before .before .before .before .before .before .before .before .before .args .filled) (c .before .before .before .before .before .before .before .before .before .args .top) (now (c .before .before .before .before .before .before .before .before .before .args .cells)) (c .before .before .before .before .before .before .before .before .before .args .kind) (c .before .before .before .before .before .before .before .before .before .pre) in
     let v = drafted-terminals (c .before .before .before .before .before .before .before .before .before .args .lines) (c .before .before .before .before .before .before .before .before .before .args .filled) (c .before .before .before .before .before .before .before .before .before .args .top) (now (c .before .before .before .before .before .before .before .before .before .args .cells)) (c .before .before .before .before .before .before .before .before .before .args .kind) (c .before .before .before .before .before .before .before .before .before .pre) (c .before .before .if6 .taken) in
-    omega (arith, w .0, w .1, v, c .wide3 .ensures .0)
+    omega (arith, w .0, w .1, v, c .cell-as-index3 .ensures .0)
 
 sub-terminal-fault : tie.Need-sub-terminal-fault
 sub-terminal-fault c =
     let w = drafted-bounds (c .before .before .before .before .before .before .before .before .before .args .lines) (c .before .before .before .before .before .before .before .before .before .args .filled) (c .before .before .before .before .before .before .before .before .before .args .top) (now (c .before .before .before .before .before .before .before .before .before .args .cells)) (c .before .before .before .before .before .before .before .before .before .args .kind) (c .before .before .before .before .before .before .before .before .before .pre) in
     let v = drafted-terminals (c .before .before .before .before .before .before .before .before .before .args .lines) (c .before .before .before .before .before .before .before .before .before .args .filled) (c .before .before .before .before .before .before .before .before .before .args .top) (now (c .before .before .before .before .before .before .before .before .before .args .cells)) (c .before .before .before .before .before .before .before .before .before .args .kind) (c .before .before .before .before .before .before .before .before .before .pre) (c .before .before .if6 .taken) in
-    omega (arith, w .0, w .1, v, c .wide3 .ensures .0)
+    omega (arith, w .0, w .1, v, c .cell-as-index3 .ensures .0)
 
 part-terminal-fault-start : tie.Need-part-terminal-fault-start
 part-terminal-fault-start c =
     let w = drafted-bounds (c .before .before .before .before .before .before .before .before .before .args .lines) (c .before .before .before .before .before .before .before .before .before .args .filled) (c .before .before .before .before .before .before .before .before .before .args .top) (now (c .before .before .before .before .before .before .before .before .before .args .cells)) (c .before .before .before .before .before .before .before .before .before .args .kind) (c .before .before .before .before .before .before .before .before .before .pre) in
     let v = drafted-terminals (c .before .before .before .before .before .before .before .before .before .args .lines) (c .before .before .before .before .before .before .before .before .before .args .filled) (c .before .before .before .before .before .before .before .before .before .args .top) (now (c .before .before .before .before .before .before .before .before .before .args .cells)) (c .before .before .before .before .before .before .before .before .before .args .kind) (c .before .before .before .before .before .before .before .before .before .pre) (c .before .before .if6 .taken) in
-    omega (arith, w .0, w .1, v, c .wide3 .ensures .0)
+    omega (arith, w .0, w .1, v, c .cell-as-index3 .ensures .0)
 
 part-terminal-fault-end : tie.Need-part-terminal-fault-end
 part-terminal-fault-end c =
     let w = drafted-bounds (c .before .before .before .before .before .before .before .before .before .args .lines) (c .before .before .before .before .before .before .before .before .before .args .filled) (c .before .before .before .before .before .before .before .before .before .args .top) (now (c .before .before .before .before .before .before .before .before .before .args .cells)) (c .before .before .before .before .before .before .before .before .before .args .kind) (c .before .before .before .before .before .before .before .before .before .pre) in
     let v = drafted-terminals (c .before .before .before .before .before .before .before .before .before .args .lines) (c .before .before .before .before .before .before .before .before .before .args .filled) (c .before .before .before .before .before .before .before .before .before .args .top) (now (c .before .before .before .before .before .before .before .before .before .args .cells)) (c .before .before .before .before .before .before .before .before .before .args .kind) (c .before .before .before .before .before .before .before .before .before .pre) (c .before .before .if6 .taken) in
-    omega (arith, w .0, w .1, v, c .wide3 .ensures .0)
+    omega (arith, w .0, w .1, v, c .cell-as-index3 .ensures .0)
 
 shared-slice-read-terminal-fault : tie.Need-shared-slice-read-terminal-fault
 shared-slice-read-terminal-fault c =
@@ -168,11 +168,11 @@ returns-6 : tie.Need-returns-6
 returns-6 c =
     λ d t b T e p q.
     c .terminal-fault .ensures
-    ∙ judged-terminal d t (c .before .before .before .before .before .before .before .before .before .before .before .before .args .lines) (c .before .before .before .before .before .before .before .before .before .before .before .before .args .filled) (c .before .before .before .before .before .before .before .before .before .before .before .before .args .top) (now (c .before .before .before .before .before .before .before .before .before .before .before .before .args .cells)) T _ _ b (omega (arith, c .before .before .before .wide3 .ensures .0)) (sym (c .before .before .before .before .before .if6 .taken) ∙ e) (sym (byte-at (c .before .before .before .before .before .before .before .before .before .before .before .before .args .t3) b p 0 (omega arith)) ∙ c .before .before .before .before .before .before .before .before .before .before .if1 .left ∙ c .before .before .before .before .before .if6 .taken) (sym q ∙ c .before .before .before .before .before .before .before .before .if4 .left)
+    ∙ judged-terminal d t (c .before .before .before .before .before .before .before .before .before .before .before .before .args .lines) (c .before .before .before .before .before .before .before .before .before .before .before .before .args .filled) (c .before .before .before .before .before .before .before .before .before .before .before .before .args .top) (now (c .before .before .before .before .before .before .before .before .before .before .before .before .args .cells)) T _ _ b (omega (arith, c .before .before .before .cell-as-index3 .ensures .0)) (sym (c .before .before .before .before .before .if6 .taken) ∙ e) (sym (byte-at (c .before .before .before .before .before .before .before .before .before .before .before .before .args .t3) b p 0 (omega arith)) ∙ c .before .before .before .before .before .before .before .before .before .before .if1 .left ∙ c .before .before .before .before .before .if6 .taken) (sym q ∙ c .before .before .before .before .before .before .before .before .if4 .left)
     (c .before .before .before .before .before .before .before .number-at .ensures ∙ number-as (c .before .before .before .before .before .before .before .before .before .before .before .before .args .t3) b p 1 (omega arith))
 
-wide-requires-4 : tie.Need-wide-requires-4
-wide-requires-4 c κs = search needs
+cell-as-index-requires-4 : tie.Need-cell-as-index-requires-4
+cell-as-index-requires-4 c κs = search needs
 
 returns-7 : tie.Need-returns-7
 returns-7 c =
@@ -180,7 +180,7 @@ returns-7 c =
     let k = end-due d t (c .before .before .before .before .before .before .before .before .before .args .lines) (c .before .before .before .before .before .before .before .before .before .args .filled) (c .before .before .before .before .before .before .before .before .before .args .top) (now (c .before .before .before .before .before .before .before .before .before .args .cells)) T (λ z. c .before .before .before .if5 .left (e ∙ z)) (λ z. c .before .before .if6 .left (e ∙ z)) (λ z. c .before .before .before .before .before .before .if2 .left (e ∙ z)) in
     sym
     (end-right d t (c .before .before .before .before .before .before .before .before .before .args .lines) (c .before .before .before .before .before .before .before .before .before .args .filled) (c .before .before .before .before .before .before .before .before .before .args .top) (now (c .before .before .before .before .before .before .before .before .before .args .cells)) T b k (sym (byte-at (c .before .before .before .before .before .before .before .before .before .args .t3) b p 0 (omega arith)) ∙ c .before .before .before .before .before .before .before .if1 .left ∙ e ∙ ap codeOf k) (sym q ∙ c .before .before .before .before .before .if4 .left)
-    (sym (number-as (c .before .before .before .before .before .before .before .before .before .args .t3) b p 1 (omega arith)) ∙ sym (c .before .before .before .before .number-at .ensures) ∙ sym (c .before .wide4 .ensures .0) ∙ c .if7 .taken))
+    (sym (number-as (c .before .before .before .before .before .before .before .before .before .args .t3) b p 1 (omega arith)) ∙ sym (c .before .before .before .before .number-at .ensures) ∙ sym (c .before .cell-as-index4 .ensures .0) ∙ c .if7 .taken))
 
 returns-8 : tie.Need-returns-8
 returns-8 c =
@@ -188,7 +188,7 @@ returns-8 c =
     let k = end-due d t (c .before .before .before .before .before .before .before .before .before .args .lines) (c .before .before .before .before .before .before .before .before .before .args .filled) (c .before .before .before .before .before .before .before .before .before .args .top) (now (c .before .before .before .before .before .before .before .before .before .args .cells)) T (λ z. c .before .before .before .if5 .left (e ∙ z)) (λ z. c .before .before .if6 .left (e ∙ z)) (λ z. c .before .before .before .before .before .before .if2 .left (e ∙ z)) in
     sym
     (end-wrong d t (c .before .before .before .before .before .before .before .before .before .args .lines) (c .before .before .before .before .before .before .before .before .before .args .filled) (c .before .before .before .before .before .before .before .before .before .args .top) (now (c .before .before .before .before .before .before .before .before .before .args .cells)) T b k (sym (byte-at (c .before .before .before .before .before .before .before .before .before .args .t3) b p 0 (omega arith)) ∙ c .before .before .before .before .before .before .before .if1 .left ∙ e ∙ ap codeOf k) (sym q ∙ c .before .before .before .before .before .if4 .left)
-    (λ z. c .if7 .left (c .before .wide4 .ensures .0 ∙ c .before .before .before .before .number-at .ensures ∙ number-as (c .before .before .before .before .before .before .before .before .before .args .t3) b p 1 (omega arith) ∙ z)))
+    (λ z. c .if7 .left (c .before .cell-as-index4 .ensures .0 ∙ c .before .before .before .before .number-at .ensures ∙ number-as (c .before .before .before .before .before .before .before .before .before .args .t3) b p 1 (omega arith) ∙ z)))
 
 pub item-fault-spec : {M : Type 1} → statement M
 item-fault-spec =
@@ -197,11 +197,11 @@ item-fault-spec =
     array-read-if1
     returns
     returns-2
-    shared-slice-read-wide
-    wide-requires
+    shared-slice-read-cell-as-index
+    cell-as-index-requires
     add-from
-    shared-slice-read-wide-2
-    wide-requires-2
+    shared-slice-read-cell-as-index-2
+    cell-as-index-requires-2
     add-from-2
     mul-arc-item
     sub-arc-item
@@ -218,8 +218,8 @@ item-fault-spec =
     shared-slice-read-initial-fault
     initial-fault-requires
     returns-5
-    shared-slice-read-wide-3
-    wide-requires-3
+    shared-slice-read-cell-as-index-3
+    cell-as-index-requires-3
     add-from-3
     mul-terminal-fault
     sub-terminal-fault
@@ -228,6 +228,6 @@ item-fault-spec =
     shared-slice-read-terminal-fault
     terminal-fault-requires
     returns-6
-    wide-requires-4
+    cell-as-index-requires-4
     returns-7
     returns-8)

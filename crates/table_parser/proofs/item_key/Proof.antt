@@ -23,17 +23,17 @@ returns c =
 number-at-requires-2 : tie.Need-number-at-requires-2
 number-at-requires-2 c κs = search needs
 
-array-read-letter : tie.Need-array-read-letter
-array-read-letter c = search needs
+array-read-byte-as-cell : tie.Need-array-read-byte-as-cell
+array-read-byte-as-cell c = search needs
 
-letter-requires : tie.Need-letter-requires
-letter-requires c κs = search needs
+byte-as-cell-requires : tie.Need-byte-as-cell-requires
+byte-as-cell-requires c κs = search needs
 
-array-read-letter-2 : tie.Need-array-read-letter-2
-array-read-letter-2 c = search needs
+array-read-byte-as-cell-2 : tie.Need-array-read-byte-as-cell-2
+array-read-byte-as-cell-2 c = search needs
 
-letter-requires-2 : tie.Need-letter-requires-2
-letter-requires-2 c κs = search needs
+byte-as-cell-requires-2 : tie.Need-byte-as-cell-requires-2
+byte-as-cell-requires-2 c κs = search needs
 
 number-at-requires-3 : tie.Need-number-at-requires-3
 number-at-requires-3 c κs = search needs
@@ -45,7 +45,7 @@ returns-2 : tie.Need-returns-2
 returns-2 c =
     λ k b e i p.
     let told : c .arc-key .result ≡ arcKey (arcFrom (c .before .before .before .before .before .before .before .args .t2)) =
-    c .arc-key .ensures ∙ (λ j. arcKey (record { source = c .before .before .before .before .number-at2 .ensures j; upper = c .before .before .before .letter .ensures j; lower = c .before .before .letter2 .ensures j; target = c .before .number-at3 .ensures j })) in
+    c .arc-key .ensures ∙ (λ j. arcKey (record { source = c .before .before .before .before .number-at2 .ensures j; upper = c .before .before .before .byte-as-cell .ensures .1 j; lower = c .before .before .byte-as-cell2 .ensures .1 j; target = c .before .number-at3 .ensures j })) in
     omega (arith, ap (λ j. itemKey j b) (kind-one 4 k (sym (c .before .before .before .before .before .if2 .taken) ∙ e)), told, ap arcKey (arc-as (c .before .before .before .before .before .before .before .args .t2) b p))
 
 returns-3 : tie.Need-returns-3
@@ -59,10 +59,10 @@ item-key-spec =
     state-key-requires
     returns
     number-at-requires-2
-    array-read-letter
-    letter-requires
-    array-read-letter-2
-    letter-requires-2
+    array-read-byte-as-cell
+    byte-as-cell-requires
+    array-read-byte-as-cell-2
+    byte-as-cell-requires-2
     number-at-requires-3
     arc-key-requires
     returns-2

@@ -20,11 +20,11 @@ returns c = begun-refused (openedQuery (now (c .before .before .before .before .
 enum-told : tie.Need-enum-told
 enum-told c = search needs
 
-array-read-longer : tie.Need-array-read-longer
-array-read-longer c = search needs
+array-read-byte-as-count : tie.Need-array-read-byte-as-count
+array-read-byte-as-count c = search needs
 
-longer-requires : tie.Need-longer-requires
-longer-requires c κs = search needs
+byte-as-count-requires : tie.Need-byte-as-count-requires
+byte-as-count-requires c κs = search needs
 
 upper-requires : tie.Need-upper-requires
 upper-requires c κs = search needs
@@ -39,7 +39,7 @@ enum-known-answer : tie.Need-enum-known-answer
 enum-known-answer c = search needs
 
 returns-2 : tie.Need-returns-2
-returns-2 c = start-refused (now (c .before .before .before .before .before .before .before .before .before .before .before .before .before .before .args .cells)) (linesOf (now (c .before .before .before .before .before .before .before .before .before .before .before .before .before .before .args .text))) (c .before .before .before .before .before .before .before .before .before .before .before .query .result) (c .before .before .before .before .before .before .before .before .before .before .before .query .ensures) (c .before .before .before .before .before .before .before .before .before .enum-told .given .1) (c .before .before .before .before .before .before .before .longer .result) (c .before .before .before .before .before .before .before .longer .ensures) _ _ (c .before .before .before .before .before .upper .ensures) (c .before .before .before .before .lower .ensures) (c .before .before .before .start .result) (c .before .before .before .start .ensures) (now (c .before .before .before .before .before .before .before .before .before .before .before .before .before .before .args .table)) (now (c .before .before .before .before .before .before .before .before .before .before .before .before .before .before .args .query)) _ (c .before .answer .given .1)
+returns-2 c = start-refused (now (c .before .before .before .before .before .before .before .before .before .before .before .before .before .before .args .cells)) (linesOf (now (c .before .before .before .before .before .before .before .before .before .before .before .before .before .before .args .text))) (c .before .before .before .before .before .before .before .before .before .before .before .query .result) (c .before .before .before .before .before .before .before .before .before .before .before .query .ensures) (c .before .before .before .before .before .before .before .before .before .enum-told .given .1) (c .before .before .before .before .before .before .before .byte-as-count .result) (c .before .before .before .before .before .before .before .byte-as-count .ensures) _ _ (c .before .before .before .before .before .upper .ensures) (c .before .before .before .before .lower .ensures) (c .before .before .before .start .result) (c .before .before .before .start .ensures) (now (c .before .before .before .before .before .before .before .before .before .before .before .before .before .before .args .table)) (now (c .before .before .before .before .before .before .before .before .before .before .before .before .before .before .args .query)) _ (c .before .answer .given .1)
 
 enum-told-2 : tie.Need-enum-told-2
 enum-told-2 c = search needs
@@ -51,7 +51,7 @@ first-talk-requires : tie.Need-first-talk-requires
 first-talk-requires c κs = search needs
 
 returns-3 : tie.Need-returns-3
-returns-3 c = start-ready (now (c .before .before .before .before .before .before .before .before .before .before .before .before .before .before .before .before .args .cells)) (linesOf (now (c .before .before .before .before .before .before .before .before .before .before .before .before .before .before .before .before .args .text))) (c .before .before .before .before .before .before .before .before .before .before .before .before .before .query .result) (c .before .before .before .before .before .before .before .before .before .before .before .before .before .query .ensures) (c .before .before .before .before .before .before .before .before .before .before .before .enum-told .given .1) (c .before .before .before .before .before .before .before .before .before .longer .result) (c .before .before .before .before .before .before .before .before .before .longer .ensures) _ _ (c .before .before .before .before .before .before .before .upper .ensures) (c .before .before .before .before .before .before .lower .ensures) (c .before .before .before .before .before .start .result) (c .before .before .before .before .before .start .ensures) (now (c .before .before .before .before .before .before .before .before .before .before .before .before .before .before .before .before .args .table)) (now (c .before .before .before .before .before .before .before .before .before .before .before .before .before .before .before .before .args .query)) (c .before .before .before .enum-told2 .given .1) _ _ (c .first-talk .ensures) (c .before .copy-cells .ensures)
+returns-3 c = start-ready (now (c .before .before .before .before .before .before .before .before .before .before .before .before .before .before .before .before .args .cells)) (linesOf (now (c .before .before .before .before .before .before .before .before .before .before .before .before .before .before .before .before .args .text))) (c .before .before .before .before .before .before .before .before .before .before .before .before .before .query .result) (c .before .before .before .before .before .before .before .before .before .before .before .before .before .query .ensures) (c .before .before .before .before .before .before .before .before .before .before .before .enum-told .given .1) (c .before .before .before .before .before .before .before .before .before .byte-as-count .result) (c .before .before .before .before .before .before .before .before .before .byte-as-count .ensures) _ _ (c .before .before .before .before .before .before .before .upper .ensures) (c .before .before .before .before .before .before .lower .ensures) (c .before .before .before .before .before .start .result) (c .before .before .before .before .before .start .ensures) (now (c .before .before .before .before .before .before .before .before .before .before .before .before .before .before .before .before .args .table)) (now (c .before .before .before .before .before .before .before .before .before .before .before .before .before .before .before .before .args .query)) (c .before .before .before .enum-told2 .given .1) _ _ (c .first-talk .ensures) (c .before .copy-cells .ensures)
 
 pub begin-query-spec : {M : Type 1} → statement M
 begin-query-spec =
@@ -61,8 +61,8 @@ begin-query-spec =
     enum-known-asking
     returns
     enum-told
-    array-read-longer
-    longer-requires
+    array-read-byte-as-count
+    byte-as-count-requires
     upper-requires
     lower-requires
     start-requires

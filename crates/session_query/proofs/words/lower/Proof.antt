@@ -10,11 +10,11 @@ use Rattle.session_query.specs.Query.{upperLength, lowerLength}
 use Rattle.session_query.proofs.words.lower.Statement.{statement}
 use Rattle.session_query.proofs.words.lower.Tie as tie
 
-element-copy-out-wide : tie.Need-element-copy-out-wide
-element-copy-out-wide c = search needs
+element-copy-out-byte-as-index : tie.Need-element-copy-out-byte-as-index
+element-copy-out-byte-as-index c = search needs
 
-wide-requires : tie.Need-wide-requires
-wide-requires c κs = search needs
+byte-as-index-requires : tie.Need-byte-as-index-requires
+byte-as-index-requires c κs = search needs
 
 add-at : tie.Need-add-at
 add-at c = search needs
@@ -22,11 +22,11 @@ add-at c = search needs
 add-start : tie.Need-add-start
 add-start c = search needs
 
-element-copy-out-wide-2 : tie.Need-element-copy-out-wide-2
-element-copy-out-wide-2 c = search needs
+element-copy-out-byte-as-index-2 : tie.Need-element-copy-out-byte-as-index-2
+element-copy-out-byte-as-index-2 c = search needs
 
-wide-requires-2 : tie.Need-wide-requires-2
-wide-requires-2 c κs = search needs
+byte-as-index-requires-2 : tie.Need-byte-as-index-requires-2
+byte-as-index-requires-2 c κs = search needs
 
 add-end : tie.Need-add-end
 add-end c = search needs
@@ -43,22 +43,22 @@ part-result-end c = search needs
 returns : tie.Need-returns
 returns c =
     let b : List ℕ = now (c .before .before .before .before .before .before .args .query) in
-    let up : c .before .before .before .before .wide .result ≡ upperLength b = c .before .before .before .before .wide .ensures .0 in
-    let low : c .before .before .wide2 .result ≡ lowerLength b = c .before .before .wide2 .ensures .0 ∙ ap (λ (n : ℕ). getD b (3 + n) 0) up in
-    let from : 3 + c .before .before .before .before .wide .result + 1 ≡ 4 + upperLength b = omega arith in
-    let size : 3 + c .before .before .before .before .wide .result + 1 + c .before .before .wide2 .result - (3 + c .before .before .before .before .wide .result + 1) ≡ lowerLength b = omega arith in
+    let up : c .before .before .before .before .byte-as-index .result ≡ upperLength b = c .before .before .before .before .byte-as-index .ensures .0 in
+    let low : c .before .before .byte-as-index2 .result ≡ lowerLength b = c .before .before .byte-as-index2 .ensures .0 ∙ ap (λ (n : ℕ). getD b (3 + n) 0) up in
+    let from : 3 + c .before .before .before .before .byte-as-index .result + 1 ≡ 4 + upperLength b = omega arith in
+    let size : 3 + c .before .before .before .before .byte-as-index .result + 1 + c .before .before .byte-as-index2 .result - (3 + c .before .before .before .before .byte-as-index .result + 1) ≡ lowerLength b = omega arith in
     ap₂ (λ (n k : ℕ). take n (drop k b)) size from
 
 pub lower-spec : {M : Type 1} → statement M
 lower-spec =
     tie.close
     (tie.spec
-    element-copy-out-wide
-    wide-requires
+    element-copy-out-byte-as-index
+    byte-as-index-requires
     add-at
     add-start
-    element-copy-out-wide-2
-    wide-requires-2
+    element-copy-out-byte-as-index-2
+    byte-as-index-requires-2
     add-end
     sub-result
     part-result-start

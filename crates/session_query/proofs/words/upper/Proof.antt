@@ -10,11 +10,11 @@ use Rattle.session_query.specs.Query.{upperLength}
 use Rattle.session_query.proofs.words.upper.Statement.{statement}
 use Rattle.session_query.proofs.words.upper.Tie as tie
 
-element-copy-out-wide : tie.Need-element-copy-out-wide
-element-copy-out-wide c = search needs
+element-copy-out-byte-as-index : tie.Need-element-copy-out-byte-as-index
+element-copy-out-byte-as-index c = search needs
 
-wide-requires : tie.Need-wide-requires
-wide-requires c κs = search needs
+byte-as-index-requires : tie.Need-byte-as-index-requires
+byte-as-index-requires c κs = search needs
 
 add-end : tie.Need-add-end
 add-end c = search needs
@@ -31,15 +31,15 @@ part-result-end c = search needs
 returns : tie.Need-returns
 returns c =
     let b : List ℕ = now (c .before .before .before .before .args .query) in
-    let size : 3 + c .before .before .wide .result - 3 ≡ upperLength b = omega (arith, c .before .before .wide .ensures .0) in
+    let size : 3 + c .before .before .byte-as-index .result - 3 ≡ upperLength b = omega (arith, c .before .before .byte-as-index .ensures .0) in
     ap (λ (n : ℕ). take n (drop 3 b)) size
 
 pub upper-spec : {M : Type 1} → statement M
 upper-spec =
     tie.close
     (tie.spec
-    element-copy-out-wide
-    wide-requires
+    element-copy-out-byte-as-index
+    byte-as-index-requires
     add-end
     sub-result
     part-result-start

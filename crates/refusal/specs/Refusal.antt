@@ -1,11 +1,11 @@
 -- Document 01, "Turned down for the input" and "Turned down for the state": the number of each refusal.
 use Prim.Native.Nat.{ℕ}
-use Rattle.table_format.specs.declared.InputCause.{InputCause}
-use Rattle.table_format.specs.declared.InputCause.the-variants.{Malformed, Misplaced, CountLimit, StateNumber, LetterLimit, StateOrder, SourceOrder, ArcRepeated, LineCount, WordFault, TaskFault, IdleCycle}
-use Rattle.table_format.specs.declared.StateCause.{StateCause}
-use Rattle.table_format.specs.declared.StateCause.the-variants.{LoadedTable, Place, StackFull, OutputFull, DestinationShort}
-use Rattle.table_format.specs.declared.Refusal.{Refusal}
-use Rattle.table_format.specs.declared.Refusal.the-variants.{Input, State}
+use Rattle.refusal.specs.declared.InputCause.{InputCause}
+use Rattle.refusal.specs.declared.InputCause.the-variants.{Malformed, Misplaced, CountLimit, StateNumber, LetterLimit, StateOrder, SourceOrder, ArcRepeated, LineCount, WordFault, TaskFault, IdleCycle}
+use Rattle.refusal.specs.declared.StateCause.{StateCause}
+use Rattle.refusal.specs.declared.StateCause.the-variants.{LoadedTable, Place, StackFull, OutputFull, DestinationShort}
+use Rattle.refusal.specs.declared.Refusal.{Refusal}
+use Rattle.refusal.specs.declared.Refusal.the-variants.{Input, State}
 
 abbrev pub inputNumber : InputCause → ℕ
 inputNumber Malformed = 1

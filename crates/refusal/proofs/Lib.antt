@@ -1,0 +1,2 @@
+-- Laws of the numbers, for the crates above.
+pub mod Numbers

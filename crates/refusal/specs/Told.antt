@@ -1,0 +1,20 @@
+-- An answer in this paper's numbers. The definition of each answer enum says by cases what it tells.
+use Prim.Native.Nat.{ℕ}
+use Rattle.refusal.specs.declared.Refusal.{Refusal}
+use Rattle.refusal.specs.Refusal.{numberOf}
+
+-- its kind (0 done, 1 found, 2 paused, 3 ended, 4 refused), the number of its refusal, the steps made and the length told; what a case
+-- does not have is 0
+pub record Told : Type 0 where
+  pub kind : ℕ
+  pub number : ℕ
+  pub steps : ℕ
+  pub length : ℕ
+
+-- "A refusal carries its number"
+abbrev pub refused : Refusal → ℕ → ℕ → Told
+refused refusal steps length = record { kind = 4; number = numberOf refusal; steps = steps; length = length }
+
+-- an answer that is no refusal
+abbrev pub answered : ℕ → ℕ → ℕ → Told
+answered kind steps length = record { kind = kind; number = 0; steps = steps; length = length }
