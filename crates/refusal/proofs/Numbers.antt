@@ -32,6 +32,7 @@ refusalAt n =
     (cond (eqb n 23) (State OutputFull) (State DestinationShort))))))))))))))))
 
 number-at : (r : Refusal) → refusalAt (numberOf r) ≡ r
+unfolding refusalAt
 number-at (Input Malformed) = refl
 number-at (Input Misplaced) = refl
 number-at (Input CountLimit) = refl

@@ -86,7 +86,7 @@ returns-2 c =
     λ k b e i p.
     let four : itemCells k b ≡ arcCells (arcFrom (c .before .before .before .before .before .before .args .t3)) = ap (λ j. itemCells j b) (kind-one 4 k (sym (c .before .before .before .if1 .left) ∙ e)) ∙ ap arcCells (sym (arc-as (c .before .before .before .before .before .before .args .t3) b p)) in
     let told : c .before .before .before .before .number-at .result ∷ c .before .before .byte-as-cell .result ∷ c .before .byte-as-cell2 .result ∷ c .number-at2 .result ∷ [] ≡ arcCells (arcFrom (c .before .before .before .before .before .before .args .t3)) =
-    λ j. c .before .before .before .before .number-at .ensures j ∷ c .before .before .byte-as-cell .ensures .1 j ∷ c .before .byte-as-cell2 .ensures .1 j ∷ c .number-at2 .ensures j ∷ [] in (
+    λ j. c .before .before .before .before .number-at .ensures j ∷ c .before .before .byte-as-cell .ensures .0 j ∷ c .before .byte-as-cell2 .ensures .0 j ∷ c .number-at2 .ensures j ∷ [] in (
       omega (arith, ap length four),
       put-four (now (c .before .before .before .before .before .before .args .cells)) (c .before .before .before .before .before .before .args .filled) (c .before .before .before .before .number-at .result) (c .before .before .byte-as-cell .result) (c .before .byte-as-cell2 .result) (c .number-at2 .result)
           ∙ ap (sets (now (c .before .before .before .before .before .before .args .cells)) (c .before .before .before .before .before .before .args .filled)) (told ∙ sym four),

@@ -31,7 +31,7 @@ arc-fault-requires c κs = search needs
 returns : tie.Need-returns
 returns c =
     c .arc-fault .ensures
-    ∙ (λ i. judged (arcFaults (c .before .before .before .before .before .before .args .states) (arcsAs (now (c .before .before .before .before .before .before .args .before))) (record { source = c .before .before .before .before .number-at .ensures i; upper = c .before .before .before .byte-as-cell .ensures .1 i; lower = c .before .before .byte-as-cell2 .ensures .1 i; target = c .before .number-at2 .ensures i })))
+    ∙ (λ i. judged (arcFaults (c .before .before .before .before .before .before .args .states) (arcsAs (now (c .before .before .before .before .before .before .args .before))) (record { source = c .before .before .before .before .number-at .ensures i; upper = c .before .before .before .byte-as-cell .ensures .0 i; lower = c .before .before .byte-as-cell2 .ensures .0 i; target = c .before .number-at2 .ensures i })))
 
 pub arc-item-spec : {M : Type 1} → statement M
 arc-item-spec =

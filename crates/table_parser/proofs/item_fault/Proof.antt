@@ -4,7 +4,7 @@ use denote.Ref.{now}
 use borrow.Author.Needs.{needs}
 use Rattle.table_rules.specs.Judge.{judged}
 use Rattle.table_format.specs.Parse.{arc, codeOf, widthOf, due, itemFaults, kindFaults}
-use Rattle.table_parser.proofs.Draft.{byte-at, number-as, arc-as, kind-one, misplaced, not-code, not-cell-as-index, width-three, end-due, end-right, end-wrong, judged-initial, judged-terminal, judged-arc, drafted-bounds, drafted-initials, drafted-terminals, drafted-arcs, drafted-ready}
+use Rattle.table_parser.proofs.Draft.{byte-at, number-as, arc-as, kind-one, misplaced, not-code, not-wide, width-three, end-due, end-right, end-wrong, judged-initial, judged-terminal, judged-arc, drafted-bounds, drafted-initials, drafted-terminals, drafted-arcs, drafted-ready}
 use Rattle.table_parser.proofs.item_fault.Statement.{statement}
 use Rattle.table_parser.proofs.item_fault.Tie as tie
 
@@ -18,7 +18,7 @@ returns-2 : tie.Need-returns-2
 returns-2 c =
     λ d t b T e p q.
     let k = kind-one 4 (due d t) (sym (c .before .if2 .taken) ∙ e) in
-    sym (ap (λ x. judged (kindFaults x t b)) k ∙ misplaced (itemFaults arc t b) (not-cell-as-index 4 7 b (λ z. c .if3 .taken (q ∙ z))))
+    sym (ap (λ x. judged (kindFaults x t b)) k ∙ misplaced (itemFaults arc t b) (not-wide 4 7 b (λ z. c .if3 .taken (q ∙ z))))
 
 shared-slice-read-cell-as-index : tie.Need-shared-slice-read-cell-as-index
 shared-slice-read-cell-as-index c =
@@ -86,7 +86,7 @@ returns-4 c =
     λ d t b T e p q.
     sym
     (misplaced (itemFaults (due d t) t b)
-    (not-cell-as-index (codeOf (due d t)) (widthOf (due d t)) b (λ z. c .if4 .taken (q ∙ z ∙ width-three d t (c .before .before .before .before .args .lines) (c .before .before .before .before .args .filled) (c .before .before .before .before .args .top) (now (c .before .before .before .before .args .cells)) T (λ y. c .before .if2 .left (e ∙ y))))))
+    (not-wide (codeOf (due d t)) (widthOf (due d t)) b (λ z. c .if4 .taken (q ∙ z ∙ width-three d t (c .before .before .before .before .args .lines) (c .before .before .before .before .args .filled) (c .before .before .before .before .args .top) (now (c .before .before .before .before .args .cells)) T (λ y. c .before .if2 .left (e ∙ y))))))
 
 number-at-requires : tie.Need-number-at-requires
 number-at-requires c κs = search needs

@@ -45,7 +45,7 @@ returns-2 : tie.Need-returns-2
 returns-2 c =
     λ k b e i p.
     let told : c .arc-key .result ≡ arcKey (arcFrom (c .before .before .before .before .before .before .before .args .t2)) =
-    c .arc-key .ensures ∙ (λ j. arcKey (record { source = c .before .before .before .before .number-at2 .ensures j; upper = c .before .before .before .byte-as-cell .ensures .1 j; lower = c .before .before .byte-as-cell2 .ensures .1 j; target = c .before .number-at3 .ensures j })) in
+    c .arc-key .ensures ∙ (λ j. arcKey (record { source = c .before .before .before .before .number-at2 .ensures j; upper = c .before .before .before .byte-as-cell .ensures .0 j; lower = c .before .before .byte-as-cell2 .ensures .0 j; target = c .before .number-at3 .ensures j })) in
     omega (arith, ap (λ j. itemKey j b) (kind-one 4 k (sym (c .before .before .before .before .before .if2 .taken) ∙ e)), told, ap arcKey (arc-as (c .before .before .before .before .before .before .before .args .t2) b p))
 
 returns-3 : tie.Need-returns-3

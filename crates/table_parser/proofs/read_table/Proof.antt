@@ -14,7 +14,7 @@ use Rattle.table_format.specs.Parse.{isHeader, countsFrom}
 use Rattle.table_parser.specs.Draft.{filledUp, gathered, itemsParsed}
 use Rattle.table_parser.proofs.Told.{LineRead, line-read, line-bad}
 use Rattle.table_parser.proofs.Filled.{counts-filled}
-use Rattle.table_parser.proofs.Draft.{byte-at, counts-as, has-form, not-code, not-cell-as-index}
+use Rattle.table_parser.proofs.Draft.{byte-at, counts-as, has-form, not-code, not-wide}
 use Rattle.table_parser.proofs.Items.{header-missing, header-bad, header-misplaced, header-limit, header-on}
 use Rattle.table_parser.proofs.read_table.Statement.{statement}
 use Rattle.table_parser.proofs.read_table.Tie as tie
@@ -61,7 +61,7 @@ refused-requires-2 c κs = search needs
 returns-2 : tie.Need-returns-2
 returns-2 c =
     let L = line (c .before .before .before .before) in
-    c .refused2 .ensures ∙ ap gathered (sym (header-misplaced L (not-cell-as-index 1 9 (said (c .before .before .before .before)) (λ z. c .before .if3 .taken (L .count-is ∙ z)))))
+    c .refused2 .ensures ∙ ap gathered (sym (header-misplaced L (not-wide 1 9 (said (c .before .before .before .before)) (λ z. c .before .if3 .taken (L .count-is ∙ z)))))
 
 array-read-if4 : tie.Need-array-read-if4
 array-read-if4 c = search needs
