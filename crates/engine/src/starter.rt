@@ -1,10 +1,10 @@
 // The start of a search: 20, 11, 10, then 12.
 use engine_admission::Admission;
-use refusal::InputCause;
-use refusal::Refusal;
 use machine::Run;
 use machine::StartAnswer;
 use machine::Started;
+use refusal::InputCause;
+use refusal::Refusal;
 ghost use mathlib.Core.Path.{_≡_};
 ghost use mathlib.Core.List.{[]};
 ghost use Rattle.machine.specs.declared.StartAnswer.the-variants.{Ready, Refused};

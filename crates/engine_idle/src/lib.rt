@@ -136,7 +136,11 @@ fn walk(arcs: &[u16], first: &[u16], upper: bool, lower: bool, alive: &[u8], sta
         s = next(arcs, first, widen::cell_as_index(s), upper, lower, alive);
         at = place[widen::cell_as_index(s)];
     }
-    part(&order, widen::cell_as_index(at) - 1, widen::cell_as_index(n))
+    part(
+        &order,
+        widen::cell_as_index(at) - 1,
+        widen::cell_as_index(n),
+    )
 }
 
 // The states of an idle cycle among the arcs of a table, where all states live at first.

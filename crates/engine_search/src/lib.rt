@@ -1,11 +1,11 @@
 // A call on a table that keeps the rules: 21, then steps until the end, a reading, the allowance or a refusal.
-use refusal::Refusal;
-use refusal::StateCause;
 use engine_frames::Setup;
+use engine_step::Turn;
 use machine::Answer;
 use machine::Called;
 use machine::Run;
-use engine_step::Turn;
+use refusal::Refusal;
+use refusal::StateCause;
 ghost use mathlib.Core.Path.{_≡_};
 ghost use mathlib.Core.Bool.{_&&_};
 ghost use lib.Dec.{eqb, leb};

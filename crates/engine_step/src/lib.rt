@@ -1,5 +1,4 @@
 // One step of a search.
-use refusal::StateCause;
 use engine_frames::Fit;
 use engine_frames::Frame;
 use engine_frames::Setup;
@@ -7,6 +6,7 @@ use engine_frames::cells;
 use engine_frames::output;
 use engine_frames::sides;
 use machine::Run;
+use refusal::StateCause;
 ghost use mathlib.Core.Path.{_≡_};
 ghost use mathlib.Core.Bool.{true, _&&_, _||_};
 ghost use mathlib.Core.List.{[]};

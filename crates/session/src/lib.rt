@@ -3,8 +3,8 @@
 pub mod opener;
 pub mod speaker;
 
-use refusal::Refusal;
 use machine::Run;
+use refusal::Refusal;
 
 // What an opening answers: the talk to begin with, or a refusal.
 pub enum Opening {

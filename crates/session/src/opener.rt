@@ -2,10 +2,10 @@
 use crate::Opening;
 use crate::Talk;
 use engine::starter;
-use refusal::InputCause;
-use refusal::Refusal;
 use machine::Run;
 use machine::StartAnswer;
+use refusal::InputCause;
+use refusal::Refusal;
 use session_query::Asking;
 use session_query::asker;
 use session_query::splitter;

@@ -1,8 +1,8 @@
 // The lines of a session that is open, one a call.
 use crate::Lined;
 use crate::Talk;
-use session_calls::Said;
 use refusal::Refusal;
+use session_calls::Said;
 use session_query::words;
 ghost use mathlib.Core.Path.{_≡_};
 ghost use Prim.Native.Nat.{_<_};

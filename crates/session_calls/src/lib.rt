@@ -1,8 +1,8 @@
 // Calls for a reading, one after the other.
 use engine::advance;
-use refusal::Refusal;
 use machine::Answer;
 use machine::Run;
+use refusal::Refusal;
 ghost use mathlib.Core.Path.{_≡_};
 ghost use Rattle.session_calls.specs.Heard.{heard};
 

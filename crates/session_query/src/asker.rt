@@ -2,8 +2,8 @@
 use crate::Asking;
 use crate::FirstLine;
 use crate::Question;
-use refusal::InputCause;
 use hex::Decoded;
+use refusal::InputCause;
 ghost use mathlib.Core.Path.{_≡_};
 ghost use Prim.Native.Nat.{_<_};
 ghost use lib.ListN.{length};

@@ -66,8 +66,15 @@ fn each_arc_holds(cells: &[u16], states: u16) -> bool
         let upper = cells[at + 1];
         let lower = cells[at + 2];
         let target = cells[at + 3];
-        let Judged::Kept = table_rules::arc_fault(&cells[..at], states, source, upper, lower, target, top)
-        else {
+        let Judged::Kept = table_rules::arc_fault(
+            &cells[..at],
+            states,
+            source,
+            upper,
+            lower,
+            target,
+            top,
+        ) else {
             return false;
         };
         let key = table_rules::arc_key(source, upper, lower, target);
