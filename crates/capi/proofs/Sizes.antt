@@ -3,7 +3,7 @@ use Prim.Native.Nat.{ℕ, _<_, _^_}
 use native.Mathlib.Omega.{arith}
 use mathlib.Core.Path.{_≡_}
 use mathlib.Core.List.{List}
-use Rattle.table.specs.declared.Answer.the-variants.{Done}
+use Rattle.destination.specs.declared.Answer.the-variants.{Done}
 use Rattle.table.specs.Calls.{readAnswer, writeAnswer}
 use Rattle.table_format.proofs.Rules.{table-bounded}
 use Rattle.table_format.proofs.Loaded.{length-cells, cells-loaded}

@@ -2,8 +2,8 @@
 -- answer is 0.
 use Prim.Native.Nat.{ℕ}
 use Rattle.refusal.specs.declared.Refusal.{Refusal}
-use Rattle.table.specs.declared.Answer as T
-use Rattle.table.specs.declared.Answer.the-variants as T′
+use Rattle.destination.specs.declared.Answer as T
+use Rattle.destination.specs.declared.Answer.the-variants as T′
 use Rattle.refusal.specs.Refusal.{numberOf}
 use Rattle.machine.specs.declared.Answer.{Answer}
 use Rattle.machine.specs.declared.Answer.the-variants.{Found, Paused, Ended, Refused}

@@ -3,7 +3,7 @@ use crate::Reply;
 use refusal::Refusal;
 ghost use mathlib.Core.Path.{_≡_};
 ghost use Prim.Native.Nat.{ℕ, _<_, _^_};
-ghost use Rattle.table.specs.declared.Answer.the-variants.{Done};
+ghost use Rattle.destination.specs.declared.Answer.the-variants.{Done};
 ghost use Rattle.capi.specs.Numbers.{refused, answered, answerNumbers, tableNumbers};
 ghost use Rattle.capi.specs.Start.{startNumbers};
 
@@ -45,13 +45,13 @@ pub fn answer_numbers(answer: machine::Answer) -> Reply
 }
 
 // Of the reader and the writer, whose counts fit.
-pub fn table_numbers(answer: table::Answer) -> Reply
+pub fn table_numbers(answer: destination::Answer) -> Reply
     requires { ⌜ ((count : ℕ) → answer ≡ Done count → count < 2 ^ 32) ⌝ }
     ensures { λ r. ⌜ r ≡ tableNumbers answer ⌝ }
 {
     match answer {
-        table::Answer::Done(count) => answered(0, 0, count as u32),
-        table::Answer::Refused(refusal) => refused(refusal, 0, 0),
+        destination::Answer::Done(count) => answered(0, 0, count as u32),
+        destination::Answer::Refused(refusal) => refused(refusal, 0, 0),
     }
 }
 

@@ -43,13 +43,13 @@ pub fn cells(list: &[u16], from: usize, to: usize) {
 }
 
 // How many cells or bytes were written, or the refusal's number.
-pub fn written(answer: table::Answer, unit: &[u8]) {
+pub fn written(answer: destination::Answer, unit: &[u8]) {
     match answer {
-        table::Answer::Done(n) => {
+        destination::Answer::Done(n) => {
             blank(n as u64);
             say(unit);
         }
-        table::Answer::Refused(refusal) => refused(refusal),
+        destination::Answer::Refused(refusal) => refused(refusal),
     }
 }
 

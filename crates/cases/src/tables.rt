@@ -1,7 +1,7 @@
 // Calls of the crate `table`, on the cells of one table.
 use crate::script;
 use crate::show;
-use table::Answer;
+use destination::Answer;
 use table::checker;
 use table::reader;
 use table::writer;

@@ -11,7 +11,7 @@ use Rattle.refusal.specs.declared.InputCause.{InputCause}
 use Rattle.refusal.specs.declared.InputCause.the-variants.{CountLimit, IdleCycle}
 use Rattle.refusal.specs.declared.Refusal.{Refusal}
 use Rattle.refusal.specs.declared.Refusal.the-variants.{Input}
-use Rattle.table.specs.declared.Answer.the-variants as A
+use Rattle.destination.specs.declared.Answer.the-variants as A
 use Rattle.table_format.specs.Table.{Table}
 use Rattle.table_format.specs.Loaded.{cellsOf}
 use Rattle.table_format.specs.Line.{Line, linesOf}

@@ -1,5 +1,4 @@
 -- Laws of a session, for its proofs and those of the program.
-pub mod Copying
 pub mod Begun
 pub mod Next
 pub mod Given

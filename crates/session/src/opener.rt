@@ -1,6 +1,8 @@
 // The opening of a session: the input's length, the table, the query, the start.
 use crate::Opening;
 use crate::Talk;
+use destination::Answer;
+use destination::copy_cells;
 use engine::starter;
 use machine::Run;
 use machine::StartAnswer;
@@ -10,28 +12,14 @@ use session_query::Asking;
 use session_query::asker;
 use session_query::splitter;
 use session_query::words;
-use table::Answer;
 use table::reader;
 ghost use mathlib.Core.Path.{_≡_};
-ghost use mathlib.Core.List.{_++_};
 ghost use Prim.Native.Nat.{_≤_};
-ghost use lib.ListN.{length, drop};
+ghost use lib.ListN.{length};
 ghost use Rattle.table_format.specs.Line.{linesOf};
 ghost use Rattle.session_query.specs.Query.{queryOf};
 ghost use Rattle.session.specs.Opened.{openedQuery, opened};
 ghost use Rattle.session.specs.Begun.{firstTalk, begun, BegunIs};
-
-// Cells to the front of others.
-fn copy_cells(from: &[u16], to: &mut [u16])
-    requires { ⌜ length (now from) ≤ length (now to) ⌝ }
-    ensures { λ _. ⌜ now (to .exit) ≡ now (from .entry) ++ drop (length (now (from .entry))) (now (to .entry)) ⌝ }
-{
-    let mut k = 0;
-    while k < from.len() {
-        to[k] = from[k];
-        k += 1;
-    }
-}
 
 // No reading told yet, and 65,536 calls.
 fn first_talk(run: Run) -> Talk

@@ -2,80 +2,26 @@
 use Prim.Native.Nat.{ℕ, _≤_, _<_}
 use native.Mathlib.Omega.{arith}
 use mathlib.Core.Path.{_≡_, refl, sym, ap, ap₂, subst, _∙_}
-use mathlib.Core.Bool.{Bool, true, false, cond}
+use mathlib.Core.Bool.{true}
 use mathlib.Core.Logic.{_↔_}
 use mathlib.Core.Option.{Option, none, some}
 use mathlib.Core.List.{List, _++_}
-use lib.Dec.{leb}
-use lib.ListN.{length, take, drop, length-append, length-drop}
+use lib.ListN.{length, take, drop}
 use lib.Seq.{take-at}
-use borrow.Author.Tests.{leb-true, leb-false, le-leb, lt-leb}
 use Rattle.refusal.specs.declared.InputCause.{InputCause}
 use Rattle.refusal.specs.declared.StateCause.the-variants.{LoadedTable, DestinationShort}
 use Rattle.refusal.specs.declared.Refusal.{Refusal}
 use Rattle.refusal.specs.declared.Refusal.the-variants.{Input, State}
-use Rattle.table.specs.declared.Answer.the-variants.{Done, Refused}
+use Rattle.destination.specs.declared.Answer.the-variants.{Done, Refused}
 use Rattle.table_format.specs.Table.{Table, countsOf}
 use Rattle.table_format.specs.Rules.{keepsRules}
 use Rattle.table_format.specs.Loaded.{cellsOf, countsIn, extent, loaded}
 use Rattle.table_format.specs.Text.{textOf}
 use Rattle.table_format.specs.Parse.{Parsed, accepted, turnedDown, parsed}
-use Rattle.table.specs.Calls.{layoutOf, checkedAs, checked, storedAnswer, storedCells, readAs, readCellsAs, readAnswer, readCells, writtenAs, writtenTextAs, writeAnswer, writeText}
+use Rattle.table.specs.Calls.{layoutOf, checkedAs, checked, readAs, readCellsAs, readAnswer, readCells, writtenAs, writtenTextAs, writeAnswer, writeText}
 use Rattle.table_format.proofs.Loaded.{length-cells, counts-in, loaded-cells, cells-loaded}
 use Rattle.table_format.proofs.Determine.{text-read, read-text}
-
--- Storing in a destination.
-
-module _ (out destination : List ℕ) where
-  -- what was stored where the answer tells so many
-  pub record Stored (n : ℕ) (left : List ℕ) : Type 0 where
-    pub size : n ≡ length out
-    pub room : n ≤ length destination
-    pub left-is : left ≡ out ++ drop n destination
-
-  pub stored-done : (n : ℕ) → storedAnswer out destination ≡ Done n → Stored n (storedCells out destination)
-  stored-done n e = go (leb (length out) (length destination)) refl e
-    where
-      go : (b : Bool) → leb (length out) (length destination) ≡ b
-          → cond b (Done (length out)) (Refused (State DestinationShort)) ≡ Done n
-          → Stored n (cond b (out ++ drop (length out) destination) destination)
-      go true h k =
-          let size : n ≡ length out = cc in
-          let room : length out ≤ length destination = leb-true _ _ h in
-          record { size = size; room = omega arith; left-is = ap (λ (i : ℕ). out ++ drop i destination) (sym size) }
-      go false h k = let z : _≡_ {A = ℕ} 0 1 = cc in absurd (omega arith)
-
-  pub stored-fits : length out ≤ length destination
-      → (storedAnswer out destination ≡ Done (length out)) × (storedCells out destination ≡ out ++ drop (length out) destination)
-  stored-fits h =
-      let e : leb (length out) (length destination) ≡ true = le-leb _ _ h in (
-        ap (λ (b : Bool). cond b (Done (length out)) (Refused (State DestinationShort))) e,
-        ap (λ (b : Bool). cond b (out ++ drop (length out) destination) destination) e,
-      )
-
-  pub stored-short : (storedAnswer out destination ≡ Refused (State DestinationShort)) ↔ (length destination < length out)
-  stored-short = (λ e. to (leb (length out) (length destination)) refl e, λ h. ap (λ (b : Bool). cond b (Done (length out)) (Refused (State DestinationShort))) (lt-leb _ _ h))
-    where
-      to : (b : Bool) → leb (length out) (length destination) ≡ b → cond b (Done (length out)) (Refused (State DestinationShort)) ≡ Refused (State DestinationShort)
-          → length destination < length out
-      to true h k = let z : _≡_ {A = ℕ} 0 1 = cc in absurd (omega arith)
-      to false h k = leb-false _ _ h
-
-  pub stored-refused : (r : Refusal) → storedAnswer out destination ≡ Refused r → storedCells out destination ≡ destination
-  stored-refused r e = go (leb (length out) (length destination)) e
-    where
-      go : (b : Bool) → cond b (Done (length out)) (Refused (State DestinationShort)) ≡ Refused r
-          → cond b (out ++ drop (length out) destination) destination ≡ destination
-      go true k = cc
-      go false k = refl
-
-  pub stored-length : length (storedCells out destination) ≡ length destination
-  stored-length = go (leb (length out) (length destination)) refl
-    where
-      go : (b : Bool) → leb (length out) (length destination) ≡ b
-          → length (cond b (out ++ drop (length out) destination) destination) ≡ length destination
-      go true h = let k : length out ≤ length destination = leb-true _ _ h in simp (length-append, length-drop) (omega arith)
-      go false h = refl
+use Rattle.destination.proofs.Stored.{Stored, stored-done, stored-fits, stored-short, stored-refused, stored-length}
 
 -- The reader, and the writer.
 
@@ -133,11 +79,7 @@ module _ (text destination : List ℕ) where
   read-turned c = (λ e. to (parsed text) e, λ h. ap (λ (p : Parsed). readAs p destination) h)
     where
       to : (p : Parsed) → readAs p destination ≡ Refused (Input c) → p ≡ turnedDown c
-      to (accepted t) e = go (leb (length (cellsOf t)) (length destination)) e
-        where
-          go : (b : Bool) → cond b (Done (length (cellsOf t))) (Refused (State DestinationShort)) ≡ Refused (Input c) → accepted t ≡ turnedDown c
-          go true k = let z : _≡_ {A = ℕ} 0 1 = cc in absurd (omega arith)
-          go false k = let z : _≡_ {A = ℕ} 0 1 = cc in absurd (omega arith)
+      to (accepted t) e = let s = stored-refused (cellsOf t) destination (Input c) e in cc
       to (turnedDown d) e = let same : d ≡ c = cc in ap turnedDown same
 
   -- a refusal leaves the destination as it was
@@ -146,7 +88,7 @@ module _ (text destination : List ℕ) where
   read-refused r e = go (parsed text) e
     where
       go : (p : Parsed) → readAs p destination ≡ Refused r → readCellsAs p destination ≡ destination
-      go (accepted t) k = stored-refused (cellsOf t) destination r k
+      go (accepted t) k = stored-refused (cellsOf t) destination r k .1
       go (turnedDown cause) k = refl
 
   pub read-length : length (readCells text destination) ≡ length destination
@@ -199,11 +141,7 @@ module _ (cells destination : List ℕ) where
   write-broken = (λ e. to (loaded cells) e, λ h. ap (λ (p : Option Table). writtenAs p destination) h)
     where
       to : (p : Option Table) → writtenAs p destination ≡ Refused (State LoadedTable) → p ≡ none
-      to (some t) e = go (leb (length (textOf t)) (length destination)) e
-        where
-          go : (b : Bool) → cond b (Done (length (textOf t))) (Refused (State DestinationShort)) ≡ Refused (State LoadedTable) → some t ≡ none
-          go true k = let z : _≡_ {A = ℕ} 0 1 = cc in absurd (omega arith)
-          go false k = let z : _≡_ {A = ℕ} 0 1 = cc in absurd (omega arith)
+      to (some t) e = let s = stored-refused (textOf t) destination (State LoadedTable) e in cc
       to none e = refl
 
   pub write-refused : (r : Refusal) → writeAnswer cells destination ≡ Refused r → writeText cells destination ≡ destination
@@ -211,7 +149,7 @@ module _ (cells destination : List ℕ) where
   write-refused r e = go (loaded cells) e
     where
       go : (p : Option Table) → writtenAs p destination ≡ Refused r → writtenTextAs p destination ≡ destination
-      go (some t) k = stored-refused (textOf t) destination r k
+      go (some t) k = stored-refused (textOf t) destination r k .1
       go none k = refl
 
 -- A text that is read is written back from the cells that reading leaves.

@@ -1,15 +1,14 @@
 -- What the reader answers, from what it made of the text.
-use Prim.Native.Nat.{ℕ, _<_, _≤_}
+use Prim.Native.Nat.{ℕ, _≤_}
 use native.Mathlib.Omega.{arith}
-use mathlib.Core.Path.{_≡_, refl, sym, ap, ap₂, _∙_}
-use mathlib.Core.List.{List, _++_}
-use lib.ListN.{length, take, drop}
-use borrow.Author.Tests.{le-leb, lt-leb}
+use mathlib.Core.Path.{_≡_, refl, sym, ap, _∙_}
+use mathlib.Core.List.{List}
+use lib.ListN.{length, take}
 use Rattle.refusal.specs.declared.InputCause.{InputCause}
-use Rattle.refusal.specs.declared.StateCause.the-variants.{DestinationShort}
-use Rattle.refusal.specs.declared.Refusal.the-variants.{Input, State}
-use Rattle.table.specs.declared.Answer.{Answer}
-use Rattle.table.specs.declared.Answer.the-variants.{Done, Refused}
+use Rattle.refusal.specs.declared.Refusal.the-variants.{Input}
+use Rattle.destination.specs.declared.Answer.{Answer}
+use Rattle.destination.specs.declared.Answer.the-variants.{Refused}
+use Rattle.destination.specs.Stored.{storedAnswer, storedCells}
 use Rattle.table_parser.specs.declared.Gathered.{Gathered}
 use Rattle.table_parser.specs.declared.Read.the-variants.{Cells, Fault}
 use Rattle.table_format.specs.Table.{Table}
@@ -56,27 +55,19 @@ module _ (text destination : List ℕ) where
       cells-found : g .cells ≡ filledUp (cellsOf (found .0))
       cells-found = ap (λ (x : Gathered). x .cells) (as-parsed (accepted (found .0)) (found .1))
 
-      pub read-room : n ≤ 4612
-      read-room =
+      few : n ≤ 4612
+      few =
           let t = found .0 in
           let b = table-bounded t (read-text text t (found .1) .0) in
           omega (arith, found .2, length-cells t, b .states, b .initials, b .terminals, b .arcs)
 
-      pub read-long : length (g .cells) ≡ 4612
-      read-long = ap length cells-found ∙ length-filled (cellsOf (found .0)) (omega (arith, read-room, found .2))
+      pub read-room : n ≤ length (g .cells)
+      read-room = omega (arith, few, found .2, ap length cells-found, length-filled (cellsOf (found .0)) (omega (arith, few, found .2)))
 
-      pub left-short : length destination < n → Left (Refused (State DestinationShort)) destination
-      left-short h =
-          let t = found .0 in
-          let k : length destination < length (cellsOf t) = omega (arith, found .2) in
-          from-parsed (accepted t) (Refused (State DestinationShort)) destination (found .1) (simp (lt-leb (length (cellsOf t)) (length destination) k))
-          (simp (lt-leb (length (cellsOf t)) (length destination) k))
+      held : take n (g .cells) ≡ cellsOf (found .0)
+      held = ap (take n) cells-found ∙ take-filled (cellsOf (found .0)) n (found .2)
 
-      pub left-done : n ≤ length destination → Left (Done n) (take n (g .cells) ++ drop n destination)
-      left-done h =
-          let t = found .0 in
-          let w = found .2 in
-          let k : length (cellsOf t) ≤ length destination = omega arith in
-          let held : take n (g .cells) ≡ cellsOf t = ap (take n) cells-found ∙ take-filled (cellsOf t) n w in
-          from-parsed (accepted t) (Done n) (take n (g .cells) ++ drop n destination) (found .1) (simp (le-leb (length (cellsOf t)) (length destination) k) (ap Done w))
-          (simp (le-leb (length (cellsOf t)) (length destination) k) (ap₂ (λ (l : List ℕ) (m : ℕ). l ++ drop m destination) held w))
+      -- the cells are stored
+      pub left-stored : (r : Answer) (d : List ℕ) → r ≡ storedAnswer (take n (g .cells)) destination → d ≡ storedCells (take n (g .cells)) destination → Left r d
+      left-stored r d a b =
+          from-parsed (accepted (found .0)) r d (found .1) (a ∙ ap (λ (l : List ℕ). storedAnswer l destination) held) (b ∙ ap (λ (l : List ℕ). storedCells l destination) held)

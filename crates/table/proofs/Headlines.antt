@@ -11,7 +11,7 @@ use Rattle.refusal.specs.declared.InputCause.{InputCause}
 use Rattle.refusal.specs.declared.StateCause.the-variants.{LoadedTable, DestinationShort}
 use Rattle.refusal.specs.declared.Refusal.{Refusal}
 use Rattle.refusal.specs.declared.Refusal.the-variants.{Input, State}
-use Rattle.table.specs.declared.Answer.the-variants.{Done, Refused}
+use Rattle.destination.specs.declared.Answer.the-variants.{Done, Refused}
 use Rattle.table_format.specs.Table.{Table}
 use Rattle.table_format.specs.Rules.{keepsRules}
 use Rattle.table_format.specs.Loaded.{cellsOf, countsIn, extent, loaded}

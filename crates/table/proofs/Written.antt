@@ -2,16 +2,13 @@
 use Prim.Native.Nat.{ℕ, zero, suc, _+_, _-_, _*_, _/_, _<_, _≤_}
 use native.Mathlib.Omega.{arith}
 use mathlib.Core.Path.{_≡_, refl, sym, ap, subst, _∙_}
-use mathlib.Core.Bool.{Bool, true, false, cond}
-use mathlib.Core.Option.{Option, none, some}
+use mathlib.Core.Bool.{Bool, true, false}
+use mathlib.Core.Option.{some}
 use mathlib.Core.List.{List, [], _∷_, _++_, map}
 use lib.Dec.{leb}
 use lib.ListN.{length, getD, take, drop}
 use lib.Seq.{sets, sets-eq}
-use borrow.Author.Tests.{leb-true, leb-false, lt-leb}
-use Rattle.refusal.specs.declared.StateCause.the-variants.{LoadedTable, DestinationShort}
-use Rattle.refusal.specs.declared.Refusal.the-variants.{State}
-use Rattle.table.specs.declared.Answer.the-variants.{Done, Refused}
+use borrow.Author.Tests.{leb-true, leb-false}
 use Rattle.table.specs.declared.Layout.{Layout}
 use Rattle.table_format.specs.Table.{Arc, Table, Counts, countsOf}
 use Rattle.table_format.specs.Rules.{keepsRules}
@@ -19,7 +16,7 @@ use Rattle.table_format.specs.Loaded.{countsIn, arcIn, arcsIn, extent, tableIn,
 use Rattle.table_format.specs.Line.{charsOf, lineText}
 use Rattle.table_format.specs.Text.{headerBytes, initialBytes, terminalBytes, arcBytes, endBytes, linesBefore, joinLines, textOf}
 use Rattle.table_format.specs.Cells.{arcsAs}
-use Rattle.table.specs.Calls.{layoutOf, LaidOut, writtenAs, writtenTextAs, writeAnswer, writeText}
+use Rattle.table.specs.Calls.{layoutOf, LaidOut}
 use Rattle.table_format.proofs.All.{All, all-getD}
 use Rattle.table_format.proofs.Rules.{Bounded, ArcBounded, table-bounded, arcs-bounded}
 use Rattle.table_format.proofs.Loaded.{counts-of, cells-loaded}
@@ -149,23 +146,3 @@ module _ (cells : List ℕ) (l : Layout) where
       let s₁ = then d m₁ m₅ 0 19 (lineText (headerBytes (countsOf t))) w₂ r₁ refl s₂ in
       let same : 0 + length (textOf t) ≡ length (textOf t) = omega arith in
       s₁ ∙ ap (sets d 0) (sym (text-parts t)) ∙ sets-eq (textOf t) d 0 (omega arith) ∙ ap (λ (k : ℕ). textOf t ++ drop k d) same
-
--- The refusals: a destination that is too short, and cells that hold no table.
-
-module _ (cells destination : List ℕ) where
-  pub write-short : (t : Table) → loaded cells ≡ some t → length destination < length (textOf t)
-      → (Refused (State DestinationShort) ≡ writeAnswer cells destination) × (destination ≡ writeText cells destination)
-  unfolding writeAnswer writeText
-  write-short t e h =
-      let f : leb (length (textOf t)) (length destination) ≡ false = lt-leb _ _ h in (
-        sym
-            (ap (λ (p : Option Table). writtenAs p destination) e
-            ∙ ap (λ (b : Bool). cond b (Done (length (textOf t))) (Refused (State DestinationShort))) f),
-        sym
-            (ap (λ (p : Option Table). writtenTextAs p destination) e
-            ∙ ap (λ (b : Bool). cond b (textOf t ++ drop (length (textOf t)) destination) destination) f),
-      )
-
-  pub write-none : loaded cells ≡ none → (Refused (State LoadedTable) ≡ writeAnswer cells destination) × (destination ≡ writeText cells destination)
-  unfolding writeAnswer writeText
-  write-none e = (sym (ap (λ (p : Option Table). writtenAs p destination) e), sym (ap (λ (p : Option Table). writtenTextAs p destination) e))

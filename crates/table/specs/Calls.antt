@@ -1,15 +1,15 @@
 -- What each public call answers, and what it leaves in the destination that it is lent.
-use Prim.Native.Nat.{ℕ, _+_, _≤_}
+use Prim.Native.Nat.{ℕ, _≤_}
 use mathlib.Core.Path.{_≡_}
-use mathlib.Core.Bool.{true, false, cond}
+use mathlib.Core.Bool.{true, false}
 use mathlib.Core.Option.{Option, none, some}
-use mathlib.Core.List.{List, _++_}
-use lib.Dec.{leb}
-use lib.ListN.{length, drop, replicate}
-use Rattle.refusal.specs.declared.StateCause.the-variants.{LoadedTable, DestinationShort}
+use mathlib.Core.List.{List}
+use lib.ListN.{length, replicate}
+use Rattle.refusal.specs.declared.StateCause.the-variants.{LoadedTable}
 use Rattle.refusal.specs.declared.Refusal.the-variants.{Input, State}
-use Rattle.table.specs.declared.Answer.{Answer}
-use Rattle.table.specs.declared.Answer.the-variants.{Done, Refused}
+use Rattle.destination.specs.declared.Answer.{Answer}
+use Rattle.destination.specs.declared.Answer.the-variants.{Refused}
+use Rattle.destination.specs.Stored.{storedAnswer, storedCells}
 use Rattle.table.specs.declared.Checked.{Checked}
 use Rattle.table.specs.declared.Layout.{Layout}
 use Rattle.table_format.specs.Table.{Table, Counts}
@@ -38,13 +38,6 @@ checkedAs l (some t) = record { ok = true; layout = l; first = firstArcs t }
 
 unfoldable pub checked : List ℕ → Checked
 checked cells = checkedAs (layoutOf (countsIn cells)) (loaded cells)
-
--- 24: a destination takes what is to be written, or is too short for it; a longer one is untouched beyond that
-abbrev pub storedAnswer : List ℕ → List ℕ → Answer
-storedAnswer out destination = cond (leb (length out) (length destination)) (Done (length out)) (Refused (State DestinationShort))
-
-abbrev pub storedCells : List ℕ → List ℕ → List ℕ
-storedCells out destination = cond (leb (length out) (length destination)) (out ++ drop (length out) destination) destination
 
 -- the reader: the text's refusals, then 24
 abbrev pub readAs : Parsed → List ℕ → Answer

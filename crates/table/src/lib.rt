@@ -3,14 +3,6 @@ pub mod checker;
 pub mod reader;
 pub mod writer;
 
-use refusal::Refusal;
-
-// What reading and writing answer: how many cells or bytes were written, or a refusal.
-pub enum Answer {
-    Done(usize),
-    Refused(Refusal),
-}
-
 // A loaded table's count of states, where its initial states, its terminal states and its arcs begin, and where it ends.
 pub struct Layout {
     pub states: u16,

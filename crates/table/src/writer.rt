@@ -1,6 +1,6 @@
 // A loaded table written as text.
-use crate::Answer;
 use crate::checker;
+use destination::Answer;
 use refusal::Refusal;
 use refusal::StateCause;
 ghost use mathlib.Core.Path.{_≡_};

@@ -4,11 +4,10 @@ use mathlib.Core.Path.{_≡_, sym, ap, _∙_}
 use mathlib.Core.Option.{some}
 use denote.Ref.{now}
 use borrow.Author.Needs.{needs}
-use Rattle.table.specs.declared.Answer.the-variants.{Done}
+use Rattle.destination.specs.declared.Answer.the-variants.{Done}
 use Rattle.table_format.specs.Loaded.{tableIn, loaded}
-use Rattle.table.proofs.Calls.{write-fits}
+use Rattle.table.proofs.Calls.{write-fits, write-short, write-broken, write-refused}
 use Rattle.table.proofs.TableCheck.{passed, failed}
-use Rattle.table.proofs.Written.{write-short, write-none}
 use Rattle.table.proofs.writer.write.Statement.{statement}
 use Rattle.table.proofs.writer.write.Tie as tie
 
@@ -38,12 +37,14 @@ returns-2 : tie.Need-returns-2
 returns-2 c =
     let size = c .before .text-size .ensures in
     let args = c .before .before .before .before .before .before .args in
-    write-short (now (args .cells)) (now (args .text)) (tableIn (now (args .cells))) (held (c .before .before)) (omega arith)
+    let short = write-short (now (args .cells)) (now (args .text)) .1 (tableIn (now (args .cells)), held (c .before .before), omega arith) in
+    (sym short, sym (write-refused (now (args .cells)) (now (args .text)) _ short))
 
 returns-3 : tie.Need-returns-3
 returns-3 c =
     let args = c .before .before .before .before .args in
-    write-none (now (args .cells)) (now (args .text)) (failed (now (args .cells)) (c .before .check .result) (c .before .check .ensures) (c .if1 .left))
+    let broken = write-broken (now (args .cells)) (now (args .text)) .1 (failed (now (args .cells)) (c .before .check .result) (c .before .check .ensures) (c .if1 .left)) in
+    (sym broken, sym (write-refused (now (args .cells)) (now (args .text)) _ broken))
 
 pub write-spec : {M : Type 1} → statement M
 write-spec =

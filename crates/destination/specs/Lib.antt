@@ -1,0 +1,2 @@
+-- What a destination takes, and what the answer tells: what a reader has to believe.
+pub mod Stored
