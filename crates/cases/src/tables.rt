@@ -2,7 +2,6 @@
 use crate::script;
 use crate::show;
 use destination::Answer;
-use table::checker;
 use table::reader;
 use table::writer;
 
@@ -110,7 +109,7 @@ pub fn again(list: &[u32], cells: &mut [u16]) {
 }
 
 fn write_into(cells: &[u16], text: &mut [u8]) {
-    let checked = checker::check(cells);
+    let checked = table_check::check(cells);
     if checked.ok {
         show::say(b" check passes, write");
     } else {
@@ -133,7 +132,7 @@ pub fn load(list: &[u32], cells: &mut [u16]) {
 // `@` CELLS FROM TO: the index of first arcs that the check of so many cells tells, from one state to another.
 pub fn index(list: &[u32], cells: &[u16]) {
     let size = script::amount(list, 0, cells.len());
-    let checked = checker::check(&cells[0..size]);
+    let checked = table_check::check(&cells[0..size]);
     let first = checked.first;
     let from = script::amount(list, 1, 257);
     show::cells(&first, from, script::amount(list, 2, 257));

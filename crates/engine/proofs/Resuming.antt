@@ -6,14 +6,14 @@ use mathlib.Core.Bool.{Bool, true, _||_}
 use mathlib.Core.Option.{Option, some}
 use mathlib.Core.List.{List}
 use lib.ListN.{length, take, drop}
-use Rattle.table.specs.declared.Layout.{Layout}
+use Rattle.table_check.specs.declared.Layout.{Layout}
 use Rattle.refusal.specs.declared.Refusal.{Refusal}
 use Rattle.table_format.specs.Table.{Table}
 use Rattle.table_format.specs.Rules.{keepsRules}
 use Rattle.table_format.specs.Loaded.{countsIn, tableIn}
-use Rattle.table.specs.Calls.{LaidOut, layoutOf, checkedAs, checked}
-use Rattle.table.proofs.Parts.{initials-part, terminals-part, arcs-part, arcs-whole, index-part, laid-out}
-use Rattle.table.proofs.Written.{Holding, holding}
+use Rattle.table_check.specs.Check.{LaidOut, layoutOf, checkedAs, checked}
+use Rattle.table_check.proofs.Parts.{initials-part, terminals-part, arcs-part, arcs-whole, index-part, laid-out}
+use Rattle.table_check.proofs.Holding.{Holding, holding}
 use Rattle.machine.specs.declared.Run.{Run}
 use Rattle.machine.specs.declared.Called.{Called}
 use Rattle.machine.specs.declared.Answer.the-variants.{Refused}

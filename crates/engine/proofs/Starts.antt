@@ -9,11 +9,11 @@ use lib.ListN.{length}
 use Rattle.refusal.specs.declared.Refusal.{Refusal}
 use Rattle.refusal.specs.declared.Refusal.the-variants.{Input}
 use Rattle.refusal.specs.declared.InputCause.the-variants.{IdleCycle}
-use Rattle.table.specs.declared.Checked.{Checked}
-use Rattle.table.specs.declared.Layout.{Layout}
+use Rattle.table_check.specs.declared.Checked.{Checked}
+use Rattle.table_check.specs.declared.Layout.{Layout}
 use Rattle.table_format.specs.Loaded.{countsIn, tableIn}
-use Rattle.table.specs.Calls.{layoutOf, LaidOut, checked}
-use Rattle.table.proofs.Parts.{arcsPart, arcs-part}
+use Rattle.table_check.specs.Check.{layoutOf, LaidOut, checked}
+use Rattle.table_check.proofs.Parts.{arcsPart, arcs-part}
 use Rattle.table_format.proofs.Ruled.{Ruled, ruled}
 use Rattle.machine.specs.declared.Run.{Run}
 use Rattle.machine.specs.declared.Started.{Started}

@@ -3,11 +3,10 @@ use engine_admission::Admission;
 use engine_frames::Setup;
 use machine::Called;
 use machine::Run;
-use table::Layout;
-use table::checker;
+use table_check::Layout;
 ghost use mathlib.Core.Path.{_≡_};
 ghost use Rattle.table_format.specs.Loaded.{countsIn};
-ghost use Rattle.table.specs.Calls.{layoutOf};
+ghost use Rattle.table_check.specs.Check.{layoutOf};
 ghost use Rattle.machine.specs.Reading.{outcome};
 ghost use Rattle.engine.specs.Advancing.{OutcomeIs, Admitted};
 
@@ -66,7 +65,7 @@ pub fn advance(
         × (now (stack .exit) ≡ outcome (now (table .entry)) (now (upper .entry)) (now (lower .entry)) run (now (stack .entry)) allowance (now (output .entry)) .stack)
         × (now (output .exit) ≡ outcome (now (table .entry)) (now (upper .entry)) (now (lower .entry)) run (now (stack .entry)) allowance (now (output .entry)) .output) ⌝ }
 {
-    let checked = checker::check(table);
+    let checked = table_check::check(table);
     let task = run.task;
     let asking = engine_admission::asked(checked.ok, task, upper, lower);
     match asking {

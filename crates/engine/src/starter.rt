@@ -49,7 +49,7 @@ fn ready(task: u32) -> Started
 pub fn start(table: &[u16], task: u32, upper: &[u8], lower: &[u8]) -> Started
     ensures { λ r. ⌜ StartIs (now (table .entry)) task (now (upper .entry)) (now (lower .entry)) r ⌝ }
 {
-    let checked = table::checker::check(table);
+    let checked = table_check::check(table);
     let asking = engine_admission::asked(checked.ok, task, upper, lower);
     if let Admission::Refused(refusal) = asking {
         return refused(refusal);

@@ -16,8 +16,8 @@ use Rattle.refusal.specs.declared.StateCause.the-variants.{LoadedTable}
 use Rattle.table_format.specs.Table.{Table}
 use Rattle.table_format.specs.Rules.{isEmpty}
 use Rattle.table_format.specs.Loaded.{tableIn, loaded}
-use Rattle.table.specs.Calls.{checked}
-use Rattle.table.proofs.TableCheck.{passed, failed}
+use Rattle.table_check.specs.Check.{checked}
+use Rattle.table_check.proofs.Passing.{passed, failed}
 use Rattle.machine.specs.Query.{Task, recognition, synthesis, analysis, upperSide, lowerSide, taskOf, reads, Query, lettersHold, wordHolds, sidesHold, wordsHold}
 use Rattle.machine.specs.Asked.{Asked, turned, runs, askedWords, askedTask, askedTable, asked}
 use Rattle.engine_admission.specs.declared.Admission.{Admission}

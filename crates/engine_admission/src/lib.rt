@@ -8,7 +8,7 @@ ghost use mathlib.Core.Option.{some};
 ghost use mathlib.Core.List.{List};
 ghost use Prim.Native.Nat.{ℕ};
 ghost use Rattle.table_format.specs.Rules.{isEmpty};
-ghost use Rattle.table.specs.Calls.{checked};
+ghost use Rattle.table_check.specs.Check.{checked};
 ghost use Rattle.machine.specs.Query.{Task, taskOf, upperSide, lowerSide, reads, wordHolds};
 ghost use Rattle.machine.specs.Asked.{asked};
 ghost use Rattle.engine_admission.specs.Admission.{admissionOf};

@@ -9,16 +9,16 @@ use mathlib.Core.List.{List, [], _∷_, List·Memᴰ}
 use lib.Dec.{leb}
 use lib.ListN.{length, getD}
 use borrow.Author.Tests.{leb-true}
-use Rattle.table.specs.declared.Layout.{Layout}
+use Rattle.table_check.specs.declared.Layout.{Layout}
 use Rattle.table_format.specs.Table.{Arc, Table}
 use Rattle.table_format.specs.Rules.{keepsRules}
 use Rattle.table_format.specs.Loaded.{countsIn, extent, tableIn, loaded}
 use Rattle.table_format.specs.Index.{below, firstIndex}
 use Rattle.table_format.specs.Cells.{arcsAs}
-use Rattle.table.specs.Calls.{layoutOf, LaidOut, checkedAs, checked}
+use Rattle.table_check.specs.Check.{layoutOf, LaidOut, checkedAs, checked}
 use Rattle.table_format.proofs.Arcs.{arcAt, length-arcs, getD-arcs}
 use Rattle.table_format.proofs.Index.{length-index, index-at}
-use Rattle.table.proofs.Parts.{laid-out}
+use Rattle.table_check.proofs.Parts.{laid-out}
 use Rattle.table_format.proofs.Ruled.{Ruled}
 use Rattle.machine.specs.Query.{Task, recognition, upperSide, lowerSide, reads, Query}
 use Rattle.machine.specs.Machine.{ArcOf}

@@ -18,7 +18,7 @@ use Rattle.table_format.specs.Rules.{keepsRules}
 use Rattle.table_format.specs.Loaded.{cellsOf, countsIn, extent, loaded}
 use Rattle.table_format.specs.Text.{textOf}
 use Rattle.table_format.specs.Parse.{Parsed, accepted, turnedDown, parsed}
-use Rattle.table.specs.Calls.{layoutOf, checkedAs, checked, readAs, readCellsAs, readAnswer, readCells, writtenAs, writtenTextAs, writeAnswer, writeText}
+use Rattle.table.specs.Calls.{readAs, readCellsAs, readAnswer, readCells, writtenAs, writtenTextAs, writeAnswer, writeText}
 use Rattle.table_format.proofs.Loaded.{length-cells, counts-in, loaded-cells, cells-loaded}
 use Rattle.table_format.proofs.Determine.{text-read, read-text}
 use Rattle.destination.proofs.Stored.{Stored, stored-done, stored-fits, stored-short, stored-refused, stored-length}
@@ -195,12 +195,3 @@ written-cells c e d n a room = go (write-done c e n a)
         let front : take m c ≡ cellsOf t = ap (take m) (k .1) ∙ take-at (cellsOf t) rest m (sym size) in
         let r = read-fits (take n (writeText c e)) d t (written-read c e n t a l) (omega arith) in
         (r .0 ∙ ap Done (sym size), r .1 ∙ ap₂ (λ (y : List ℕ) (i : ℕ). y ++ drop i d) (sym front) (sym size))
-
--- The check.
-pub check-is : (c : List ℕ) → (checked c .ok ≡ true) ↔ ((t : Table) × (loaded c ≡ some t))
-unfolding checked
-check-is c = (λ e. to (loaded c) refl e, λ h. ap (λ (p : Option Table). checkedAs (layoutOf (countsIn c)) p .ok) (h .1))
-  where
-    to : (p : Option Table) → loaded c ≡ p → checkedAs (layoutOf (countsIn c)) p .ok ≡ true → (t : Table) × (loaded c ≡ some t)
-    to (some t) h e = (t, h)
-    to none h e = let z : _≡_ {A = ℕ} 0 1 = cc in absurd (omega arith)

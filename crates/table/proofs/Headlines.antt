@@ -17,13 +17,15 @@ use Rattle.table_format.specs.Rules.{keepsRules}
 use Rattle.table_format.specs.Loaded.{cellsOf, countsIn, extent, loaded}
 use Rattle.table_format.specs.Text.{textOf}
 use Rattle.table_format.specs.Parse.{accepted, turnedDown, parsed}
-use Rattle.table.specs.Calls.{checked, readAnswer, readCells, writeAnswer, writeText}
+use Rattle.table_check.specs.Check.{checked}
+use Rattle.table.specs.Calls.{readAnswer, readCells, writeAnswer, writeText}
+use Rattle.table_check.proofs.Passing as passing
 use Rattle.table.proofs.Calls as calls
 
 -- THE CHECK: "20. The loaded table breaks a rule above." It passes exactly the cells that hold a table that keeps the rules (`loads`,
 -- format/proofs/Headlines).
 pub check-is : (c : List ℕ) → (checked c .ok ≡ true) ↔ ((t : Table) × (loaded c ≡ some t))
-check-is = calls.check-is
+check-is = passing.check-is
 
 -- THE READER, on any text and destination.
 module _ (x d : List ℕ) where

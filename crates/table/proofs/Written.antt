@@ -2,56 +2,40 @@
 use Prim.Native.Nat.{ℕ, zero, suc, _+_, _-_, _*_, _/_, _<_, _≤_}
 use native.Mathlib.Omega.{arith}
 use mathlib.Core.Path.{_≡_, refl, sym, ap, subst, _∙_}
-use mathlib.Core.Bool.{Bool, true, false}
 use mathlib.Core.Option.{some}
 use mathlib.Core.List.{List, [], _∷_, _++_, map}
-use lib.Dec.{leb}
 use lib.ListN.{length, getD, take, drop}
 use lib.Seq.{sets, sets-eq}
-use borrow.Author.Tests.{leb-true, leb-false}
-use Rattle.table.specs.declared.Layout.{Layout}
+use Rattle.table_check.specs.declared.Layout.{Layout}
 use Rattle.table_format.specs.Table.{Arc, Table, Counts, countsOf}
-use Rattle.table_format.specs.Rules.{keepsRules}
-use Rattle.table_format.specs.Loaded.{countsIn, arcIn, arcsIn, extent, tableIn, loaded}
+use Rattle.table_format.specs.Loaded.{countsIn, arcIn, arcsIn, tableIn, loaded}
 use Rattle.table_format.specs.Line.{charsOf, lineText}
 use Rattle.table_format.specs.Text.{headerBytes, initialBytes, terminalBytes, arcBytes, endBytes, linesBefore, joinLines, textOf}
 use Rattle.table_format.specs.Cells.{arcsAs}
-use Rattle.table.specs.Calls.{layoutOf, LaidOut}
+use Rattle.table_check.specs.Check.{layoutOf, LaidOut}
 use Rattle.table_format.proofs.All.{All, all-getD}
-use Rattle.table_format.proofs.Rules.{Bounded, ArcBounded, table-bounded, arcs-bounded}
-use Rattle.table_format.proofs.Loaded.{counts-of, cells-loaded}
-use Rattle.table.proofs.Parts.{initials-part, terminals-part, arcsPart, arcs-part, arcs-length, laid-out, loaded-short}
+use Rattle.table_format.proofs.Rules.{ArcBounded, arcs-bounded}
+use Rattle.table_format.proofs.Loaded.{counts-of}
+use Rattle.table_check.proofs.Parts.{initials-part, terminals-part, arcsPart, arcs-part, arcs-length, laid-out}
+use Rattle.table_check.proofs.Holding.{Holding, holding}
 use Rattle.table_format.proofs.Line.{IsByte}
 use Rattle.table_format.proofs.Text.{text-parts, length-lines, length-text}
 use Rattle.table_format.proofs.Stores.{then}
 
--- What cells that hold a table say of it.
-
-pub record Holding (cells : List ℕ) : Type 0 where
-  pub whole : extent (countsIn cells) ≤ length cells
-  pub keeps : keepsRules (tableIn cells) ≡ true
-  pub bounds : Bounded (countsIn cells)
+-- what cells that hold a table say of its text
+pub record HeldText (cells : List ℕ) : Type 0 where
+  pub holds : Holding cells
   pub size : length (textOf (tableIn cells)) ≡ 26 + 7 * getD cells 1 0 + 7 * getD cells 2 0 + 15 * getD cells 3 0
 
-pub holding : (cells : List ℕ) → loaded cells ≡ some (tableIn cells) → Holding cells
-holding cells holds = go (leb (extent (countsIn cells)) (length cells)) refl
-  where
-    t : Table
-    t = tableIn cells
-
-    keeps : keepsRules t ≡ true
-    keeps = cells-loaded cells t holds .0
-
-    go : (b : Bool) → leb (extent (countsIn cells)) (length cells) ≡ b → Holding cells
-    go true h =
-        let whole : extent (countsIn cells) ≤ length cells = leb-true _ _ h in
-        let e = counts-of cells whole in
-        let i : length (t .initials) ≡ getD cells 1 0 = ap (λ (c : Counts). c .initials) e in
-        let m : length (t .terminals) ≡ getD cells 2 0 = ap (λ (c : Counts). c .terminals) e in
-        let a : length (t .arcs) ≡ getD cells 3 0 = ap (λ (c : Counts). c .arcs) e in
-        let z = length-text t in
-        record { whole = whole; keeps = keeps; bounds = subst Bounded e (table-bounded t keeps); size = omega arith }
-    go false h = let z = loaded-short cells (leb-false _ _ h) in let f : _≡_ {A = ℕ} 0 1 = cc in absurd (omega arith)
+pub held-text : (cells : List ℕ) → loaded cells ≡ some (tableIn cells) → HeldText cells
+held-text cells l =
+    let h = holding cells l in
+    let e = counts-of cells (h .whole) in
+    let i = ap (λ (c : Counts). c .initials) e in
+    let m = ap (λ (c : Counts). c .terminals) e in
+    let a = ap (λ (c : Counts). c .arcs) e in
+    let z = length-text (tableIn cells) in
+    record { holds = h; size = omega arith }
 
 -- every cell of arcs between at most 256 states is a byte
 arcs-bytes : (states n : ℕ) (cells : List ℕ) → states ≤ 256 → length cells ≡ 4 * n → All (ArcBounded states) (arcsIn n cells) → All IsByte cells
@@ -74,7 +58,7 @@ module _ (cells : List ℕ) (l : Layout) where
   terminalsPart = take (l .arcs - l .terminals) (drop (l .terminals) cells)
 
   pub record Parted : Type 0 where
-    pub held : Holding cells
+    pub held : HeldText cells
     pub laid : LaidOut cells l
     pub initials : initialsPart ≡ tableIn cells .initials
     pub terminals : terminalsPart ≡ tableIn cells .terminals
@@ -86,7 +70,8 @@ module _ (cells : List ℕ) (l : Layout) where
 
   pub parted : l ≡ layoutOf (countsIn cells) → loaded cells ≡ some (tableIn cells) → Parted
   parted laid-is holds =
-      let h : Holding cells = holding cells holds in
+      let held : HeldText cells = held-text cells holds in
+      let h : Holding cells = held .holds in
       let at = ap (λ (x : Layout). x .end) laid-is in
       let laid : LaidOut cells l = laid-out cells l laid-is (omega arith) in
       let e = counts-of cells (h .whole) in
@@ -98,7 +83,7 @@ module _ (cells : List ℕ) (l : Layout) where
       let b = h .bounds in
       let states = ap (λ (c : Counts). c .states) e in
       record {
-        held = h;
+        held = held;
         laid = laid;
         initials = pi;
         terminals = pm;
@@ -124,7 +109,7 @@ module _ (cells : List ℕ) (l : Layout) where
   unfolding charsOf
   written h d m₁ m₂ m₃ m₄ m₅ p₂ p₃ p₄ room q₁ q₂ q₃ q₄ q₅ =
       let t : Table = tableIn cells in
-      let e : countsIn cells ≡ countsOf t = sym (counts-of cells (h .held .whole)) in
+      let e : countsIn cells ≡ countsOf t = sym (counts-of cells (h .held .holds .whole)) in
       let c₁ = length-lines initialBytes 3 (λ s. refl) (t .initials) in
       let c₂ = length-lines terminalBytes 3 (λ s. refl) (t .terminals) in
       let c₃ = length-lines arcBytes 7 (λ a. refl) (t .arcs) in

@@ -1,5 +1,4 @@
 // A loaded table written as text.
-use crate::checker;
 use destination::Answer;
 use refusal::Refusal;
 use refusal::StateCause;
@@ -28,7 +27,7 @@ fn write_table(cells: &[u16], text: &mut [u8])
     ensures { λ _. ⌜ now (text .exit) ≡ textOf (tableIn (now (cells .entry))) ++ drop (length (textOf (tableIn (now (cells .entry))))) (now (text .entry)) ⌝ }
 {
     let lines = 1 + cells[1] + cells[2] + cells[3];
-    let at = checker::layout(cells);
+    let at = table_check::layout_of(cells);
     let terminals = at.terminals;
     let arcs = at.arcs;
     let end = at.end;
@@ -43,7 +42,7 @@ fn write_table(cells: &[u16], text: &mut [u8])
 pub fn write(cells: &[u16], text: &mut [u8]) -> Answer
     ensures { λ r. ⌜ (r ≡ writeAnswer (now (cells .entry)) (now (text .entry))) × (now (text .exit) ≡ writeText (now (cells .entry)) (now (text .entry))) ⌝ }
 {
-    let checked = checker::check(cells);
+    let checked = table_check::check(cells);
     if checked.ok {
         let size = text_size(cells);
         if size <= text.len() {

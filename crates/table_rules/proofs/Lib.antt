@@ -2,4 +2,3 @@
 pub mod Turn
 pub mod Sources
 pub mod Faults
-pub mod Joined

@@ -1,14 +1,14 @@
 -- What the code of the rules says, in the terms of Rules.
-use Prim.Native.Nat.{ℕ, _+_, _*_, _/_, _%_, _≤_, max}
+use Prim.Native.Nat.{ℕ, _+_, _*_, _≤_, max}
 use mathlib.Core.Path.{_≡_}
-use mathlib.Core.Bool.{Bool, true, _&&_}
+use mathlib.Core.Bool.{Bool, true}
 use mathlib.Core.List.{List, [], _∷_}
-use lib.Dec.{eqb, leb, ltb}
+use lib.Dec.{eqb}
 use Rattle.refusal.specs.declared.InputCause.{InputCause}
 use Rattle.table_rules.specs.declared.Judged.{Judged}
 use Rattle.table_rules.specs.declared.Judged.the-variants.{Kept, Broken}
 use Rattle.table_format.specs.Table.{Arc}
-use Rattle.table_format.specs.Rules.{any, each, stateHolds, letterHolds, sourceHolds, sameArc}
+use Rattle.table_format.specs.Rules.{any, each, sourceHolds, sameArc}
 use Rattle.table_format.specs.Cells.{arcsAs}
 
 -- the lowest refusal of those that an item earns
@@ -42,36 +42,3 @@ lastSource (a ∷ b ∷ rest) = lastSource (b ∷ rest)
 -- rule 7 for a list of arcs and one more of that source
 abbrev pub SourcesRise : List ℕ → ℕ → Type 0
 SourcesRise cells source = (each sourceHolds [] (arcsAs cells) ≡ true) × (lastSource (arcsAs cells) ≤ source)
-
--- letters as one number; such numbers joined by `|` show whether all those letters are in their limit
-abbrev pub joinedLetters : ℕ → ℕ → ℕ
-joinedLetters u l = l * 65536 + u
-
-unfoldable pub joinedHold : ℕ → Bool
-joinedHold n = leb (n % 65536) 63 && leb (n / 65536) 63
-
--- a number for an arc by its source and letters: where it rises from arc to arc, sources do not fall and no arc stands twice
-abbrev pub keyBy : ℕ → ℕ → ℕ
-keyBy source letters = source * 4294967296 + letters + 1
-
-abbrev pub orderKey : Arc → ℕ
-orderKey a = keyBy (a .source) (joinedLetters (a .upper) (a .lower))
-
--- a target that is a state and a key above `top`
-unfoldable pub risesBy : ℕ → ℕ → ℕ → ℕ → Bool
-risesBy states target key top = stateHolds states target && ltb top key
-
-abbrev pub rises : ℕ → ℕ → Arc → Bool
-rises states top a = risesBy states (a .target) (orderKey a) top
-
--- each arc is of that kind, over the keys before it
-abbrev pub eachRises : ℕ → List Arc → Bool
-eachRises states = each (λ before a. rises states (largest orderKey before) a) []
-
--- 5: the letters of each arc
-abbrev pub lettersHold : List Arc → Bool
-lettersHold = each (λ before a. letterHolds (a .upper) && letterHolds (a .lower)) []
-
--- the largest key shows that all sources are states
-unfoldable pub arcsRise : ℕ → List Arc → Bool
-arcsRise states arcs = eachRises states arcs && (lettersHold arcs && leb (largest orderKey arcs) (states * 4294967296))

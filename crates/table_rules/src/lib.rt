@@ -4,7 +4,7 @@ ghost use mathlib.Core.Path.{_≡_};
 ghost use Prim.Native.Nat.{_≤_};
 ghost use mathlib.Core.Bool.{true};
 ghost use Rattle.table_format.specs.Rules.{countsHold, initialFaults, terminalFaults, arcFaults, arcsKeep};
-ghost use Rattle.table_rules.specs.Judge.{judged, hasState, largest, stateKey, arcKey, lastSource, SourcesRise, repeated, joinedLetters, joinedHold, keyBy, risesBy};
+ghost use Rattle.table_rules.specs.Judge.{judged, hasState, largest, stateKey, arcKey, lastSource, SourcesRise, repeated};
 ghost use Rattle.table_format.specs.Cells.{countsAs, arcAs, arcsAs, Whole};
 
 // How a rule judges an item: kept, or the lowest refusal that it earns.
@@ -172,38 +172,4 @@ pub fn arc_fault(
     } else {
         Judged::Kept
     }
-}
-
-// The letters of an arc as one number.
-pub fn letters(upper: u16, lower: u16) -> u32
-    ensures { λ r. ⌜ r ≡ joinedLetters upper lower ⌝ }
-{
-    lower as u32 * 65536 + upper as u32
-}
-
-// Whether letters joined by `|` are all in their limit.
-pub fn joined_hold(joined: u32) -> bool
-    ensures { λ r. ⌜ r ≡ joinedHold joined ⌝ }
-{
-    if 63 < joined % 65536 {
-        return false;
-    }
-    joined / 65536 <= 63
-}
-
-// A number for an arc by its source and letters, which rises where arcs stand in order.
-pub fn order_key(source: u16, letters: u32) -> u64
-    ensures { λ r. ⌜ r ≡ keyBy source letters ⌝ }
-{
-    source as u64 * 4294967296 + letters as u64 + 1
-}
-
-// Whether an arc has a target that is a state and a key above `top`.
-pub fn is_rising(states: u16, target: u16, key: u64, top: u64) -> bool
-    ensures { λ r. ⌜ r ≡ risesBy states target key top ⌝ }
-{
-    if states <= target {
-        return false;
-    }
-    top < key
 }

@@ -1,8 +1,8 @@
 use borrow.Author.Needs.{needs}
 use mathlib.Core.Path.{sym, ap, _∙_}
 use denote.Ref.{now}
-use Rattle.table.specs.declared.Checked.{Checked}
-use Rattle.table.proofs.TableCheck.{laid}
+use Rattle.table_check.specs.declared.Checked.{Checked}
+use Rattle.table_check.proofs.Passing.{laid}
 use Rattle.engine_admission.proofs.Words.{asking-turned, asking-passes}
 use Rattle.engine.proofs.Resuming.{turned-outcome, admitted-by}
 use Rattle.engine.proofs.advance.advance.Statement.{statement}

@@ -3,8 +3,8 @@ use native.Mathlib.Omega.{arith}
 use mathlib.Core.Path.{sym, ap, subst, _∙_}
 use denote.Ref.{now}
 use borrow.Author.Needs.{needs}
-use Rattle.table.specs.declared.Checked.{Checked}
-use Rattle.table.proofs.TableCheck.{laid}
+use Rattle.table_check.specs.declared.Checked.{Checked}
+use Rattle.table_check.proofs.Passing.{laid}
 use Rattle.machine.specs.Start.{StartIs}
 use Rattle.machine.specs.declared.Started.{Started}
 use Rattle.engine_admission.proofs.Words.{asking-turned, asking-passes}

@@ -1,12 +1,12 @@
 -- The counts of cells that hold a table are those of the table.
 use native.Mathlib.Omega.{arith}
 use denote.Ref.{now}
-use Rattle.table.proofs.Written.{Holding, holding}
+use Rattle.table.proofs.Written.{HeldText, held-text}
 use Rattle.table.proofs.writer.text_size.Statement.{statement}
 use Rattle.table.proofs.writer.text_size.Tie as tie
 
-held : (c : tie.Start) → Holding (now (c .args .cells))
-held c = holding (now (c .args .cells)) (c .pre)
+held : (c : tie.Start) → HeldText (now (c .args .cells))
+held c = held-text (now (c .args .cells)) (c .pre)
 
 shared-slice-read-states : tie.Need-shared-slice-read-states
 shared-slice-read-states c = let h = held (c .before) in omega arith

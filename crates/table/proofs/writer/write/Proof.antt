@@ -7,7 +7,7 @@ use borrow.Author.Needs.{needs}
 use Rattle.destination.specs.declared.Answer.the-variants.{Done}
 use Rattle.table_format.specs.Loaded.{tableIn, loaded}
 use Rattle.table.proofs.Calls.{write-fits, write-short, write-broken, write-refused}
-use Rattle.table.proofs.TableCheck.{passed, failed}
+use Rattle.table_check.proofs.Passing.{passed, failed}
 use Rattle.table.proofs.writer.write.Statement.{statement}
 use Rattle.table.proofs.writer.write.Tie as tie
 

@@ -2,15 +2,15 @@
 use native.Mathlib.Omega.{arith}
 use denote.Ref.{now}
 use borrow.Author.Needs.{needs}
-use Rattle.table.proofs.Written.{Holding, holding, Parted, parted, written}
+use Rattle.table.proofs.Written.{HeldText, held-text, Parted, parted, written}
 use Rattle.table.proofs.writer.write_table.Statement.{statement}
 use Rattle.table.proofs.writer.write_table.Tie as tie
 
-held : (c : tie.Start) → Holding (now (c .args .cells))
-held c = holding (now (c .args .cells)) (c .pre .0)
+held : (c : tie.Start) → HeldText (now (c .args .cells))
+held c = held-text (now (c .args .cells)) (c .pre .0)
 
-parts : (c : tie.After-layout) → Parted (now (c .before .before .before .before .before .before .args .cells)) (c .layout .result)
-parts c = parted (now (c .before .before .before .before .before .before .args .cells)) (c .layout .result) (c .layout .ensures) (c .before .before .before .before .before .before .pre .0)
+parts : (c : tie.After-layout-of) → Parted (now (c .before .before .before .before .before .before .args .cells)) (c .layout-of .result)
+parts c = parted (now (c .before .before .before .before .before .before .args .cells)) (c .layout-of .result) (c .layout-of .ensures) (c .before .before .before .before .before .before .pre .0)
 
 shared-slice-read-lines : tie.Need-shared-slice-read-lines
 shared-slice-read-lines c = let h = held (c .before .before .before) in omega arith
@@ -30,8 +30,8 @@ shared-slice-read-lines-3 c = let h = held (c .before .before .before .before .b
 add-lines-3 : tie.Need-add-lines-3
 add-lines-3 c = let h = held (c .before .before .before .before .before) in omega arith
 
-layout-requires : tie.Need-layout-requires
-layout-requires c κs = search needs
+layout-of-requires : tie.Need-layout-of-requires
+layout-of-requires c κs = search needs
 
 header-line-requires : tie.Need-header-line-requires
 header-line-requires c κs = let h = held (c .before .before .before .before .before .before .before) in omega arith
@@ -100,7 +100,7 @@ write-table-spec =
     add-lines-2
     shared-slice-read-lines-3
     add-lines-3
-    layout-requires
+    layout-of-requires
     header-line-requires
     sub-state-lines
     part-state-lines-start

@@ -1,0 +1,102 @@
+-- The parts of cells that hold a table whole are the table's lists; with them the rules are those of the table.
+use Prim.Native.Nat.{ℕ, _-_, _*_, _/_, _≤_, _<_}
+use native.Mathlib.Omega.{arith}
+use mathlib.Core.Path.{_≡_, refl, sym, ap, ap₂, _∙_}
+use mathlib.Core.Bool.{Bool, true, false, cond, _&&_}
+use mathlib.Core.Option.{none, some}
+use mathlib.Core.List.{List}
+use lib.Dec.{leb}
+use lib.ListN.{length, getD, take, drop, length-drop}
+use lib.Seq.{length-take-le}
+use borrow.Author.Tests.{le-leb, lt-leb}
+use Rattle.table_check.specs.declared.Layout.{Layout}
+use Rattle.table_format.specs.Table.{countsOf}
+use Rattle.table_format.specs.Rules.{countsHold, initialsKeep, terminalsKeep, arcsKeep, keepsRules}
+use Rattle.table_format.specs.Loaded.{countsIn, arcsIn, extent, tableIn, loaded}
+use Rattle.table_format.specs.Index.{firstIndex, firstArcs}
+use Rattle.table_format.specs.Cells.{countsAs, arcsAs, Whole}
+use Rattle.table_check.specs.Check.{LaidOut, layoutOf}
+use Rattle.table_format.proofs.Arcs.{at-equal, arcs-take}
+use Rattle.table_format.proofs.Rules.{header-clear, keeps-parts, counts-bounded}
+use Rattle.table_format.proofs.Loaded.{counts-of}
+
+module _ (cells : List ℕ) (l : Layout) (L : LaidOut cells l) where
+  pub initials-part : take (l .terminals - 4) (drop 4 cells) ≡ tableIn cells .initials
+  unfolding tableIn
+  initials-part = at-equal (λ n. take n (drop 4 cells)) (l .terminals - 4) (getD cells 1 0) (omega arith)
+
+  pub terminals-part : take (l .arcs - l .terminals) (drop (l .terminals) cells) ≡ tableIn cells .terminals
+  unfolding tableIn
+  terminals-part =
+      at-equal (λ n. take n (drop (l .terminals) cells)) (l .arcs - l .terminals) (getD cells 2 0) (omega arith)
+      ∙ ap (λ (n : ℕ). take (getD cells 2 0) (drop n cells)) (L .terminals-is)
+
+  abbrev pub arcsPart : List ℕ
+  arcsPart = take (l .end - l .arcs) (drop (l .arcs) cells)
+
+  pub arcs-length : length arcsPart ≡ 4 * getD cells 3 0
+  arcs-length = length-take-le (l .end - l .arcs) (drop (l .arcs) cells) (simp length-drop (omega arith)) ∙ omega arith
+
+  pub arcs-whole : Whole arcsPart
+  arcs-whole = let e = arcs-length in omega arith
+
+  pub arcs-part : arcsAs arcsPart ≡ tableIn cells .arcs
+  unfolding tableIn
+  arcs-part =
+      at-equal (λ n. arcsIn n arcsPart) (length arcsPart / 4) (getD cells 3 0) (let e = arcs-length in omega arith)
+      ∙ arcs-take (getD cells 3 0) (l .end - l .arcs) (drop (l .arcs) cells) (omega arith) (simp length-drop (omega arith))
+      ∙ ap (λ (n : ℕ). arcsIn (getD cells 3 0) (drop n cells)) (L .arcs-is)
+
+  states-part : tableIn cells .states ≡ l .states
+  unfolding tableIn
+  states-part = sym (L .states-is)
+
+  -- the rules, part by part
+  pub rules-parts : keepsRules (tableIn cells)
+      ≡ (countsHold (countsAs (l .states) (getD cells 1 0) (getD cells 2 0) (getD cells 3 0))
+      && (initialsKeep (l .states) (take (l .terminals - 4) (drop 4 cells))
+      && (terminalsKeep (l .states) (take (l .arcs - l .terminals) (drop (l .terminals) cells)) && arcsKeep (l .states) (arcsAs arcsPart))))
+  unfolding keepsRules
+  rules-parts =
+      ap₂ _&&_ (header-clear (countsOf (tableIn cells)) ∙ ap countsHold (counts-of cells (L .whole) ∙ ap (λ (n : ℕ). countsAs n (getD cells 1 0) (getD cells 2 0) (getD cells 3 0)) (sym (L .states-is))))
+      (ap₂ _&&_ (ap₂ initialsKeep states-part (sym initials-part)) (ap₂ _&&_ (ap₂ terminalsKeep states-part (sym terminals-part)) (ap₂ arcsKeep states-part (sym arcs-part))))
+
+  -- what the index asks, where the rules are kept, and what it is of
+  pub index-ready : keepsRules (tableIn cells) ≡ true
+      → Whole arcsPart × (((length arcsPart ≤ 4096) × (l .states ≤ 256)) × (arcsKeep (l .states) (arcsAs arcsPart) ≡ true))
+  index-ready e =
+      let k = keeps-parts (tableIn cells) .0 e in
+      let b = counts-bounded (countsIn cells) (sym (ap countsHold (counts-of cells (L .whole))) ∙ k .counts) in
+      (arcs-whole, ((omega (arith, arcs-length, b .arcs), omega (arith, b .states, L .states-is)), ap₂ arcsKeep (sym states-part) arcs-part ∙ k .arcs))
+
+  pub index-part : firstIndex (l .states) (arcsAs arcsPart) ≡ firstArcs (tableIn cells)
+  index-part = ap₂ firstIndex (sym states-part) arcs-part
+
+pub laid-out : (cells : List ℕ) (l : Layout) → l ≡ layoutOf (countsIn cells) → l .end ≤ length cells → LaidOut cells l
+laid-out cells l e h =
+    record {
+      states-is = ap (λ (x : Layout). x .states) e;
+      initials-is = ap (λ (x : Layout). x .initials) e;
+      terminals-is = ap (λ (x : Layout). x .terminals) e;
+      arcs-is = ap (λ (x : Layout). x .arcs) e;
+      end-is = ap (λ (x : Layout). x .end) e;
+      whole = omega (arith, ap (λ (x : Layout). x .end) e);
+    }
+
+-- 20, decided
+
+pub loaded-kept : (cells : List ℕ) → extent (countsIn cells) ≤ length cells → keepsRules (tableIn cells) ≡ true → loaded cells ≡ some (tableIn cells)
+unfolding loaded
+loaded-kept cells h e = simp (le-leb (extent (countsIn cells)) (length cells) h, e)
+
+pub loaded-broken : (cells : List ℕ) → keepsRules (tableIn cells) ≡ false → loaded cells ≡ none
+unfolding loaded
+loaded-broken cells e = go (leb (extent (countsIn cells)) (length cells))
+  where
+    go : (b : Bool) → cond (b && keepsRules (tableIn cells)) (some (tableIn cells)) none ≡ none
+    go true = simp e
+    go false = refl
+
+pub loaded-short : (cells : List ℕ) → length cells < extent (countsIn cells) → loaded cells ≡ none
+unfolding loaded
+loaded-short cells h = simp (lt-leb (extent (countsIn cells)) (length cells) h)

@@ -1,0 +1,22 @@
+use mathlib.Core.Path.{sym, _∙_}
+use denote.Ref.{now}
+use borrow.Author.Needs.{needs}
+use Rattle.table_format.specs.Cells.{arcsAs}
+use Rattle.table_order.proofs.Rising.{rising-keep}
+use Rattle.table_check.proofs.arcs_hold.Statement.{statement}
+use Rattle.table_check.proofs.arcs_hold.Tie as tie
+
+arcs-rise-requires : tie.Need-arcs-rise-requires
+arcs-rise-requires c κs = search needs
+
+returns : tie.Need-returns
+returns c = sym (rising-keep (c .before .before .before .args .states) (arcsAs (now (c .before .before .before .args .cells))) (sym (c .before .arcs-rise .ensures) ∙ c .if1 .taken))
+
+each-arc-holds-requires : tie.Need-each-arc-holds-requires
+each-arc-holds-requires c κs = search needs
+
+returns-2 : tie.Need-returns-2
+returns-2 c = search needs
+
+pub arcs-hold-spec : {M : Type 1} → statement M
+arcs-hold-spec = tie.close (tie.spec arcs-rise-requires returns each-arc-holds-requires returns-2)

@@ -1,0 +1,2 @@
+-- When the arcs of a table stand in order.
+pub mod Order
