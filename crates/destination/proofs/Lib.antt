@@ -1,3 +1,4 @@
--- Laws of what a destination takes, and of the copy to its front.
+-- Laws of the copy to the front of a destination, of what it takes, and of what the answer tells.
 pub mod Copying
 pub mod Stored
+pub mod Told
