@@ -10,7 +10,7 @@ use borrow.Author.Tests.{ltb-true, ltb-false, leb-true, eqb-true, lt-ltb, le-ltb
 use Rattle.refusal.specs.declared.InputCause.the-variants.{StateNumber, LetterLimit, StateOrder, SourceOrder, ArcRepeated}
 use Rattle.table_rules.specs.declared.Judged.the-variants.{Kept, Broken}
 use Rattle.table_format.specs.Table.{Arc}
-use Rattle.table_format.specs.Rules.{any, lastIs, each, sourceHolds, sameArc, initialFaults, terminalFaults, arcFaults}
+use Rattle.table_format.specs.Rules.{any, lastIs, each, letterHolds, sourceHolds, sameArc, initialFaults, terminalFaults, arcFaults}
 use Rattle.table_format.specs.Loaded.{arcsIn}
 use Rattle.table_rules.specs.Judge.{judged, hasState, repeated, largest, stateKey, arcKey, lastSource, SourcesRise}
 use Rattle.table_format.specs.Cells.{arcsAs, Whole}
@@ -150,13 +150,9 @@ module _ (n : ℕ) (before : List Arc) (a : Arc) where
   arc-target-out g h = simp (lt-ltb (a .source) n g, le-ltb (a .target) n h)
 
   module _ (g : a .source < n) (h : a .target < n) where
-    pub arc-upper-out : 63 < a .upper → judged (arcFaults n before a) ≡ Broken LetterLimit
+    pub arc-letter-out : (letterHolds (a .upper) && letterHolds (a .lower)) ≡ false → judged (arcFaults n before a) ≡ Broken LetterLimit
     unfolding arcFaults
-    arc-upper-out k = simp (lt-ltb (a .source) n g, lt-ltb (a .target) n h, lt-leb (a .upper) 63 k)
-
-    pub arc-lower-out : a .upper ≤ 63 → 63 < a .lower → judged (arcFaults n before a) ≡ Broken LetterLimit
-    unfolding arcFaults
-    arc-lower-out k l = simp (lt-ltb (a .source) n g, lt-ltb (a .target) n h, le-leb (a .upper) 63 k, lt-leb (a .lower) 63 l)
+    arc-letter-out e = simp (lt-ltb (a .source) n g, lt-ltb (a .target) n h, e)
 
     module _ (k : a .upper ≤ 63) (l : a .lower ≤ 63) where
       pub arc-falls : sourceHolds before a ≡ false → judged (arcFaults n before a) ≡ Broken SourceOrder
