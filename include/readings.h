@@ -32,6 +32,8 @@
 #define RD_MOST_LETTER 63    /* the highest letter; the lowest is 1 */
 #define RD_MOST_WORD 64      /* letters of a word */
 #define RD_MOST_FRAMES 33024 /* frames of a stack that are ever used */
+#define RD_INITIALS_AT 4     /* where the initial states begin in a table's cells: behind its counts */
+#define RD_ARC_CELLS 4       /* cells of an arc: source, upper letter, lower letter, target */
 #define RD_TABLE_CELLS 4612  /* cells that hold every table */
 #define RD_TEXT_BYTES 18970  /* bytes that hold the text of every table */
 #define RD_FRAME_CELLS 4     /* cells of a frame: state, next arc, letters passed on the upper and on the lower side */
@@ -119,8 +121,8 @@ typedef struct {
     uint32_t depth;
 } rd_run;
 
-/* Reads a table's text of n bytes, whose lines README.md shows under "What goes in", into cells: four counts (states, initials,
- * terminals, arcs), the initial states, the terminal states, four cells an arc (source, upper letter, lower letter, target). length:
+/* Reads a table's text of n bytes, whose lines README.md shows under "What goes in", into cells: the counts of states, initial states,
+ * terminal states and arcs; from RD_INITIALS_AT on the initial states, then the terminal states; then RD_ARC_CELLS cells an arc. length:
  * cells of the table. Refusals: 1 to 9, 24. */
 rd_answer rd_table_read(const uint8_t *text, size_t n, uint16_t *table, size_t m);
 

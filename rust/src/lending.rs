@@ -195,7 +195,8 @@ pub fn start(table: &[u16], task: u32, upper: &[u8], lower: &[u8], run: &mut Run
     }
 }
 
-/// Goes on with a search, for at most `allowance` steps, to the next reading. A stack has four cells a frame.
+/// Goes on with a search, for at most `allowance` steps, to the next reading. A stack has [`FRAME_CELLS`](crate::limits::FRAME_CELLS)
+/// cells a frame.
 pub fn next(
     table: &[u16],
     upper: &[u8],

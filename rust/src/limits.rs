@@ -10,14 +10,23 @@ pub const MOST_LETTER: u8 = 63;
 pub const MOST_WORD: usize = 64;
 /// Frames of a stack that are ever used.
 pub const MOST_FRAMES: usize = 33_024;
+/// Where the initial states begin in the cells of a table: behind its counts of states, initial states, terminal states and arcs.
+pub const INITIALS_AT: usize = 4;
+/// Cells of an arc: source, upper letter, lower letter, target.
+pub const ARC_CELLS: usize = 4;
 /// Cells that hold every table.
-pub const TABLE_CELLS: usize = 4_612;
+pub const TABLE_CELLS: usize = table_cells(MOST_STATES, MOST_STATES, MOST_ARCS);
 /// Bytes that hold the text of every table.
 pub const TEXT_BYTES: usize = 18_970;
 /// Cells of a frame: state, next arc, letters passed on the upper and on the lower side.
 pub const FRAME_CELLS: usize = 4;
 /// States of the longest idle cycle.
 pub const CYCLE_STATES: usize = 256;
+
+/// Cells of a table, by its counts of initial states, terminal states and arcs.
+pub const fn table_cells(initials: usize, terminals: usize, arcs: usize) -> usize {
+    INITIALS_AT + initials + terminals + ARC_CELLS * arcs
+}
 
 /// Frames that are enough for a search, by its letters to read, those of every word that the task reads, and the table's states.
 pub const fn stack_frames(letters: usize, states: usize) -> usize {

@@ -1,6 +1,6 @@
 //! Tables that keep the rules.
 use crate::lending;
-use crate::limits::{TABLE_CELLS, TEXT_BYTES};
+use crate::limits::{TABLE_CELLS, TEXT_BYTES, table_cells};
 use crate::{Refusal, Search, StartRefused, Task};
 
 /// A loaded table, which keeps the rules.
@@ -22,14 +22,14 @@ impl Table {
     pub fn from_cells(cells: &[u16]) -> Result<Table, Refusal> {
         lending::table_write(cells, &mut [0; TEXT_BYTES]).done()?;
         let count = |k: usize| usize::from(cells[k]);
-        let length = 4 + count(1) + count(2) + 4 * count(3);
+        let length = table_cells(count(1), count(2), count(3));
         Ok(Table {
             cells: cells[..length].to_vec(),
         })
     }
 
-    /// Four counts (states, initials, terminals, arcs), the initial states, the terminal states, four cells an arc (source, upper
-    /// letter, lower letter, target).
+    /// The counts of states, initial states, terminal states and arcs; the initial states, the terminal states; and for each arc its
+    /// source, upper letter, lower letter and target.
     pub fn cells(&self) -> &[u16] {
         &self.cells
     }

@@ -111,6 +111,8 @@ fn limits_and_sizes() {
         ("RD_MOST_LETTER", limits::MOST_LETTER.into()),
         ("RD_MOST_WORD", limits::MOST_WORD),
         ("RD_MOST_FRAMES", limits::MOST_FRAMES),
+        ("RD_INITIALS_AT", limits::INITIALS_AT),
+        ("RD_ARC_CELLS", limits::ARC_CELLS),
         ("RD_TABLE_CELLS", limits::TABLE_CELLS),
         ("RD_TEXT_BYTES", limits::TEXT_BYTES),
         ("RD_FRAME_CELLS", limits::FRAME_CELLS),

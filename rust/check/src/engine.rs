@@ -1,24 +1,56 @@
 //! What is compared: anything that starts searches and calls for readings, and anything that reads and writes tables.
 use crate::answer::{Answer, Run, Started};
 
+/// What a start is handed, beside the run that it sets.
+#[derive(Clone, Copy, Debug)]
+pub struct Start<'a> {
+    pub table: &'a [u16],
+    pub task: u32,
+    pub upper: &'a [u8],
+    pub lower: &'a [u8],
+}
+
+/// What a call for the next reading is handed.
+#[derive(Debug)]
+pub struct Next<'a> {
+    pub table: &'a [u16],
+    pub upper: &'a [u8],
+    pub lower: &'a [u8],
+    pub run: &'a mut Run,
+    pub stack: &'a mut [u32],
+    pub allowance: u32,
+    pub output: &'a mut [u8],
+}
+
+impl<'a> Next<'a> {
+    /// What the start of its search was handed.
+    pub fn start(&self) -> Start<'a> {
+        Start {
+            table: self.table,
+            task: self.run.task,
+            upper: self.upper,
+            lower: self.lower,
+        }
+    }
+
+    /// The same, lent on.
+    pub fn lend(&mut self) -> Next<'_> {
+        Next {
+            run: self.run,
+            stack: self.stack,
+            output: self.output,
+            ..*self
+        }
+    }
+}
+
 /// Starts and calls on a loaded table.
 pub trait Engine {
     /// Answers `done` and sets the run, or refuses; refusal 12 tells a cycle.
-    fn start(&self, table: &[u16], task: u32, upper: &[u8], lower: &[u8], run: &mut Run)
-    -> Started;
+    fn start(&self, start: Start, run: &mut Run) -> Started;
 
     /// Goes on with a run until a reading, the end, the allowance or a refusal.
-    #[allow(clippy::too_many_arguments)]
-    fn next(
-        &self,
-        table: &[u16],
-        upper: &[u8],
-        lower: &[u8],
-        run: &mut Run,
-        stack: &mut [u32],
-        allowance: u32,
-        output: &mut [u8],
-    ) -> Answer;
+    fn next(&self, call: Next) -> Answer;
 }
 
 /// A table's text read to cells, and cells written as text.

@@ -1,6 +1,6 @@
 //! The proved library, called through the package `readings`.
 use crate::answer::{Answer, Run, Started};
-use crate::engine::{Engine, Texts};
+use crate::engine::{Engine, Next, Start, Texts};
 use readings::lending;
 
 /// The proved library. It keeps nothing: all memory is lent by the caller.
@@ -18,27 +18,20 @@ impl Texts for Library {
 }
 
 impl Engine for Library {
-    fn start(
-        &self,
-        table: &[u16],
-        task: u32,
-        upper: &[u8],
-        lower: &[u8],
-        run: &mut Run,
-    ) -> Started {
-        lending::start(table, task, upper, lower, run).into()
+    fn start(&self, start: Start, run: &mut Run) -> Started {
+        lending::start(start.table, start.task, start.upper, start.lower, run).into()
     }
 
-    fn next(
-        &self,
-        table: &[u16],
-        upper: &[u8],
-        lower: &[u8],
-        run: &mut Run,
-        stack: &mut [u32],
-        allowance: u32,
-        output: &mut [u8],
-    ) -> Answer {
-        lending::next(table, upper, lower, run, stack, allowance, output).into()
+    fn next(&self, call: Next) -> Answer {
+        lending::next(
+            call.table,
+            call.upper,
+            call.lower,
+            call.run,
+            call.stack,
+            call.allowance,
+            call.output,
+        )
+        .into()
     }
 }

@@ -1,11 +1,13 @@
 //! What a start and a call must answer on anything that they are handed: the refusals in order, then the rule for one step.
 //! Plain and slow, on structs and vectors, after the specification's list of refusals and its rule for one step.
 use crate::answer::{Answer, Run, Started};
-use crate::engine::{Engine, Texts};
+use crate::engine::{Engine, Next, Start, Texts};
 use crate::idle;
 use crate::query;
 use crate::table::{Arc, Table};
 use crate::text;
+use readings::limits::FRAME_CELLS;
+use std::ops::Range;
 
 /// No more frames of a stack are used.
 const MOST_FRAMES: usize = 33_024;
@@ -30,8 +32,13 @@ struct Search<'a> {
 /// A step that was made, with the reading if it found one, or the refusal that keeps it from being made.
 type Made = Result<Option<Vec<u8>>, u32>;
 
+/// Where the cells of a frame stand.
+fn place(i: usize) -> Range<usize> {
+    FRAME_CELLS * i..FRAME_CELLS * (i + 1)
+}
+
 fn frame_at(stack: &[u32], i: usize) -> Frame {
-    let cells = &stack[4 * i..4 * i + 4];
+    let cells = &stack[place(i)];
     Frame {
         state: cells[0],
         next: cells[1],
@@ -42,7 +49,7 @@ fn frame_at(stack: &[u32], i: usize) -> Frame {
 
 fn put_frame(stack: &mut [u32], i: usize, frame: Frame) {
     let cells = [frame.state, frame.next, frame.upper, frame.lower];
-    stack[4 * i..4 * i + 4].copy_from_slice(&cells);
+    stack[place(i)].copy_from_slice(&cells);
 }
 
 /// How many letters of a side are passed after an arc's letter; none where it does not fit.
@@ -56,16 +63,16 @@ fn passed(read: bool, word: &[u8], letter: u16, before: u32) -> Option<u32> {
 
 impl<'a> Search<'a> {
     /// 20, 11, 10.
-    fn ask(cells: &[u16], task: u32, upper: &'a [u8], lower: &'a [u8]) -> Result<Search<'a>, u32> {
-        let table = Table::loaded(cells).ok_or(20u32)?;
-        if let Some(number) = query::fault(task, upper, lower) {
+    fn ask(start: Start<'a>) -> Result<Search<'a>, u32> {
+        let table = Table::loaded(start.table).ok_or(20u32)?;
+        if let Some(number) = query::fault(start.task, start.upper, start.lower) {
             return Err(number);
         }
-        let (reads_upper, reads_lower) = query::sides(task).ok_or(11u32)?;
+        let (reads_upper, reads_lower) = query::sides(start.task).ok_or(11u32)?;
         Ok(Search {
             table,
-            upper,
-            lower,
+            upper: start.upper,
+            lower: start.lower,
             reads_upper,
             reads_lower,
         })
@@ -113,7 +120,10 @@ impl<'a> Search<'a> {
     /// The run and its used frames are a place in a search (else 21).
     fn place_holds(&self, run: Run, stack: &[u32]) -> bool {
         let (started, depth) = (run.started as usize, run.depth as usize);
-        if started > self.table.initials.len() || depth > stack.len() / 4 || depth > MOST_FRAMES {
+        if started > self.table.initials.len()
+            || depth > stack.len() / FRAME_CELLS
+            || depth > MOST_FRAMES
+        {
             return false;
         }
         if depth == 0 {
@@ -158,7 +168,7 @@ impl<'a> Search<'a> {
     /// A frame put on top: 22, then 23 where its path accepts. `path` holds the path's arcs.
     fn push(&self, run: Run, stack: &[u32], frame: Frame, path: &[Arc], room: usize) -> Made {
         let depth = run.depth as usize;
-        if depth == MOST_FRAMES || depth == stack.len() / 4 {
+        if depth == MOST_FRAMES || depth == stack.len() / FRAME_CELLS {
             return Err(22);
         }
         if !self.accepts(frame) {
@@ -248,38 +258,22 @@ impl<'a> Search<'a> {
 pub struct Model;
 
 impl Engine for Model {
-    fn start(
-        &self,
-        table: &[u16],
-        task: u32,
-        upper: &[u8],
-        lower: &[u8],
-        run: &mut Run,
-    ) -> Started {
-        Started::bare(match Search::ask(table, task, upper, lower) {
+    fn start(&self, start: Start, run: &mut Run) -> Started {
+        Started::bare(match Search::ask(start) {
             Err(number) => Answer::refused(number, 0),
-            Ok(search) if idle::has_cycle(&search.table, task) => Answer::refused(12, 0),
+            Ok(search) if idle::has_cycle(&search.table, start.task) => Answer::refused(12, 0),
             Ok(_) => {
-                *run = Run::of(task);
+                *run = Run::of(start.task);
                 Answer::done(0)
             }
         })
     }
 
-    fn next(
-        &self,
-        table: &[u16],
-        upper: &[u8],
-        lower: &[u8],
-        run: &mut Run,
-        stack: &mut [u32],
-        allowance: u32,
-        output: &mut [u8],
-    ) -> Answer {
-        match Search::ask(table, run.task, upper, lower) {
+    fn next(&self, call: Next) -> Answer {
+        match Search::ask(call.start()) {
             Err(number) => Answer::refused(number, 0),
-            Ok(search) if !search.place_holds(*run, stack) => Answer::refused(21, 0),
-            Ok(search) => search.go(run, stack, allowance, output),
+            Ok(search) if !search.place_holds(*call.run, call.stack) => Answer::refused(21, 0),
+            Ok(search) => search.go(call.run, call.stack, call.allowance, call.output),
         }
     }
 }

@@ -1,7 +1,8 @@
 //! A session: a table and one query in, the lines of its readings out.
 use crate::answer::{ENDED, FOUND, REFUSED, Run};
-use crate::engine::Engine;
+use crate::engine::{Engine, Next, Start};
 use crate::text;
+use readings::limits::FRAME_CELLS;
 
 /// The longest input, in bytes.
 pub const LONGEST: usize = 65_536;
@@ -89,18 +90,18 @@ fn reading(ordinal: u16, letters: &[u8]) -> Vec<u8> {
 
 /// The readings' lines and the last one.
 fn answer(engine: &impl Engine, asked: &Asked, mut run: Run) -> Vec<u8> {
-    let (mut stack, mut output) = (vec![0; 4 * FRAMES], vec![0; LETTERS]);
+    let (mut stack, mut output) = (vec![0; FRAME_CELLS * FRAMES], vec![0; LETTERS]);
     let (mut lines, mut readings) = (Vec::new(), 0);
     for _ in 0..MOST_CALLS {
-        let answer = engine.next(
-            &asked.table,
-            &asked.upper,
-            &asked.lower,
-            &mut run,
-            &mut stack,
-            ALLOWANCE,
-            &mut output,
-        );
+        let answer = engine.next(Next {
+            table: &asked.table,
+            upper: &asked.upper,
+            lower: &asked.lower,
+            run: &mut run,
+            stack: &mut stack,
+            allowance: ALLOWANCE,
+            output: &mut output,
+        });
         match answer.kind {
             FOUND => {
                 readings += 1;
@@ -131,13 +132,13 @@ pub fn session(engine: &impl Engine, input: &[u8]) -> Vec<u8> {
         Err(number) => return refusal(number),
     };
     let mut run = Run::default();
-    let started = engine.start(
-        &asked.table,
-        asked.task.into(),
-        &asked.upper,
-        &asked.lower,
-        &mut run,
-    );
+    let start = Start {
+        table: &asked.table,
+        task: asked.task.into(),
+        upper: &asked.upper,
+        lower: &asked.lower,
+    };
+    let started = engine.start(start, &mut run);
     if started.answer.is_refused() {
         return refusal(started.answer.number);
     }

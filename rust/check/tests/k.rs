@@ -1,6 +1,7 @@
 //! Document 01's cases on table K, on the lister, the model, the twin and the proved library.
+use readings::limits::FRAME_CELLS;
 use readings_check::answer::{Answer, Run, Started};
-use readings_check::engine::{Engine, Texts};
+use readings_check::engine::{Engine, Next, Start, Texts};
 use readings_check::library::Library;
 use readings_check::lister;
 use readings_check::model::Model;
@@ -29,16 +30,23 @@ fn begin<'a, E: Engine>(
     upper: &[u8],
     lower: &[u8],
 ) -> Way<'a, E> {
-    let (table, mut run) = (table.cells(), Run::default());
-    let started = engine.start(&table, task, upper, lower, &mut run);
+    let (cells, mut run) = (table.cells(), Run::default());
+    let table = &cells;
+    let start = Start {
+        table,
+        task,
+        upper,
+        lower,
+    };
+    let started = engine.start(start, &mut run);
     assert_eq!(started, Started::bare(Answer::done(0)));
     Way {
         engine,
-        table,
+        table: cells,
         upper: upper.to_vec(),
         lower: lower.to_vec(),
         run,
-        stack: vec![0; 4 * 64],
+        stack: vec![0; FRAME_CELLS * 64],
     }
 }
 
@@ -46,15 +54,15 @@ impl<E: Engine> Way<'_, E> {
     /// A call on so many frames, and what it wrote.
     fn call(&mut self, frames: usize, allowance: u32, letters: usize) -> (Answer, Vec<u8>) {
         let mut output = vec![0; letters];
-        let answer = self.engine.next(
-            &self.table,
-            &self.upper,
-            &self.lower,
-            &mut self.run,
-            &mut self.stack[..4 * frames],
+        let answer = self.engine.next(Next {
+            table: &self.table,
+            upper: &self.upper,
+            lower: &self.lower,
+            run: &mut self.run,
+            stack: &mut self.stack[..FRAME_CELLS * frames],
             allowance,
-            &mut output,
-        );
+            output: &mut output,
+        });
         output.truncate(answer.length as usize);
         (answer, output)
     }
@@ -105,10 +113,13 @@ fn start_number(engine: &impl Engine, table: &Table, task: u32, word: &[u8]) -> 
     } else {
         (word, &[][..])
     };
-    let mut run = Run::default();
-    let cells = table.cells();
-    let started = engine.start(&cells, task, upper, lower, &mut run);
-    started.answer.number
+    let start = Start {
+        table: &table.cells(),
+        task,
+        upper,
+        lower,
+    };
+    engine.start(start, &mut Run::default()).answer.number
 }
 
 fn idle_cycles(engine: &impl Engine) {
@@ -147,7 +158,13 @@ fn tasks(engine: &impl Engine) {
     let cells = k().cells();
     for task in [0, 4, 255, 256, 257, 258, 259, 65_538, 1 << 31, u32::MAX] {
         let mut run = Run::of(9);
-        let started = engine.start(&cells, task, &[], &[], &mut run);
+        let start = Start {
+            table: &cells,
+            task,
+            upper: &[],
+            lower: &[],
+        };
+        let started = engine.start(start, &mut run);
         assert_eq!(started, Started::bare(Answer::refused(11, 0)));
         assert_eq!(run, Run::of(9));
     }

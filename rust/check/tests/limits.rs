@@ -1,5 +1,5 @@
 //! The largest tables, the deepest searches, and stacks at the limit of 33,024 frames.
-use readings::limits::{TABLE_CELLS, TEXT_BYTES};
+use readings::limits::{FRAME_CELLS, MOST_FRAMES as MOST, TABLE_CELLS, TEXT_BYTES};
 use readings_check::answer::{Answer, FOUND, Run};
 use readings_check::compare::call::{self, Call};
 use readings_check::compare::texts;
@@ -9,8 +9,6 @@ use readings_check::table::{Arc, Table};
 use readings_check::text;
 use readings_check::twin::SOUND;
 use std::thread;
-
-const MOST: usize = 33_024;
 
 /// Steps to the first reading of the deepest search: a push for each frame, and the arc of the upper letter tried in vain 64 times.
 const FIRST: usize = MOST + 64;
@@ -78,7 +76,7 @@ fn deep_call(frames: usize) -> Call {
             task: 1,
             ..Run::default()
         },
-        stack: vec![9; 4 * frames + 3],
+        stack: vec![9; FRAME_CELLS * frames + 3],
         allowance: u32::MAX,
         output: vec![],
     }

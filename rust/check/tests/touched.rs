@@ -1,7 +1,8 @@
 //! The comparison notices what is told or touched beyond what document 01 says, be it one cell.
+use readings::limits::FRAME_CELLS;
 use readings_check::answer::{Answer, DONE, ENDED, FOUND, PAUSED, Run, Started};
 use readings_check::compare::fixed;
-use readings_check::engine::Engine;
+use readings_check::engine::{Engine, Next, Start};
 use readings_check::twin::SOUND;
 
 /// What a call leaves.
@@ -17,15 +18,8 @@ struct Left<'a> {
 struct Meddled(fn(Left));
 
 impl Engine for Meddled {
-    fn start(
-        &self,
-        table: &[u16],
-        task: u32,
-        upper: &[u8],
-        lower: &[u8],
-        run: &mut Run,
-    ) -> Started {
-        let mut started = SOUND.start(table, task, upper, lower, run);
+    fn start(&self, start: Start, run: &mut Run) -> Started {
+        let mut started = SOUND.start(start, run);
         self.0(Left {
             answer: &mut started.answer,
             run,
@@ -36,22 +30,13 @@ impl Engine for Meddled {
         started
     }
 
-    fn next(
-        &self,
-        table: &[u16],
-        upper: &[u8],
-        lower: &[u8],
-        run: &mut Run,
-        stack: &mut [u32],
-        allowance: u32,
-        output: &mut [u8],
-    ) -> Answer {
-        let mut answer = SOUND.next(table, upper, lower, run, stack, allowance, output);
+    fn next(&self, mut call: Next) -> Answer {
+        let mut answer = SOUND.next(call.lend());
         self.0(Left {
             answer: &mut answer,
-            run,
-            stack,
-            output,
+            run: call.run,
+            stack: call.stack,
+            output: call.output,
             cycle: &mut [],
         });
         answer
@@ -90,7 +75,7 @@ fn output_on_a_refusal() {
 #[test]
 fn a_dropped_frame_cleared() {
     let meddle = |left: Left| {
-        let above = 4 * left.run.depth as usize;
+        let above = FRAME_CELLS * left.run.depth as usize;
         if left.answer.kind == PAUSED
             && let Some(cell) = left.stack.get_mut(above)
         {

@@ -1,7 +1,8 @@
 //! A word run as a session runs it, both engines in turn.
 use super::lists::List;
+use readings::limits::FRAME_CELLS;
 use readings_check::answer::{Answer, ENDED, FOUND, Run};
-use readings_check::engine::Engine;
+use readings_check::engine::{Engine, Next, Start};
 use std::hint::black_box;
 use std::time::{Duration, Instant};
 
@@ -46,7 +47,7 @@ pub struct Times {
 impl Buffers {
     fn new() -> Buffers {
         Buffers {
-            stack: vec![0; 4 * FRAMES],
+            stack: vec![0; FRAME_CELLS * FRAMES],
             output: vec![0; LETTERS],
         }
     }
@@ -59,7 +60,13 @@ impl Buffers {
 
 fn start(engine: &impl Engine, table: &[u16], word: &[u8]) -> (Answer, Run) {
     let mut run = Run::default();
-    let started = engine.start(table, SYNTHESIS, word, &[], &mut run);
+    let start = Start {
+        table,
+        task: SYNTHESIS,
+        upper: word,
+        lower: &[],
+    };
+    let started = engine.start(start, &mut run);
     (started.answer, run)
 }
 
@@ -74,15 +81,15 @@ fn run_word(
     let (_, mut run) = start(engine, table, word);
     let mut readings = 0;
     loop {
-        let answer = engine.next(
+        let answer = engine.next(Next {
             table,
-            word,
-            &[],
-            &mut run,
-            &mut buffers.stack,
-            ALLOWANCE,
-            &mut buffers.output,
-        );
+            upper: word,
+            lower: &[],
+            run: &mut run,
+            stack: &mut buffers.stack,
+            allowance: ALLOWANCE,
+            output: &mut buffers.output,
+        });
         see(answer, buffers);
         readings += u32::from(answer.kind == FOUND);
         if answer.kind == ENDED || answer.is_refused() || readings == MOST_READINGS {

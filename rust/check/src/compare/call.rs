@@ -1,7 +1,7 @@
 //! One call for a reading: the answer, the run, and every cell that was lent.
 use super::{RUN_GUARD, same};
 use crate::answer::{Answer, Run};
-use crate::engine::Engine;
+use crate::engine::{Engine, Next};
 use crate::lent::Lent;
 use crate::model::Model;
 use std::fmt;
@@ -16,6 +16,20 @@ pub struct Call {
     pub stack: Vec<u32>,
     pub allowance: u32,
     pub output: Vec<u8>,
+}
+
+impl Call {
+    pub fn lend(&mut self) -> Next<'_> {
+        Next {
+            table: &self.table,
+            upper: &self.upper,
+            lower: &self.lower,
+            run: &mut self.run,
+            stack: &mut self.stack,
+            allowance: self.allowance,
+            output: &mut self.output,
+        }
+    }
 }
 
 /// For a report: stack and output by their lengths, which with the seed and the case are enough.
@@ -40,15 +54,7 @@ impl fmt::Display for Call {
 /// Makes a call with the model, with the engine, and compares. The call holds then what was left.
 pub fn compare(engine: &impl Engine, call: &mut Call) -> Result<Answer, String> {
     let before = call.clone();
-    let expected = Model.next(
-        &before.table,
-        &before.upper,
-        &before.lower,
-        &mut call.run,
-        &mut call.stack,
-        before.allowance,
-        &mut call.output,
-    );
+    let expected = Model.next(call.lend());
     check(engine, &before, call, expected)
         .map_err(|difference| format!("{difference}, in a call on {before}"))?;
     Ok(expected)
@@ -66,15 +72,15 @@ fn check(
     let mut run = Lent::new(&[before.run], RUN_GUARD);
     let mut stack = Lent::new(&before.stack, 0xABCD_EF01);
     let mut output = Lent::new(&before.output, 0xAB);
-    let answer = engine.next(
-        table.lend(),
-        upper.lend(),
-        lower.lend(),
-        &mut run.lend()[0],
-        stack.lend(),
-        before.allowance,
-        output.lend(),
-    );
+    let answer = engine.next(Next {
+        table: table.lend(),
+        upper: upper.lend(),
+        lower: lower.lend(),
+        run: &mut run.lend()[0],
+        stack: stack.lend(),
+        allowance: before.allowance,
+        output: output.lend(),
+    });
     same("answer", answer, expected)?;
     run.expect("run", &[after.run])?;
     stack.expect("stack", &after.stack)?;

@@ -6,6 +6,7 @@ use crate::draw;
 use crate::engine::Engine;
 use crate::model::Model;
 use crate::random::Random;
+use readings::limits::{ARC_CELLS, FRAME_CELLS, INITIALS_AT};
 
 /// A place in a random search, made by the model.
 fn place(random: &mut Random) -> Call {
@@ -21,22 +22,15 @@ fn place(random: &mut Random) -> Call {
             task,
             ..Run::default()
         },
-        stack: (0..4 * random.within(1, 40))
+        stack: (0..FRAME_CELLS * random.within(1, 40))
             .map(|_| random.below(4) as u32)
             .collect(),
         allowance: 0,
         output: vec![0xEE; 64],
     };
     for _ in 0..random.within(0, 4) {
-        Model.next(
-            &call.table,
-            &call.upper,
-            &call.lower,
-            &mut call.run,
-            &mut call.stack,
-            random.below(30) as u32,
-            &mut call.output,
-        );
+        call.allowance = random.below(30) as u32;
+        Model.next(call.lend());
     }
     call
 }
@@ -67,14 +61,15 @@ fn damage_run(random: &mut Random, call: &mut Call) {
 
 /// A cell of a used frame, or two frames exchanged.
 fn damage_frames(random: &mut Random, call: &mut Call) {
-    let used = 4 * call.run.depth as usize;
+    let used = FRAME_CELLS * call.run.depth as usize;
     if used == 0 || used > call.stack.len() {
         return;
     }
     if random.one_in(5) {
-        let (a, b) = (random.below(used / 4), random.below(used / 4));
-        for k in 0..4 {
-            call.stack.swap(4 * a + k, 4 * b + k);
+        let frames = used / FRAME_CELLS;
+        let (a, b) = (random.below(frames), random.below(frames));
+        for k in 0..FRAME_CELLS {
+            call.stack.swap(FRAME_CELLS * a + k, FRAME_CELLS * b + k);
         }
     } else {
         let at = random.below(used);
@@ -95,12 +90,12 @@ fn damage_table(random: &mut Random, call: &mut Call) {
         }
         2 => table.truncate(random.below(table.len())),
         3 => table.extend([1, 2, 3]),
-        _ if table.len() >= 12 => {
-            let (a, b) = (table.len() - 8, table.len() - 4);
+        _ if table.len() >= INITIALS_AT + 2 * ARC_CELLS => {
+            let (a, b) = (table.len() - 2 * ARC_CELLS, table.len() - ARC_CELLS);
             if random.one_in(2) {
                 table.copy_within(a..b, b);
             } else {
-                (0..4).for_each(|k| table.swap(a + k, b + k));
+                (0..ARC_CELLS).for_each(|k| table.swap(a + k, b + k));
             }
         }
         _ => {}

@@ -8,6 +8,7 @@ use crate::engine::Engine;
 use crate::lister::{self, Listing};
 use crate::random::Random;
 use crate::table::Table;
+use readings::limits::FRAME_CELLS;
 
 /// Entries of a traversal that are listed at most.
 const LISTED: u64 = 4_000;
@@ -102,16 +103,17 @@ impl Way {
     /// The readings received are those among the first entries, as many as the steps told; the end is told exactly at the tree's
     /// size; enough frames are never too few, and 21 comes exactly with fewer frames than are used.
     fn check(&mut self, answer: Answer, loan: Loan, call: &Call) -> Result<(), String> {
-        let short = loan.cells / 4 < self.run.depth as usize;
+        let frames = loan.cells / FRAME_CELLS;
+        let short = frames < self.run.depth as usize;
         if (answer.number == 21) != short {
             return Err(format!("{answer:?} at a place in the search"));
         }
-        if answer.number == 22 && loan.cells / 4 >= self.enough {
+        if answer.number == 22 && frames >= self.enough {
             return Err("22 with enough frames".to_string());
         }
         self.run = call.run;
         if !short {
-            self.frames = call.stack[..4 * self.run.depth as usize].to_vec();
+            self.frames = call.stack[..FRAME_CELLS * self.run.depth as usize].to_vec();
         }
         self.steps += u64::from(answer.steps);
         if answer.kind == FOUND {
@@ -173,7 +175,7 @@ impl Way {
             _ => LONG,
         };
         Loan {
-            cells: 4 * frames + random.below(4),
+            cells: FRAME_CELLS * frames + random.below(FRAME_CELLS),
             allowance: self.allowance(random),
             letters,
         }
@@ -182,7 +184,7 @@ impl Way {
     /// A loan with which nothing is refused.
     fn plenty(&self) -> Loan {
         Loan {
-            cells: 4 * self.enough,
+            cells: FRAME_CELLS * self.enough,
             allowance: if self.listing.whole {
                 u32::MAX
             } else {

@@ -3,7 +3,7 @@ use super::tally::Tally;
 use super::{RUN_GUARD, same};
 use crate::answer::{Answer, Run, Started};
 use crate::draw;
-use crate::engine::Engine;
+use crate::engine::{self, Engine};
 use crate::idle;
 use crate::lent::Lent;
 use crate::model::Model;
@@ -17,6 +17,17 @@ pub struct Start {
     pub task: u32,
     pub upper: Vec<u8>,
     pub lower: Vec<u8>,
+}
+
+impl Start {
+    fn lend(&self) -> engine::Start<'_> {
+        engine::Start {
+            table: &self.table,
+            task: self.task,
+            upper: &self.upper,
+            lower: &self.lower,
+        }
+    }
 }
 
 /// On 12 a cycle: idle arcs of the table, in walking order, closed, no state twice.
@@ -51,26 +62,18 @@ fn check(engine: &impl Engine, start: &Start) -> Result<(Answer, Run), String> {
         depth: 9,
     }];
     let mut expected_run = stale[0];
-    let expected = Model
-        .start(
-            &start.table,
-            start.task,
-            &start.upper,
-            &start.lower,
-            &mut expected_run,
-        )
-        .answer;
+    let expected = Model.start(start.lend(), &mut expected_run).answer;
     let mut table = Lent::new(&start.table, 0xABCD);
     let mut upper = Lent::new(&start.upper, 0xAB);
     let mut lower = Lent::new(&start.lower, 0xAB);
     let mut run = Lent::new(&stale, RUN_GUARD);
-    let told = engine.start(
-        table.lend(),
-        start.task,
-        upper.lend(),
-        lower.lend(),
-        &mut run.lend()[0],
-    );
+    let lent = engine::Start {
+        table: table.lend(),
+        task: start.task,
+        upper: upper.lend(),
+        lower: lower.lend(),
+    };
+    let told = engine.start(lent, &mut run.lend()[0]);
     told_as(start, &told, expected)?;
     run.expect("run", &[expected_run])?;
     table.expect("table", &start.table)?;

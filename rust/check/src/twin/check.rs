@@ -1,8 +1,9 @@
 //! The table check, and where each state's arcs begin.
 use super::scan;
+use readings::limits::{ARC_CELLS, INITIALS_AT};
 
 /// Source, upper letter, lower letter, target.
-pub type Arc = [u16; 4];
+pub type Arc = [u16; ARC_CELLS];
 
 /// The parts of a table that keeps the rules.
 pub struct View<'a> {
@@ -68,7 +69,7 @@ fn fill(first: &mut [u16]) {
 /// The parts of a table; none where it breaks a rule.
 #[inline(always)]
 pub fn check<const VECTOR: bool>(table: &[u16]) -> Option<View<'_>> {
-    let (counts, rest) = table.split_first_chunk::<4>()?;
+    let (counts, rest) = table.split_first_chunk::<INITIALS_AT>()?;
     let [states, initials, terminals, arcs] = *counts;
     let counts_hold = (1..=256).contains(&states)
         && (1..=states).contains(&initials)
@@ -79,7 +80,8 @@ pub fn check<const VECTOR: bool>(table: &[u16]) -> Option<View<'_>> {
     }
     let (initials, rest) = rest.split_at_checked(initials.into())?;
     let (terminals, rest) = rest.split_at_checked(terminals.into())?;
-    let arcs = rest.get(..4 * arcs as usize)?.as_chunks::<4>().0;
+    let arcs = rest.get(..ARC_CELLS * arcs as usize)?;
+    let arcs = arcs.as_chunks::<ARC_CELLS>().0;
     if !initials_hold(initials, states) || !terminals_hold(terminals, states) {
         return None;
     }

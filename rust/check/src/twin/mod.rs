@@ -8,7 +8,7 @@ mod scan;
 mod search;
 
 use crate::answer::{Answer, Run, Started};
-use crate::engine::Engine;
+use crate::engine::{Engine, Next, Start};
 use check::View;
 use search::Search;
 
@@ -28,23 +28,18 @@ fn word_holds(word: &[u8]) -> bool {
 
 /// 20, 11, 10.
 #[inline(always)]
-fn ask<'a, const VECTOR: bool>(
-    table: &'a [u16],
-    task: u32,
-    upper: &[u8],
-    lower: &[u8],
-) -> Result<View<'a>, u32> {
-    let view = check::check::<VECTOR>(table).ok_or(20u32)?;
-    let sides_hold = match task {
+fn ask<const VECTOR: bool>(start: Start) -> Result<View, u32> {
+    let view = check::check::<VECTOR>(start.table).ok_or(20u32)?;
+    let sides_hold = match start.task {
         1 => true,
-        2 => lower.is_empty(),
-        3 => upper.is_empty(),
+        2 => start.lower.is_empty(),
+        3 => start.upper.is_empty(),
         _ => false,
     };
     if !sides_hold {
         return Err(11);
     }
-    if !word_holds(upper) || !word_holds(lower) {
+    if !word_holds(start.upper) || !word_holds(start.lower) {
         return Err(10);
     }
     Ok(view)
@@ -52,18 +47,12 @@ fn ask<'a, const VECTOR: bool>(
 
 impl<const FAULT: u8, const VECTOR: bool> Engine for Twin<FAULT, VECTOR> {
     #[inline(never)]
-    fn start(
-        &self,
-        table: &[u16],
-        task: u32,
-        upper: &[u8],
-        lower: &[u8],
-        run: &mut Run,
-    ) -> Started {
-        let view = match ask::<VECTOR>(table, task, upper, lower) {
+    fn start(&self, start: Start, run: &mut Run) -> Started {
+        let view = match ask::<VECTOR>(start) {
             Ok(view) => view,
             Err(number) => return Started::bare(Answer::refused(number, 0)),
         };
+        let task = start.task;
         let mut started = Started::bare(Answer::done(0));
         let cycle = &mut started.cycle;
         let both = FAULT == fault::RECOGNITION_CYCLES && task == 2;
@@ -85,28 +74,15 @@ impl<const FAULT: u8, const VECTOR: bool> Engine for Twin<FAULT, VECTOR> {
     }
 
     #[inline(never)]
-    fn next(
-        &self,
-        table: &[u16],
-        upper: &[u8],
-        lower: &[u8],
-        run: &mut Run,
-        stack: &mut [u32],
-        allowance: u32,
-        output: &mut [u8],
-    ) -> Answer {
-        let view = match ask::<VECTOR>(table, run.task, upper, lower) {
+    fn next(&self, call: Next) -> Answer {
+        let view = match ask::<VECTOR>(call.start()) {
             Ok(view) => view,
             Err(number) => return Answer::refused(number, 0),
         };
-        let frames = stack.as_chunks_mut::<4>().0;
-        match run.task {
-            1 => Search::<true, true, FAULT>::new(&view, upper, lower)
-                .call(run, frames, allowance, output),
-            2 => Search::<true, false, FAULT>::new(&view, upper, lower)
-                .call(run, frames, allowance, output),
-            _ => Search::<false, true, FAULT>::new(&view, upper, lower)
-                .call(run, frames, allowance, output),
+        match call.run.task {
+            1 => Search::<true, true, FAULT>::new(&view, &call).call(call),
+            2 => Search::<true, false, FAULT>::new(&view, &call).call(call),
+            _ => Search::<false, true, FAULT>::new(&view, &call).call(call),
         }
     }
 }

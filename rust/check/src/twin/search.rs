@@ -2,9 +2,11 @@
 use super::check::{Arc, View};
 use super::fault;
 use crate::answer::{Answer, Run};
+use crate::engine::Next;
+use readings::limits::FRAME_CELLS;
 
 /// State, next arc, letters passed above and below.
-pub type Frame = [u32; 4];
+pub type Frame = [u32; FRAME_CELLS];
 
 pub struct Search<'a, const UP: bool, const LOW: bool, const FAULT: u8> {
     pub view: &'a View<'a>,
@@ -23,13 +25,13 @@ fn padded(word: &[u8]) -> [u8; 128] {
 
 impl<'a, const UP: bool, const LOW: bool, const FAULT: u8> Search<'a, UP, LOW, FAULT> {
     #[inline(always)]
-    pub fn new(view: &'a View<'a>, upper: &[u8], lower: &[u8]) -> Self {
+    pub fn new(view: &'a View<'a>, call: &Next) -> Self {
         Search {
             view,
-            upper: padded(upper),
-            lower: padded(lower),
-            upper_length: upper.len() as u32,
-            lower_length: lower.len() as u32,
+            upper: padded(call.upper),
+            lower: padded(call.lower),
+            upper_length: call.upper.len() as u32,
+            lower_length: call.lower.len() as u32,
         }
     }
 
@@ -81,13 +83,15 @@ impl<'a, const UP: bool, const LOW: bool, const FAULT: u8> Search<'a, UP, LOW, F
     }
 
     #[inline(always)]
-    pub fn call(
-        &self,
-        run: &mut Run,
-        frames: &mut [Frame],
-        allowance: u32,
-        output: &mut [u8],
-    ) -> Answer {
+    pub fn call(&self, call: Next) -> Answer {
+        let Next {
+            run,
+            stack,
+            allowance,
+            output,
+            ..
+        } = call;
+        let frames = stack.as_chunks_mut::<FRAME_CELLS>().0;
         if !self.place_holds(run, frames) {
             return Answer::refused(21, 0);
         }

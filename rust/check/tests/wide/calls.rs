@@ -4,9 +4,10 @@ use crate::narrow::Boundary;
 use crate::narrow::Cut::{Low, Most, Rest};
 use crate::narrow::Part::*;
 use crate::{Checked, NARROW, is, tells};
+use readings::limits::{FRAME_CELLS, MOST_FRAMES as MOST};
 use readings_check::answer::{Answer, Run};
 use readings_check::compare::call::{self, Call};
-use readings_check::engine::Engine;
+use readings_check::engine::{Engine, Next};
 use readings_check::table::{Arc, Table};
 
 /// The first call in synthesis of 01 02 over table K.
@@ -118,9 +119,6 @@ fn call_started() {
     tells(started, LeftStarted, &[Low(8), Most(255)]);
 }
 
-/// No more frames of a stack are used.
-const MOST: usize = 33_024;
-
 /// A state that leads to itself and reads nothing: a place of any depth, though no start allows it.
 fn looping(depth: usize, cells: usize) -> Call {
     let table = Table {
@@ -147,10 +145,10 @@ fn looping(depth: usize, cells: usize) -> Call {
 
 /// A run of 33,024 frames moves on, one of 33,025 is refused.
 fn depth(engine: &Boundary) -> Checked {
-    let mut full = looping(MOST, 4 * MOST);
+    let mut full = looping(MOST, FRAME_CELLS * MOST);
     full.allowance = 10;
     is(told(engine, full)?, Answer::paused(10))?; // ten frames dropped
-    let over = looping(MOST + 1, 4 * MOST + 4);
+    let over = looping(MOST + 1, FRAME_CELLS * (MOST + 1));
     is(told(engine, over)?, Answer::refused(21, 0))
 }
 
@@ -167,7 +165,7 @@ fn stack(engine: &Boundary) -> Checked {
         let stack = vec![9; length];
         is(told(engine, Call { stack, ..first() })?, found())?;
     }
-    for length in [4 * MOST, 262_144 + 4] {
+    for length in [FRAME_CELLS * MOST, 262_144 + 4] {
         let full = Answer::refused(22, MOST as u32);
         is(told(engine, looping(0, length))?, full)?;
     }
@@ -227,9 +225,18 @@ fn steps(engine: &Boundary) -> Checked {
         arcs: vec![Arc::new(0, 1, 1, 0), Arc::new(0, 1, 2, 0)],
     };
     let (cells, word) = (table.cells(), [1; 22]);
-    let (mut run, mut stack) = (Run::of(2), [9; 4 * 23]);
-    let mut next =
-        |allowance| engine.next(&cells, &word, &[], &mut run, &mut stack, allowance, &mut []);
+    let (mut run, mut stack) = (Run::of(2), [9; FRAME_CELLS * 23]);
+    let mut next = |allowance| {
+        engine.next(Next {
+            table: &cells,
+            upper: &word,
+            lower: &[],
+            run: &mut run,
+            stack: &mut stack,
+            allowance,
+            output: &mut [],
+        })
+    };
     let mut left = 1 + 3 * ((1 << 23) - 1);
     for bit in [8, 13, 16, 24] {
         is(next(1 << bit), Answer::paused(1 << bit))?;
@@ -248,9 +255,9 @@ fn call_steps() {
 
 /// The longest reading has 33,023 letters; an output of one less is too short.
 fn output(engine: &Boundary) -> Checked {
-    let mut place = looping(MOST - 1, 4 * MOST);
+    let mut place = looping(MOST - 1, FRAME_CELLS * MOST);
     place.upper.clear();
-    place.stack[4 * (MOST - 2) + 1] = 0; // the top frame's arc is still to be tried
+    place.stack[FRAME_CELLS * (MOST - 2) + 1] = 0; // the top frame's arc is still to be tried
     let with = |length| {
         let mut call = place.clone();
         call.output = vec![0xEE; length];

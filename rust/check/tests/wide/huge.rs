@@ -5,7 +5,7 @@ use crate::narrow::Cut::{self, Low};
 use crate::narrow::Part::*;
 use crate::{Checked, is, tells};
 use readings_check::answer::{Answer, Run};
-use readings_check::engine::{Engine, Texts};
+use readings_check::engine::{Engine, Next, Start, Texts};
 use readings_check::text::K;
 use reserved::Reserved;
 
@@ -104,7 +104,13 @@ fn starts(engine: &Boundary) -> Checked {
     let (cells, word) = (Reserved::new(&k(), HUGE), Reserved::new(&[1, 1], HUGE));
     let start = |table: &[u16], task: u32, upper: &[u8], lower: &[u8]| {
         let mut run = Run::default();
-        engine.start(table, task, upper, lower, &mut run).answer
+        let start = Start {
+            table,
+            task,
+            upper,
+            lower,
+        };
+        engine.start(start, &mut run).answer
     };
     is(start(&cells, 2, &[1, 2], &[]), Answer::done(0))?;
     is(start(&k(), 2, &word, &[]), Answer::refused(10, 0))?;
@@ -121,7 +127,15 @@ fn huge_starts() {
 fn calls(engine: &Boundary) -> Checked {
     let next = |table: &[u16], words: [&[u8]; 2], stack: &mut [u32], output: &mut [u8]| {
         let mut run = Run::of(if words[1].is_empty() { 2 } else { 3 });
-        engine.next(table, words[0], words[1], &mut run, stack, 9, output)
+        engine.next(Next {
+            table,
+            upper: words[0],
+            lower: words[1],
+            run: &mut run,
+            stack,
+            allowance: 9,
+            output,
+        })
     };
     let (words, found): ([&[u8]; 2], _) = ([&[1, 2], &[]], Answer::found(3, 2));
     let (mut stack, mut output) = ([9; 36], [0; 8]);

@@ -1,6 +1,6 @@
 //! The library behind a boundary that cuts one value of its calls: the faults that wide values are to show.
 use readings_check::answer::{Answer, Run, Started};
-use readings_check::engine::{Engine, Texts};
+use readings_check::engine::{Engine, Next, Start, Texts};
 use readings_check::library::Library;
 use std::borrow::Cow;
 
@@ -152,52 +152,39 @@ impl Texts for Boundary {
 }
 
 impl Engine for Boundary {
-    fn start(
-        &self,
-        table: &[u16],
-        task: u32,
-        upper: &[u8],
-        lower: &[u8],
-        run: &mut Run,
-    ) -> Started {
-        let mut started = Library.start(
-            &self.cells(Part::StartCells, self.front(Part::StartTable, table)),
-            self.number(Part::StartTask, task),
-            self.front(Part::StartUpper, upper),
-            self.front(Part::StartLower, lower),
-            run,
-        );
+    fn start(&self, start: Start, run: &mut Run) -> Started {
+        let table = self.front(Part::StartTable, start.table);
+        let narrow = Start {
+            table: &self.cells(Part::StartCells, table),
+            task: self.number(Part::StartTask, start.task),
+            upper: self.front(Part::StartUpper, start.upper),
+            lower: self.front(Part::StartLower, start.lower),
+        };
+        let mut started = Library.start(narrow, run);
         *run = self.run(Part::StartRun, *run);
         started.answer.length = self.number(Part::StartLength, started.answer.length);
         started
     }
 
-    fn next(
-        &self,
-        table: &[u16],
-        upper: &[u8],
-        lower: &[u8],
-        run: &mut Run,
-        stack: &mut [u32],
-        allowance: u32,
-        output: &mut [u8],
-    ) -> Answer {
-        let stack = self.front_mut(Part::NextStack, stack);
+    fn next(&self, call: Next) -> Answer {
+        let run = call.run;
+        let stack = self.front_mut(Part::NextStack, call.stack);
         self.frames(Part::NextFrames, stack);
         let given = *run;
         run.task = self.number(Part::NextTask, given.task);
         run.started = self.number(Part::NextStarted, given.started);
         run.depth = self.number(Part::NextDepth, given.depth);
         let handed = *run;
-        let mut answer = Library.next(
-            &self.cells(Part::NextCells, self.front(Part::NextTable, table)),
-            self.front(Part::NextUpper, upper),
-            self.front(Part::NextLower, lower),
+        let table = self.front(Part::NextTable, call.table);
+        let mut answer = Library.next(Next {
+            table: &self.cells(Part::NextCells, table),
+            upper: self.front(Part::NextUpper, call.upper),
+            lower: self.front(Part::NextLower, call.lower),
             run,
             stack,
-            self.number(Part::NextAllowance, allowance),
-            self.front_mut(Part::NextOutput, output),
-        );
+            allowance: self.number(Part::NextAllowance, call.allowance),
+            output: self.front_mut(Part::NextOutput, call.output),
+        });
         answer.steps = self.number(Part::NextSteps, answer.steps);
         answer.length = self.number(Part::NextLength, answer.length);
         if *run == handed {

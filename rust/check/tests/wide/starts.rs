@@ -6,7 +6,7 @@ use crate::narrow::Part::*;
 use crate::{Checked, NARROW, is, tells};
 use readings_check::answer::{Answer, Run};
 use readings_check::compare::start::{self, Start};
-use readings_check::engine::Engine;
+use readings_check::engine::{self, Engine};
 use readings_check::table::{Arc, Table};
 
 /// Recognition of two empty words over table K.
@@ -72,7 +72,13 @@ fn run(engine: &Boundary) -> Checked {
     };
     for (task, left) in [(4, stale), (2, Run::of(2))] {
         let mut run = stale;
-        engine.start(&k(), task, &[1, 2], &[], &mut run);
+        let start = engine::Start {
+            table: &k(),
+            task,
+            upper: &[1, 2],
+            lower: &[],
+        };
+        engine.start(start, &mut run);
         if run != left {
             return Err(format!("run is {run:?}, expected {left:?}"));
         }
