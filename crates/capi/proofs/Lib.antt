@@ -1,4 +1,3 @@
 -- Laws of the C interface.
 pub mod Sizes
 pub mod Starting
-pub mod Walking

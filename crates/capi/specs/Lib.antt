@@ -1,3 +1,2 @@
--- What the C interface tells.
-pub mod Numbers
+-- What a start tells C.
 pub mod Start

@@ -1,11 +1,10 @@
 // The call for a reading.
-use crate::Reply;
-use crate::numbers::answer_numbers;
-use engine::reading::next_reading;
+use capi_numbers::Reply;
+use capi_numbers::answer_numbers;
+use engine_reading::next_reading;
 use machine::Run;
-ghost use mathlib.Core.Path.{_≡_};
-ghost use Rattle.machine.specs.Reading.{outcome};
-ghost use Rattle.capi.specs.Numbers.{answerNumbers};
+ghost use Rattle.machine.specs.Reading.{outcome, OutcomeIs};
+ghost use Rattle.capi_numbers.specs.Numbers.{replyTold};
 
 // Goes on with a search, for at most `allowance` steps, to the next reading: run and stack are moved on, and a reading is written from the
 // front of the output.
@@ -19,10 +18,8 @@ pub extern "C" fn rd_next(
     allowance: u32,
     output: &mut [u8],
 ) -> Reply
-    ensures { λ r. ⌜ (r ≡ answerNumbers (outcome (now (table .entry)) (now (upper .entry)) (now (lower .entry)) (now (run .entry)) (now (stack .entry)) allowance (now (output .entry)) .called .answer))
-        × (now (run .exit) ≡ outcome (now (table .entry)) (now (upper .entry)) (now (lower .entry)) (now (run .entry)) (now (stack .entry)) allowance (now (output .entry)) .called .run)
-        × (now (stack .exit) ≡ outcome (now (table .entry)) (now (upper .entry)) (now (lower .entry)) (now (run .entry)) (now (stack .entry)) allowance (now (output .entry)) .stack)
-        × (now (output .exit) ≡ outcome (now (table .entry)) (now (upper .entry)) (now (lower .entry)) (now (run .entry)) (now (stack .entry)) allowance (now (output .entry)) .output) ⌝ }
+    ensures { λ r. ⌜ OutcomeIs (outcome (now (table .entry)) (now (upper .entry)) (now (lower .entry)) (now (run .entry)) (now (stack .entry)) allowance (now (output .entry)))
+        (replyTold r) (now (run .exit)) (now (stack .exit)) (now (output .exit)) ⌝ }
 {
     let answer = next_reading(table, upper, lower, run, stack, allowance, output);
     answer_numbers(answer)

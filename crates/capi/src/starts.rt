@@ -1,13 +1,15 @@
 // The start of a search.
 use crate::Begun;
 use crate::StartReply;
-use crate::numbers::start_numbers;
-use engine::starter::start;
+use capi_numbers::start_numbers;
+use engine_start::start;
 use machine::Run;
 use machine::StartAnswer;
 use machine::Started;
 ghost use mathlib.Core.Path.{_≡_};
-ghost use Rattle.capi.specs.Start.{startNumbers, startRun, StartTold};
+ghost use Rattle.machine.specs.Start.{startToldBy};
+ghost use Rattle.capi_numbers.specs.Numbers.{replyTold};
+ghost use Rattle.capi.specs.Start.{startRun, StartTold};
 
 // The run that a start leaves: its own where it passes, else the one that was there.
 fn start_run(answer: StartAnswer, begun: Run, before: Run) -> Run
@@ -21,7 +23,7 @@ fn start_run(answer: StartAnswer, begun: Run, before: Run) -> Run
 
 // The answer in numbers, with the cycle.
 fn start_reply(s: Started) -> StartReply
-    ensures { λ r. ⌜ (r .answer ≡ startNumbers (s .answer) (s .length)) × (r .cycle ≡ s .cycle) ⌝ }
+    ensures { λ r. ⌜ (replyTold (r .answer) ≡ startToldBy s) × (r .cycle ≡ s .cycle) ⌝ }
 {
     let answer = s.answer;
     let numbers = start_numbers(answer, s.length);

@@ -3,7 +3,6 @@ use crate::script;
 use crate::show;
 use crate::tables;
 use engine::advance;
-use engine::starter;
 use machine::Answer;
 use machine::Called;
 use machine::Run;
@@ -201,7 +200,7 @@ fn begun(sign: u8, list: &[u32], rest: usize, first: Run) -> Run {
 
 // A start, which is told, or the calls after it on a stack of 33,025 frames.
 fn search(sign: u8, list: &[u32], rest: usize, table: &[u16], upper: &[u8], lower: &[u8]) {
-    let started = starter::start(table, script::at(list, 1), upper, lower);
+    let started = engine_start::start(table, script::at(list, 1), upper, lower);
     if sign == b'?' {
         show::started(started);
         return;

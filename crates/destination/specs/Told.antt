@@ -4,6 +4,6 @@ use Rattle.destination.specs.declared.Answer.{Answer}
 use Rattle.destination.specs.declared.Answer.the-variants.{Done, Refused}
 
 -- done, with how many cells or bytes were written; "A refusal carries its number"
-abbrev pub told : Answer → Told
-told (Done count) = answered 0 0 count
-told (Refused refusal) = refused refusal 0 0
+abbrev pub storedTold : Answer → Told
+storedTold (Done count) = answered 0 0 count
+storedTold (Refused refusal) = refused refusal 0 0

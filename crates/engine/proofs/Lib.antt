@@ -1,4 +1,2 @@
--- Laws of the start and of the call for a reading.
-pub mod Starts
+-- Laws of the call for a reading.
 pub mod Resuming
-pub mod Told

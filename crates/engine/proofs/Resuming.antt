@@ -3,7 +3,7 @@ use Prim.Native.Nat.{ℕ, _-_, _≤_}
 use native.Mathlib.Omega.{arith}
 use mathlib.Core.Path.{_≡_, refl, sym, ap, ap₂, subst, _∙_}
 use mathlib.Core.Bool.{Bool, true, _||_}
-use mathlib.Core.Option.{Option, some}
+use mathlib.Core.Option.{Option}
 use mathlib.Core.List.{List}
 use lib.ListN.{length, take, drop}
 use Rattle.table_check.specs.declared.Layout.{Layout}
@@ -17,25 +17,28 @@ use Rattle.table_check.proofs.Holding.{Holding, holding}
 use Rattle.machine.specs.declared.Run.{Run}
 use Rattle.machine.specs.declared.Called.{Called}
 use Rattle.machine.specs.declared.Answer.the-variants.{Refused}
-use Rattle.machine.specs.Query.{Task, recognition, synthesis, analysis, taskOf, upperSide, lowerSide, reads, Query}
+use Rattle.machine.specs.Query.{Task, recognition, synthesis, analysis, upperSide, lowerSide, reads, Query}
 use Rattle.machine.specs.Machine.{Machine}
 use Rattle.machine.specs.Call.{call}
 use Rattle.machine.specs.Transducer.{machine}
 use Rattle.machine.specs.Stack.{store}
+use Rattle.machine.specs.Answer.{told}
 use Rattle.machine.specs.Asked.{Asked, turned, asked}
-use Rattle.machine.specs.Reading.{Outcome, heldOf, outcomeAs, outcomeOf, outcome}
+use Rattle.machine.specs.Reading.{Outcome, heldOf, outcomeAs, outcomeOf, outcome, OutcomeIs}
+use Rattle.machine.proofs.Reading.{called-outcome}
 use Rattle.engine_frames.specs.declared.Setup.{Setup}
 use Rattle.engine_step.specs.Setting.{taskBy, queryBy, tableBy, machineBy, Prepared}
 use Rattle.engine_search.specs.Searching.{calledWith, SearchIs}
-use Rattle.engine_admission.proofs.Words.{Asks}
-use Rattle.engine.specs.Advancing.{OutcomeIs, Admitted}
+use Rattle.engine_admission.specs.Admission.{readsAt}
+use Rattle.engine_admission.proofs.Words.{Asks, reads-of}
+use Rattle.engine.specs.Admitted.{Admitted}
 
 -- 20, 11 and 10 leave all as it was
 pub turned-outcome : (cells upper lower : List ℕ) (run : Run) (stack : List ℕ) (n : ℕ) (buffer : List ℕ) (r : Refusal) → asked cells (run .task) upper lower ≡ turned r
-    → (d : Called) → d ≡ calledWith (Refused 0 r) run → OutcomeIs (outcome cells upper lower run stack n buffer) d stack buffer
+    → (d : Called) → d ≡ calledWith (Refused 0 r) run → OutcomeIs (outcome cells upper lower run stack n buffer) (told (d .answer)) (d .run) stack buffer
 unfolding outcome
 turned-outcome cells upper lower run stack n buffer r e d k =
-    subst (λ (w : Asked). OutcomeIs (outcomeOf w run stack n buffer) d stack buffer) (sym e) (k, refl, refl)
+    subst (λ (w : Asked). OutcomeIs (outcomeOf w run stack n buffer) (told (d .answer)) (d .run) stack buffer) (sym e) (called-outcome k refl refl)
 
 by-flags : (k : Task) → taskBy (reads k upperSide) (reads k lowerSide) ≡ k
 by-flags recognition = refl
@@ -48,12 +51,18 @@ some-flag synthesis = refl
 some-flag analysis = refl
 
 module _ (cells upper lower first : List ℕ) (run : Run) (P : Admitted cells (run .task) upper lower first) (l : Layout) (E : l ≡ layoutOf (countsIn cells))
-    (u v : Bool) (U : (k : Task) → taskOf (run .task) ≡ some k → u ≡ reads k upperSide) (Z : (k : Task) → taskOf (run .task) ≡ some k → v ≡ reads k lowerSide) where
+    (u v : Bool) (U : u ≡ readsAt (run .task) upperSide) (Z : v ≡ readsAt (run .task) lowerSide) where
   H : Holding cells
   H = holding cells (P .loads)
 
   L : LaidOut cells l
   L = laid-out cells l E (omega (arith, ap (λ (x : Layout). x .end) E, H .whole))
+
+  up : u ≡ reads (P .asks) upperSide
+  up = U ∙ reads-of (run .task) (P .asks) (P .task-is) upperSide
+
+  low : v ≡ reads (P .asks) lowerSide
+  low = Z ∙ reads-of (run .task) (P .asks) (P .task-is) lowerSide
 
   abbrev setup : Setup
   setup = record { states = l .states; up = u; low = v }
@@ -86,7 +95,7 @@ module _ (cells upper lower first : List ℕ) (run : Run) (P : Admitted cells (r
 
   query-is : queryBy setup upper lower ≡ query
   query-is =
-      ap (λ (k : Task). record { task = k; upperWord = upper; lowerWord = lower }) (ap₂ taskBy (U (P .asks) (P .task-is)) (Z (P .asks) (P .task-is)) ∙ by-flags (P .asks))
+      ap (λ (k : Task). record { task = k; upperWord = upper; lowerWord = lower }) (ap₂ taskBy up low ∙ by-flags (P .asks))
 
   pub prepared : Prepared setup first initials terminals arcs
   prepared =
@@ -94,7 +103,7 @@ module _ (cells upper lower first : List ℕ) (run : Run) (P : Admitted cells (r
         keeps = subst (λ (t : Table). keepsRules t ≡ true) (sym table-is) (H .keeps);
         whole = arcs-whole cells l L;
         index = P .index ∙ sym (index-part cells l L);
-        reads-some = ap₂ _||_ (U (P .asks) (P .task-is)) (Z (P .asks) (P .task-is)) ∙ some-flag (P .asks);
+        reads-some = ap₂ _||_ up low ∙ some-flag (P .asks);
       }
 
   abbrev M : Machine
@@ -107,8 +116,8 @@ module _ (cells upper lower first : List ℕ) (run : Run) (P : Admitted cells (r
       ∙ ap (λ (w : Asked). outcomeOf w run stack n buffer) (sym (P .runs-is))
 
   pub call-outcome : (stack : List ℕ) (n : ℕ) (buffer : List ℕ) (r : Called) (c o : List ℕ)
-      → SearchIs (run .task) buffer (call M store n (length buffer) (heldOf run stack)) r c o → OutcomeIs (outcome cells upper lower run stack n buffer) r c o
-  call-outcome stack n buffer r c o S = subst (λ (x : Outcome). OutcomeIs x r c o) (outcome-is stack n buffer) S
+      → SearchIs (run .task) buffer (call M store n (length buffer) (heldOf run stack)) r c o → OutcomeIs (outcome cells upper lower run stack n buffer) (told (r .answer)) (r .run) c o
+  call-outcome stack n buffer r c o S = subst (λ (x : Outcome). OutcomeIs x (told (r .answer)) (r .run) c o) (outcome-is stack n buffer) (called-outcome (S .0) (S .1) (S .2))
 
 -- what the table check and the query tell
 pub admitted-by : (cells : List ℕ) (task : ℕ) (upper lower first : List ℕ) → Asks cells task upper lower → first ≡ checked cells .first → Admitted cells task upper lower first

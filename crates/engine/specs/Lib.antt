@@ -1,2 +1,2 @@
 -- What the engine's inner functions say. The calls' own definitions are the machine's.
-pub mod Advancing
+pub mod Admitted

@@ -1,5 +1,6 @@
 // The core of a call for a reading: the run goes in by value, and comes back by value.
 use engine_admission::Admission;
+use engine_admission::Side;
 use engine_frames::Setup;
 use machine::Called;
 use machine::Run;
@@ -7,8 +8,9 @@ use table_check::Layout;
 ghost use mathlib.Core.Path.{_≡_};
 ghost use Rattle.table_format.specs.Loaded.{countsIn};
 ghost use Rattle.table_check.specs.Check.{layoutOf};
-ghost use Rattle.machine.specs.Reading.{outcome};
-ghost use Rattle.engine.specs.Advancing.{OutcomeIs, Admitted};
+ghost use Rattle.machine.specs.Answer.{told};
+ghost use Rattle.machine.specs.Reading.{outcome, OutcomeIs};
+ghost use Rattle.engine.specs.Admitted.{Admitted};
 
 // 21, then the steps, where 20, 11 and 10 are not given.
 fn resume(
@@ -24,7 +26,8 @@ fn resume(
 ) -> Called
     requires { ⌜ Admitted (now table) (run .task) (now upper) (now lower) (now first) ⌝ }
     requires { ⌜ at ≡ layoutOf (countsIn (now table)) ⌝ }
-    ensures { λ r. ⌜ OutcomeIs (outcome (now (table .entry)) (now (upper .entry)) (now (lower .entry)) run (now (stack .entry)) allowance (now (output .entry))) r (now (stack .exit)) (now (output .exit)) ⌝ }
+    ensures { λ r. ⌜ OutcomeIs (outcome (now (table .entry)) (now (upper .entry)) (now (lower .entry)) run (now (stack .entry)) allowance (now (output .entry)))
+        (told (r .answer)) (r .run) (now (stack .exit)) (now (output .exit)) ⌝ }
 {
     let initials = at.initials;
     let terminals = at.terminals;
@@ -33,8 +36,8 @@ fn resume(
     let task = run.task;
     let setup = Setup {
         states: at.states,
-        up: engine_admission::reads_upper(task),
-        low: engine_admission::reads_lower(task),
+        up: engine_admission::reads(task, Side::Upper),
+        low: engine_admission::reads(task, Side::Lower),
     };
     engine_search::call(
         setup,
@@ -61,9 +64,8 @@ pub fn advance(
     allowance: u32,
     output: &mut [u8],
 ) -> Called
-    ensures { λ r. ⌜ (r ≡ outcome (now (table .entry)) (now (upper .entry)) (now (lower .entry)) run (now (stack .entry)) allowance (now (output .entry)) .called)
-        × (now (stack .exit) ≡ outcome (now (table .entry)) (now (upper .entry)) (now (lower .entry)) run (now (stack .entry)) allowance (now (output .entry)) .stack)
-        × (now (output .exit) ≡ outcome (now (table .entry)) (now (upper .entry)) (now (lower .entry)) run (now (stack .entry)) allowance (now (output .entry)) .output) ⌝ }
+    ensures { λ r. ⌜ OutcomeIs (outcome (now (table .entry)) (now (upper .entry)) (now (lower .entry)) run (now (stack .entry)) allowance (now (output .entry)))
+        (told (r .answer)) (r .run) (now (stack .exit)) (now (output .exit)) ⌝ }
 {
     let checked = table_check::check(table);
     let task = run.task;

@@ -1,4 +1,2 @@
-// The engine: a start, and the call for a reading.
+// The call for a reading, with the run by value.
 pub mod advance;
-pub mod reading;
-pub mod starter;

@@ -3,7 +3,7 @@ use Prim.Native.Nat.{ℕ, zero, suc, _<_, _≤_}
 use native.Mathlib.Omega.{arith}
 use mathlib.Core.Path.{_≡_, refl, sym, ap, subst, _∙_}
 use mathlib.Core.Logic.{_⊎_, ⊎-elim}
-use mathlib.Core.Bool.{Bool, true, false, cond, not, _&&_, _||_, and-true, and-assoc}
+use mathlib.Core.Bool.{Bool, true, false, cond, _&&_, _||_, and-true, and-assoc}
 use mathlib.Core.Option.{Option, none, some}
 use mathlib.Core.List.{List, [], _∷_}
 use lib.Dec.{eqb, leb}
@@ -18,11 +18,11 @@ use Rattle.table_format.specs.Rules.{isEmpty}
 use Rattle.table_format.specs.Loaded.{tableIn, loaded}
 use Rattle.table_check.specs.Check.{checked}
 use Rattle.table_check.proofs.Passing.{passed, failed}
-use Rattle.machine.specs.Query.{Task, recognition, synthesis, analysis, upperSide, lowerSide, taskOf, reads, Query, lettersHold, wordHolds, sidesHold, wordsHold}
+use Rattle.machine.specs.Query.{Task, recognition, synthesis, analysis, Side, upperSide, lowerSide, taskOf, reads, Query, lettersHold, wordHolds, sidesHold, wordsHold}
 use Rattle.machine.specs.Asked.{Asked, turned, runs, askedWords, askedTask, askedTable, asked}
 use Rattle.engine_admission.specs.declared.Admission.{Admission}
 use Rattle.engine_admission.specs.declared.Admission.the-variants.{Passes, Refused}
-use Rattle.engine_admission.specs.Admission.{admissionOf}
+use Rattle.engine_admission.specs.Admission.{readsBy, readsAt, admissionOf}
 
 -- Letters.
 
@@ -81,21 +81,34 @@ task-none n h = go (taskOf n) refl
     go none e = e
     go (some k) e = absurd (big k (subst (λ (m : ℕ). (m < 1) ⊎ (3 < m)) (task-number n k e) h))
 
-pub upper-read : (n : ℕ) (k : Task) → taskOf n ≡ some k → not (eqb n 3) ≡ reads k upperSide
-upper-read n k e = ap (λ (m : ℕ). not (eqb m 3)) (task-number n k e) ∙ go k
-  where
-    go : (j : Task) → not (eqb (taskNumber j) 3) ≡ reads j upperSide
-    go recognition = refl
-    go synthesis = refl
-    go analysis = refl
+-- The sides that a number reads.
 
-pub lower-read : (n : ℕ) (k : Task) → taskOf n ≡ some k → not (eqb n 2) ≡ reads k lowerSide
-lower-read n k e = ap (λ (m : ℕ). not (eqb m 2)) (task-number n k e) ∙ go k
+pub reads-of : (n : ℕ) (k : Task) → taskOf n ≡ some k → (s : Side) → readsAt n s ≡ reads k s
+unfolding readsAt
+reads-of n k e s = ap (λ (o : Option Task). readsBy o s) e
+
+pub reads-both : (n : ℕ) (s : Side) → n ≡ 1 → true ≡ readsAt n s
+unfolding readsAt
+reads-both n s e = ap (λ (m : ℕ). readsBy (taskOf m) s) (sym e)
+
+-- the task that reads one side alone
+abbrev pub ownTask : Side → ℕ
+ownTask upperSide = 2
+ownTask lowerSide = 3
+
+pub reads-own : (n : ℕ) (s : Side) → (n ≡ 1 → ⊥) → eqb n (ownTask s) ≡ readsAt n s
+unfolding readsAt
+reads-own n s h =
+    own (eqb n 2) (eqb n 3) refl refl s
+    ∙ sym (ap (λ (b : Bool). readsBy (cond b (some recognition) (cond (eqb n 2) (some synthesis) (cond (eqb n 3) (some analysis) none))) s) (ne-eqb n 1 h))
   where
-    go : (j : Task) → not (eqb (taskNumber j) 2) ≡ reads j lowerSide
-    go recognition = refl
-    go synthesis = refl
-    go analysis = refl
+    own : (b c : Bool) → eqb n 2 ≡ b → eqb n 3 ≡ c → (s : Side) → eqb n (ownTask s) ≡ readsBy (cond b (some synthesis) (cond c (some analysis) none)) s
+    own true c p q upperSide = p
+    own true c p q lowerSide = let e = eqb-true n 2 p in ne-eqb n 3 (λ z. omega arith)
+    own false true p q upperSide = p
+    own false true p q lowerSide = q
+    own false false p q upperSide = p
+    own false false p q lowerSide = q
 
 -- Each refusal in its turn, where ok is what the table check says.
 
@@ -123,17 +136,17 @@ module _ (task : ℕ) (upper lower cells : List ℕ) (ok : Bool) (e : ok ≡ che
     sides-not : (k : Task) → sidesHold (queryOf k) ≡ false → admissionOf (askedWords (tableIn cells) (queryOf k)) ≡ Refused (Input TaskFault)
     sides-not k h = ap (λ (b : Bool). admissionOf (cond b (cond (wordsHold (queryOf k)) (runs (tableIn cells) (queryOf k)) (turned (Input WordFault))) (turned (Input TaskFault)))) h
 
-    module _ (u l : Bool) (U : (k : Task) → taskOf task ≡ some k → u ≡ reads k upperSide) (s : Bool) (S : s ≡ (u || isEmpty upper)) where
+    module _ (u l : Bool) (U : u ≡ readsAt task upperSide) (s : Bool) (S : s ≡ (u || isEmpty upper)) where
       upper-holds : (k : Task) → taskOf task ≡ some k → s ≡ (reads k upperSide || isEmpty upper)
-      upper-holds k t = S ∙ ap (λ (b : Bool). b || isEmpty upper) (U k t)
+      upper-holds k t = S ∙ ap (λ (b : Bool). b || isEmpty upper) (U ∙ reads-of task k t upperSide)
 
       pub asking-upper : s ≡ false → Refused (Input TaskFault) ≡ admissionOf (asked cells task upper lower)
       asking-upper n = by-words _ (λ k t. sides-not k (ap (λ (b : Bool). b && (reads k lowerSide || isEmpty lower)) (sym (upper-holds k t) ∙ n)))
 
-      module _ (y : s ≡ true) (L : (k : Task) → taskOf task ≡ some k → l ≡ reads k lowerSide) (r : Bool) (R : r ≡ (l || isEmpty lower)) where
+      module _ (y : s ≡ true) (L : l ≡ readsAt task lowerSide) (r : Bool) (R : r ≡ (l || isEmpty lower)) where
         sides-are : (k : Task) → taskOf task ≡ some k → sidesHold (queryOf k) ≡ r
         sides-are k t =
-            ap (λ (b : Bool). b && (reads k lowerSide || isEmpty lower)) (sym (upper-holds k t) ∙ y) ∙ ap (λ (b : Bool). b || isEmpty lower) (sym (L k t)) ∙ sym R
+            ap (λ (b : Bool). b && (reads k lowerSide || isEmpty lower)) (sym (upper-holds k t) ∙ y) ∙ ap (λ (b : Bool). b || isEmpty lower) (sym (L ∙ reads-of task k t lowerSide)) ∙ sym R
 
         pub asking-lower : r ≡ false → Refused (Input TaskFault) ≡ admissionOf (asked cells task upper lower)
         asking-lower n = by-words _ (λ k t. sides-not k (sides-are k t ∙ n))

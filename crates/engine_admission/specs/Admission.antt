@@ -1,7 +1,29 @@
--- What `asked` of the code answers: whether a search may run, or the first of the refusals 20, 11 and 10.
+-- The sides that a task's number reads, and what `asked` of the code answers: whether a search may run, or the first of the refusals 20, 11
+-- and 10.
+use Prim.Native.Nat.{ℕ}
+use mathlib.Core.Bool.{Bool, false}
+use mathlib.Core.Option.{Option, none, some}
+use Rattle.machine.specs.Query as Q
+use Rattle.machine.specs.Query.{Task, taskOf, upperSide, lowerSide, reads}
 use Rattle.machine.specs.Asked.{Asked, turned, runs}
+use Rattle.engine_admission.specs.declared.Side.{Side}
+use Rattle.engine_admission.specs.declared.Side.the-variants.{Upper, Lower}
 use Rattle.engine_admission.specs.declared.Admission.{Admission}
 use Rattle.engine_admission.specs.declared.Admission.the-variants.{Passes, Refused}
+
+-- the code's side
+abbrev pub sideOf : Side → Q.Side
+sideOf Upper = upperSide
+sideOf Lower = lowerSide
+
+-- the sides that a task reads, if there is one
+abbrev pub readsBy : Option Task → Q.Side → Bool
+readsBy none s = false
+readsBy (some k) s = reads k s
+
+-- the same by the task's number; a number that is no task's reads none
+unfoldable pub readsAt : ℕ → Q.Side → Bool
+readsAt n s = readsBy (taskOf n) s
 
 abbrev pub admissionOf : Asked → Admission
 admissionOf (turned r) = Refused r

@@ -4,14 +4,13 @@ use refusal::Refusal;
 use refusal::StateCause;
 ghost use mathlib.Core.Path.{_≡_};
 ghost use mathlib.Core.Bool.{_||_};
-ghost use mathlib.Core.Option.{some};
 ghost use mathlib.Core.List.{List};
 ghost use Prim.Native.Nat.{ℕ};
 ghost use Rattle.table_format.specs.Rules.{isEmpty};
 ghost use Rattle.table_check.specs.Check.{checked};
-ghost use Rattle.machine.specs.Query.{Task, taskOf, upperSide, lowerSide, reads, wordHolds};
+ghost use Rattle.machine.specs.Query.{wordHolds};
 ghost use Rattle.machine.specs.Asked.{asked};
-ghost use Rattle.engine_admission.specs.Admission.{admissionOf};
+ghost use Rattle.engine_admission.specs.Admission.{sideOf, readsAt, admissionOf};
 
 // What these refusals leave: a search that may run, or the first of them.
 pub enum Admission {
@@ -19,18 +18,23 @@ pub enum Admission {
     Refused(Refusal),
 }
 
-// Whether a task, 1 to 3, reads the upper side.
-pub fn reads_upper(task: u32) -> bool
-    ensures { λ r. ⌜ ((k : Task) → taskOf task ≡ some k → r ≡ reads k upperSide) ⌝ }
-{
-    task != 3
+// A side of an arc.
+pub enum Side {
+    Upper,
+    Lower,
 }
 
-// Whether it reads the lower side.
-pub fn reads_lower(task: u32) -> bool
-    ensures { λ r. ⌜ ((k : Task) → taskOf task ≡ some k → r ≡ reads k lowerSide) ⌝ }
+// Whether a task reads a side. A number that is no task's reads none.
+pub fn reads(task: u32, side: Side) -> bool
+    ensures { λ r. ⌜ r ≡ readsAt task (sideOf side) ⌝ }
 {
-    task != 2
+    if task == 1 {
+        return true;
+    }
+    match side {
+        Side::Upper => task == 2,
+        Side::Lower => task == 3,
+    }
 }
 
 // 10, of one word. The loop goes through all its letters, so that several are compared at once.
@@ -78,10 +82,10 @@ pub fn asked(ok: bool, task: u32, upper: &[u8], lower: &[u8]) -> Admission
     if 3 < task {
         return Admission::Refused(Refusal::Input(InputCause::TaskFault));
     }
-    if !side_holds(reads_upper(task), upper) {
+    if !side_holds(reads(task, Side::Upper), upper) {
         return Admission::Refused(Refusal::Input(InputCause::TaskFault));
     }
-    if !side_holds(reads_lower(task), lower) {
+    if !side_holds(reads(task, Side::Lower), lower) {
         return Admission::Refused(Refusal::Input(InputCause::TaskFault));
     }
     if !word_holds(upper) {

@@ -1,5 +1,5 @@
 -- Demand 3: a start without a refusal, and any list of calls after it.
-use Prim.Native.Nat.{ℕ, _+_, _*_, _≤_, _<_, min}
+use Prim.Native.Nat.{ℕ, suc, _+_, _*_, _≤_, _<_, min}
 use native.Mathlib.Omega.{arith}
 use native.Mathlib.Nat.{sub-zero}
 use mathlib.Core.Path.{_≡_, refl, sym, ap, ap₂, subst, _∙_}
@@ -22,17 +22,17 @@ use Rattle.machine.specs.Call.{Reply, Told, call}
 use Rattle.machine.specs.Tour.{Entry, after, tour, tourFrom, readings, treeSize}
 use Rattle.machine.specs.Transducer.{Passed, lettersToRead, machine}
 use Rattle.machine.specs.Stack.{framesIn, roomIn, store}
-use Rattle.machine.specs.Answer.{refused, kindOf, stepsOf, outputTold}
+use Rattle.machine.specs.Answer.{refusedKind, told, outputTold}
 use Rattle.machine.specs.Asked.{Asked, runs, asked}
 use Rattle.machine.specs.Start.{firstRun}
-use Rattle.machine.specs.Reading.{Outcome, kindBy, stepsBy, heldOf, answerAs, outcomeAs, outcomeOf, outcome, CallBy}
+use Rattle.machine.specs.Reading.{Outcome, toldBy, heldOf, answerAs, outcomeAs, outcomeOf, outcome, CallBy}
 use Rattle.machine.specs.Demand.{Lent, usedOf, callOn, stepsOn, runAfter, usedAfter, Handed, received, stepsTold, CallTells, Tells, Demand3, LastEnds}
 use Rattle.machine.proofs.Frames.{depth-law}
 use Rattle.machine.specs.Place.{Placed}
 use Rattle.machine.proofs.Tour.{unrolls, tree-law}
 use Rattle.machine.proofs.Step.{restBy}
 use Rattle.machine.proofs.Call.{EndLaw, stack-full, output-full, CallRefusal, too-short, in-step, RefusedBy, readings-append, short-call, OneLaw, one-law}
-use Rattle.machine.proofs.Reading.{steps-is, told-is, end-is, refused-as, call-by, by-call, never-full}
+use Rattle.machine.proofs.Reading.{steps-is, told-is, end-is, refused-kind, refused-number, call-by, by-call, never-full}
 use Rattle.machine.proofs.Asked.{same-asked}
 use Rattle.machine.proofs.Stack.{store-laws, same-is, frames-take}
 
@@ -79,8 +79,8 @@ module _ (t : Table) (q : Query) (B : Bounded (machine t q)) (F : (lettersToRead
     pub taken : List Entry
     pub left : List Entry
     pub splits : es ≡ taken ++ left
-    pub counted : length taken ≡ stepsBy o
-    pub read : readings M taken ≡ outputTold (kindBy o) (o .output)
+    pub counted : length taken ≡ toldBy o .steps
+    pub read : readings M taken ≡ outputTold (toldBy o) (o .output)
     pub at : At (o .called .run) (usedBy r used x o) left
     pub same-task : o .called .run .task ≡ r .task
     pub tells : (n : ℕ) → n + length es ≡ treeSize M → CallTells t q n r x o
@@ -152,30 +152,33 @@ module _ (t : Table) (q : Query) (B : Bounded (machine t q)) (F : (lettersToRead
             ∙ length-append (L .taken) left
             ∙ ap (λ (n : ℕ). n + length left) (L .counted)
 
-        facts : (m : ℕ) → kindOf (answerAs (T .reply) (T .steps)) ≡ refused m → Numbered (M .limit) (roomIn (x .stack)) (r .depth) m
-        facts m e =
-            let A = refused-as (T .reply) (T .steps) m e in
+        facts : toldBy o .kind ≡ refusedKind → Numbered (M .limit) (roomIn (x .stack)) (r .depth) (toldBy o .number)
+        facts e =
+            let A = refused-kind (T .reply) (T .steps) e in
             subst (λ (k : ℕ). Numbered (M .limit) (roomIn (x .stack)) (r .depth) k) (A .2)
             (numbered (M .limit) (roomIn (x .stack)) (r .depth) (A .0) (subst (λ (a : Reply). RefusedBy (CallRefusal (M .limit) (roomIn (x .stack)) (r .depth)) a) (A .1) (L .refusal)))
 
-        short-from : framesIn (x .stack) < r .depth → kindOf (answerAs (T .reply) (T .steps)) ≡ refused 21
+        numbered-as : (m : ℕ) → toldBy o .number ≡ suc m → Numbered (M .limit) (roomIn (x .stack)) (r .depth) (toldBy o .number)
+        numbered-as m e = facts (refused-number (T .reply) (T .steps) m e)
+
+        short-from : framesIn (x .stack) < r .depth → toldBy o .number ≡ 21
         short-from h =
-            ap (λ (c : Told (List ℕ)). kindOf (answerAs (c .reply) (c .steps))) (short-call M store (same-is t q) (x .allowance) (length (x .buffer)) (heldOf r (x .stack)) (omega arith))
+            ap (λ (c : Told (List ℕ)). told (answerAs (c .reply) (c .steps)) .number) (short-call M store (same-is t q) (x .allowance) (length (x .buffer)) (heldOf r (x .stack)) (omega arith))
 
         deep : r .depth ≤ M .limit
         deep = omega (arith, depth-law M B (r .started) (A .frames) (A .placed), A .as-deep)
 
         tells-law : (n : ℕ) → n + length es ≡ treeSize M → CallTells t q n r x o
         tells-law n e =
-            let S : stepsOf (answerAs (T .reply) (T .steps)) ≡ T .steps = steps-is (T .reply) (T .steps) in
+            let S : toldBy o .steps ≡ T .steps = steps-is (T .reply) (T .steps) in
             let C : CallBy t q r (x .stack) (x .allowance) (x .buffer) o = call-by t q r (x .stack) (x .allowance) (x .buffer) in
             let E = end-is (T .reply) (T .steps) left ending in
             record {
               by-steps = C;
               ended-is = (λ z. omega (arith, ap length (E .0 z), sizes), λ z. E .1 (none-left left (omega (arith, sizes))));
-              short-is = (λ z. let h : roomIn (x .stack) < r .depth = facts 21 z .short refl in omega (arith, shallow), short-from);
-              refusals = λ m z. facts m z .one-of;
-              never-short = λ h. (λ z. let k : roomIn (x .stack) < r .depth = facts 21 z .short refl in omega (arith, deep), λ z. let k : roomIn (x .stack) < M .limit = facts 22 z .full refl in omega arith);
+              short-is = (λ z. let h : roomIn (x .stack) < r .depth = numbered-as 20 z .short z in omega (arith, shallow), short-from);
+              refusals = λ z. facts z .one-of;
+              never-short = λ h. (λ z. let k : roomIn (x .stack) < r .depth = numbered-as 20 z .short z in omega (arith, deep), λ z. let k : roomIn (x .stack) < M .limit = numbered-as 21 z .full z in omega arith);
               never-full = never-full t q r (x .stack) (x .allowance) (x .buffer) C;
             }
 

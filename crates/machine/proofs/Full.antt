@@ -23,9 +23,8 @@ use Rattle.machine.specs.Step.{Move, over, drops, begins, skips, pushes,
 use Rattle.machine.specs.Call.{found, Told, advance, at-end, at-reading, at-allowance, at-refusal}
 use Rattle.machine.specs.Transducer.{Passed, machine}
 use Rattle.machine.specs.Stack.{roomIn, store}
-use Rattle.machine.specs.Answer.{refused}
 use Rattle.machine.specs.Asked.{Asked, runs, asked}
-use Rattle.machine.specs.Reading.{Outcome, kindBy, outcomeAs, outcomeOf, outcome, CallBy, no-place, goes-on}
+use Rattle.machine.specs.Reading.{Outcome, toldBy, outcomeAs, outcomeOf, outcome, CallBy, no-place, goes-on}
 use Rattle.machine.proofs.Frames.{frames-length, walk-size}
 use Rattle.machine.proofs.Held.{RoomFor, allowed-at, move-good}
 use Rattle.machine.proofs.Stops.{step-full, steps-good}
@@ -82,20 +81,17 @@ module _ (t : Table) (q : Query) where
             let F = finds-later (ltb (d .depth) (roomIn (d .cells))) (effect M store (pushes f g) d) (λ b. omega (arith, few-letters N (d .depth) (effect M store (pushes f g) d) refl (after (pushes f g) e (room b)))) z in
             (effect M store (pushes f g) d, F .0, F .1)
 
-  enough-by : (run : Run) (stack : List ℕ) (n : ℕ) (buffer : List ℕ) {o : Outcome} → CallBy t q run stack n buffer o → kindBy o ≡ refused 23
+  enough-by : (run : Run) (stack : List ℕ) (n : ℕ) (buffer : List ℕ) {o : Outcome} → CallBy t q run stack n buffer o → toldBy o .number ≡ 23
       → (b : List ℕ) (m : ℕ) → o .called .run .depth ≤ length b → 0 < m → (k : ℕ) × (outcomeOf (runs t q) (o .called .run) (o .stack) m b .called .answer ≡ Found 1 k)
-  enough-by run stack n buffer (no-place f) e b m k a = absurd (let z : _≡_ {A = ℕ} 21 23 = cc in omega arith)
-  enough-by run stack n buffer (goes-on I (at-end s j z)) e b m k a = absurd (let y : _≡_ {A = ℕ} 0 1 = cc in omega arith)
-  enough-by run stack n buffer (goes-on I (at-reading w s j z)) e b m k a = absurd (let y : _≡_ {A = ℕ} 0 1 = cc in omega arith)
-  enough-by run stack n buffer (goes-on I (at-allowance s z)) e b m k a = absurd (let y : _≡_ {A = ℕ} 0 1 = cc in omega arith)
+  enough-by run stack n buffer (no-place f) e b m k a = absurd (omega arith)
+  enough-by run stack n buffer (goes-on I (at-end s j z)) e b m k a = absurd (omega arith)
+  enough-by run stack n buffer (goes-on I (at-reading w s j z)) e b m k a = absurd (omega arith)
+  enough-by run stack n buffer (goes-on I (at-allowance s z)) e b m k a = absurd (omega arith)
   enough-by run stack n buffer (goes-on I (at-refusal {d = d} c s j z)) e b m k a =
       (length (F .1), ap (λ (r : Told (List ℕ)). outcomeAs (run .task) b r .called .answer) (in-place-call M store m (length b) d (search-place t q after (d .cells) J) ∙ turn))
     where
-      number : numberOf c ≡ 23
-      number = cc
-
       full : c ≡ State OutputFull
-      full = ⊎-elim (λ x. absurd (let y : _≡_ {A = ℕ} 22 23 = ap numberOf (sym x) ∙ number in omega arith)) (λ x. x) (step-full M store (length buffer) d c z)
+      full = ⊎-elim (λ x. absurd (let y : _≡_ {A = ℕ} 22 23 = ap numberOf (sym x) ∙ e in omega arith)) (λ x. x) (step-full M store (length buffer) d c z)
 
       G : Good M store (roomIn stack) d
       G = steps-good M store (length buffer) store-laws (roomIn stack) s (record { placed = I .placed; deep = omega (arith, I .in-stack, I .in-limit); room = refl })
@@ -113,7 +109,7 @@ module _ (t : Table) (q : Query) where
       turn = ap (λ (j : ℕ). advance M store (length b) j d) (let y : m ≡ suc (pred m) = omega arith in y) ∙ found-turn M store (length b) d (pred m) (F .0) (F .1) (F .2)
 
 pub after-23 : (cells upper lower : List ℕ) (run : Run) (stack : List ℕ) (n : ℕ) (buffer : List ℕ) (t : Table) (q : Query) → asked cells (run .task) upper lower ≡ runs t q
-    → kindBy (outcome cells upper lower run stack n buffer) ≡ refused 23
+    → toldBy (outcome cells upper lower run stack n buffer) .number ≡ 23
     → (b : List ℕ) (m : ℕ) → outcome cells upper lower run stack n buffer .called .run .depth ≤ length b → 0 < m
     → (k : ℕ) × (outcome cells upper lower (outcome cells upper lower run stack n buffer .called .run) (outcome cells upper lower run stack n buffer .stack) m b .called .answer ≡ Found 1 k)
 unfolding outcome
@@ -122,7 +118,7 @@ after-23 cells upper lower run stack n buffer t q a e b m k p = subst Enough (sy
     Enough : Asked → Type 0
     Enough w =
         let o = outcomeOf w run stack n buffer in
-        kindBy o ≡ refused 23 → o .called .run .depth ≤ length b → (k : ℕ) × (outcomeOf (asked cells (o .called .run .task) upper lower) (o .called .run) (o .stack) m b .called .answer ≡ Found 1 k)
+        toldBy o .number ≡ 23 → o .called .run .depth ≤ length b → (k : ℕ) × (outcomeOf (asked cells (o .called .run .task) upper lower) (o .called .run) (o .stack) m b .called .answer ≡ Found 1 k)
 
     there : Enough (runs t q)
     there e k =

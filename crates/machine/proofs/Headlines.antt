@@ -30,10 +30,10 @@ use Rattle.machine.specs.Order.{accepting, outputs, ListsAllowed, Lists}
 use Rattle.machine.specs.Transducer.{arcAt, Passed, lettersToRead, writtenBy, machine}
 use Rattle.machine.specs.Idle.{IdleWalk, NoIdleCycle, CycleStates, hasIdleCycle}
 use Rattle.machine.specs.Stack.{framesIn}
-use Rattle.machine.specs.Answer.{found, refused, startNumber}
+use Rattle.machine.specs.Answer.{foundKind, refusedKind}
 use Rattle.machine.specs.Asked.{Asked, runs, asked}
-use Rattle.machine.specs.Start.{firstRun, started, StartIs}
-use Rattle.machine.specs.Reading.{Outcome, kindBy, outcome, CallBy, RefusedLeaves}
+use Rattle.machine.specs.Start.{firstRun, started, startToldBy, StartIs}
+use Rattle.machine.specs.Reading.{Outcome, toldBy, outcome, CallBy, RefusedLeaves}
 use Rattle.machine.specs.Demand.{Lent, CallTells, Ample, AmpleCalls, other, Handed, received, stepsTold, unended, LastEnds, Demand3}
 use Rattle.machine.specs.Report.{LocallyFinite, _∘_, Word, α, upperAlone, lowerAlone, Output, Cell, arcsOf, kernel, Noetherian, Finite, Solves}
 use Rattle.machine.specs.Agree.{inputOf, outputOf, TraceFor, Same}
@@ -177,10 +177,10 @@ module _ (cells : List ℕ) (task : ℕ) (upper lower : List ℕ) where
   start-there = starts.start-there cells task upper lower
 
   module _ (s : Started) (S : StartIs cells task upper lower s) where
-    pub twelve : (startNumber (s .answer) ≡ some 12) ↔ ((t : Table) × (q : Query) × (asked cells task upper lower ≡ runs t q) × ((x : ℕ) × IdleWalk t (q .task) x x))
+    pub twelve : (startToldBy s .number ≡ 12) ↔ ((t : Table) × (q : Query) × (asked cells task upper lower ≡ runs t q) × ((x : ℕ) × IdleWalk t (q .task) x x))
     twelve = starts.twelve cells task upper lower s S
 
-    pub twelve-tells : (t : Table) (q : Query) → asked cells task upper lower ≡ runs t q → startNumber (s .answer) ≡ some 12 → CycleStates t (q .task) (take (s .length) (s .cycle))
+    pub twelve-tells : (t : Table) (q : Query) → asked cells task upper lower ≡ runs t q → startToldBy s .number ≡ 12 → CycleStates t (q .task) (take (s .length) (s .cycle))
     twelve-tells t q a = starts.twelve-tells cells task upper lower t q (ruled t (asks.asked-facts cells task upper lower t q a .keeps-rules)) a s S
 
     pub cycle-cells : length (s .cycle) ≡ 256
@@ -361,27 +361,27 @@ module _ (c d : List ℕ) (e : loaded c ≡ loaded d) where
 -- step is made then, and all is as it was.
 
 module _ (cells upper lower : List ℕ) (run : Run) (stack : List ℕ) (n : ℕ) (buffer : List ℕ) where
-  pub twenty-one : (kindBy (outcome cells upper lower run stack n buffer) ≡ refused 21)
+  pub twenty-one : (toldBy (outcome cells upper lower run stack n buffer) .number ≡ 21)
       ↔ ((t : Table) × (q : Query) × (asked cells (run .task) upper lower ≡ runs t q) × (InSearch t q run stack → ⊥))
   twenty-one = calls.twenty-one cells upper lower run stack n buffer
 
-  pub twenty-one-leaves : kindBy (outcome cells upper lower run stack n buffer) ≡ refused 21
+  pub twenty-one-leaves : toldBy (outcome cells upper lower run stack n buffer) .number ≡ 21
       → outcome cells upper lower run stack n buffer ≡ record { called = record { answer = Refused 0 (State Place); run = run }; stack = stack; output = buffer }
   twenty-one-leaves = calls.twenty-one-leaves cells upper lower run stack n buffer
 
 -- THE BUFFER: only Found writes output, and it leaves what stands behind it.
 
 module _ (cells upper lower : List ℕ) (run : Run) (stack : List ℕ) (n : ℕ) (buffer : List ℕ) where
-  pub buffer-left : ((m : ℕ) → kindBy (outcome cells upper lower run stack n buffer) ≡ found m → ⊥) → outcome cells upper lower run stack n buffer .output ≡ buffer
+  pub buffer-left : (toldBy (outcome cells upper lower run stack n buffer) .kind ≡ foundKind → ⊥) → outcome cells upper lower run stack n buffer .output ≡ buffer
   buffer-left = calls.buffer-left cells upper lower run stack n buffer
 
-  pub found-left : (m : ℕ) → kindBy (outcome cells upper lower run stack n buffer) ≡ found m → drop m (outcome cells upper lower run stack n buffer .output) ≡ drop m buffer
+  pub found-left : let o = outcome cells upper lower run stack n buffer in toldBy o .kind ≡ foundKind → drop (toldBy o .length) (o .output) ≡ drop (toldBy o .length) buffer
   found-left = calls.found-left cells upper lower run stack n buffer
 
 -- A REFUSED CALL leaves everything as it was before the refused step, or before the call; for any run, stack and buffer.
 
-pub refused-leaves : (cells upper lower : List ℕ) (run : Run) (stack : List ℕ) (n : ℕ) (buffer : List ℕ) (m : ℕ)
-    → kindBy (outcome cells upper lower run stack n buffer) ≡ refused m → RefusedLeaves (asked cells (run .task) upper lower) run stack buffer (outcome cells upper lower run stack n buffer)
+pub refused-leaves : (cells upper lower : List ℕ) (run : Run) (stack : List ℕ) (n : ℕ) (buffer : List ℕ)
+    → toldBy (outcome cells upper lower run stack n buffer) .kind ≡ refusedKind → RefusedLeaves (asked cells (run .task) upper lower) run stack buffer (outcome cells upper lower run stack n buffer)
 refused-leaves = calls.refused-leaves
 
 -- What it says has one solution.
@@ -391,7 +391,7 @@ refused-leaves-one = calls.refused-leaves-one
 -- AFTER 23 a buffer of as many letters as frames are in use is enough for the refused step: the next call finds the reading with its first step.
 
 pub after-23 : (cells upper lower : List ℕ) (run : Run) (stack : List ℕ) (n : ℕ) (buffer : List ℕ) (t : Table) (q : Query) → asked cells (run .task) upper lower ≡ runs t q
-    → kindBy (outcome cells upper lower run stack n buffer) ≡ refused 23
+    → toldBy (outcome cells upper lower run stack n buffer) .number ≡ 23
     → (b : List ℕ) (m : ℕ) → outcome cells upper lower run stack n buffer .called .run .depth ≤ length b → 0 < m
     → (k : ℕ) × (outcome cells upper lower (outcome cells upper lower run stack n buffer .called .run) (outcome cells upper lower run stack n buffer .stack) m b .called .answer ≡ Found 1 k)
 after-23 = full.after-23

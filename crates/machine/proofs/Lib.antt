@@ -13,6 +13,7 @@ pub mod Range
 pub mod Stack
 pub mod Idle
 pub mod Bound
+pub mod Told
 pub mod Asked
 pub mod Start
 pub mod Reading

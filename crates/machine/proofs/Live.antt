@@ -3,10 +3,12 @@ use Prim.Native.Nat.{ℕ, zero, suc, _+_, _*_, _≤_, _<_}
 use native.Mathlib.Omega.{arith}
 use mathlib.Core.Path.{_≡_, refl, sym, ap, subst, _∙_}
 use mathlib.Core.Logic.{_⊎_, inl, inr, ⊎-elim}
+use mathlib.Core.Bool.{Bool, true, false, cond}
 use mathlib.Core.List.{List, [], _∷_}
+use lib.Dec.{eqb}
 use lib.ListN.{length}
 use Rattle.table_format.specs.Table.{Table}
-use Rattle.refusal.specs.Refusal.{numberOf}
+use Rattle.refusal.specs.Told.{Told}
 use Rattle.machine.specs.declared.Run.{Run}
 use Rattle.machine.specs.Query.{Task, recognition, synthesis, analysis, upperSide, lowerSide, reads, Query}
 use Rattle.machine.specs.Machine.{Path, size, output, Allowed, Bounded}
@@ -14,8 +16,8 @@ use Rattle.machine.specs.Tour.{treeSize}
 use Rattle.machine.specs.Call.{at-end, at-reading, at-allowance, at-refusal}
 use Rattle.machine.specs.Transducer.{Passed, passed, sideWritten, lettersToRead, machine}
 use Rattle.machine.specs.Stack.{framesIn}
-use Rattle.machine.specs.Answer.{Kind, found, paused, ended, refused}
-use Rattle.machine.specs.Reading.{Outcome, kindBy, stepsBy, CallBy, no-place, goes-on}
+use Rattle.machine.specs.Answer.{endedKind, refusedKind}
+use Rattle.machine.specs.Reading.{Outcome, toldBy, CallBy, no-place, goes-on}
 use Rattle.machine.specs.Demand.{Lent, CallTells, Ample, AmpleCalls, none, ample, other, oneUnlessEnded, callOn, stepsOn, runAfter, stepsTold, unended, LastEnds, Tells, Demand3}
 use Rattle.machine.proofs.Transducer.{written-length, passed-size}
 use Rattle.machine.proofs.Bound.{has-datum}
@@ -41,27 +43,29 @@ module _ (t : Table) (q : Query) where
   pub ample-by-size : Bounded (machine t q) → (x : Lent) → (lettersToRead q + 1) * t .states ≤ framesIn (x .stack) → 0 < x .allowance → (lettersToRead q + 1) * t .states ≤ length (x .buffer) + 1 → Ample t q x
   ample-by-size B x f n l = record { frames = f; steps = n; letters = λ p A e. enough-letters B (length (x .buffer)) l p A }
 
-  progress-by : (r : Run) (x : Lent) {o : Outcome} → Ample t q x → CallBy t q r (x .stack) (x .allowance) (x .buffer) o → ((m : ℕ) → kindBy o ≡ refused m → ⊥) → (0 < stepsBy o) ⊎ (kindBy o ≡ ended)
-  progress-by r x A (no-place f) N = absurd (N 21 refl)
+  progress-by : (r : Run) (x : Lent) {o : Outcome} → Ample t q x → CallBy t q r (x .stack) (x .allowance) (x .buffer) o → (toldBy o .kind ≡ refusedKind → ⊥) → (0 < toldBy o .steps) ⊎ (toldBy o .kind ≡ endedKind)
+  progress-by r x A (no-place f) N = absurd (N refl)
   progress-by r x A (goes-on I (at-end s k z)) N = inr refl
   progress-by r x A (goes-on I (at-reading o s k z)) N = inl (omega arith)
   progress-by r x A (goes-on I (at-allowance s z)) N = inl (A .steps)
-  progress-by r x A (goes-on I (at-refusal c s k z)) N = absurd (N (numberOf c) refl)
+  progress-by r x A (goes-on I (at-refusal c s k z)) N = absurd (N refl)
 
   -- a call with room enough makes a step or answers Ended
-  pub progress : (n : ℕ) (r : Run) (x : Lent) (o : Outcome) → Ample t q x → CallTells t q n r x o → (0 < stepsBy o) ⊎ (kindBy o ≡ ended)
+  pub progress : (n : ℕ) (r : Run) (x : Lent) (o : Outcome) → Ample t q x → CallTells t q n r x o → (0 < toldBy o .steps) ⊎ (toldBy o .kind ≡ endedKind)
   progress n r x o A T = progress-by r x A (T .by-steps) none
     where
-      none : (m : ℕ) → kindBy o ≡ refused m → ⊥
-      none m e =
-          ⊎-elim (λ z. T .never-short (A .frames) .0 (e ∙ ap refused z)) (⊎-elim (λ z. T .never-short (A .frames) .1 (e ∙ ap refused z)) (λ z. T .never-full (A .letters) (e ∙ ap refused z)))
-          (T .refusals m e)
+      none : toldBy o .kind ≡ refusedKind → ⊥
+      none e = ⊎-elim (T .never-short (A .frames) .0) (⊎-elim (T .never-short (A .frames) .1) (T .never-full (A .letters))) (T .refusals e)
 
-  one-at-most : (k : Kind) → oneUnlessEnded k ≤ 1
-  one-at-most (found n) = omega arith
-  one-at-most paused = omega arith
-  one-at-most ended = omega arith
-  one-at-most (refused n) = omega arith
+  one-at-most : (d : Told) → oneUnlessEnded d ≤ 1
+  one-at-most d = go (eqb (d .kind) endedKind)
+    where
+      go : (b : Bool) → cond b 0 1 ≤ 1
+      go true = omega arith
+      go false = omega arith
+
+  none-ended : (d : Told) → d .kind ≡ endedKind → oneUnlessEnded d ≡ 0
+  none-ended d e = ap (λ (k : ℕ). cond (eqb k endedKind) 0 1) e
 
   -- no more calls have room enough than there are
   pub no-more : {m : ℕ} {xs : List Lent} → AmpleCalls t q m xs → m ≤ length xs
@@ -74,11 +78,11 @@ module _ (t : Table) (q : Query) where
     steps-enough : (xs : List Lent) (n m : ℕ) (r : Run) → Tells upper lower t q n r xs → AmpleCalls t q m xs → m + unended upper lower r xs ≤ length xs + stepsTold upper lower r xs
     steps-enough [] n zero r T none = omega arith
     steps-enough (x ∷ xs) n (suc m) r T (ample A C) =
-        let k : oneUnlessEnded (kindBy (callOn upper lower r x)) ≤ stepsOn upper lower r x = ⊎-elim (λ h. omega (arith, one-at-most (kindBy (callOn upper lower r x)))) (λ e. omega (arith, ap oneUnlessEnded e))
+        let k : oneUnlessEnded (toldBy (callOn upper lower r x)) ≤ stepsOn upper lower r x = ⊎-elim (λ h. omega (arith, one-at-most (toldBy (callOn upper lower r x)))) (λ e. omega (arith, none-ended (toldBy (callOn upper lower r x)) e))
         (progress n r x (callOn upper lower r x) A (T .0)) in
         omega (arith, steps-enough xs (n + stepsOn upper lower r x) m (runAfter upper lower r x) (T .1) C)
     steps-enough (x ∷ xs) n m r T (other C) =
-        omega (arith, one-at-most (kindBy (callOn upper lower r x)), steps-enough xs (n + stepsOn upper lower r x) m (runAfter upper lower r x) (T .1) C)
+        omega (arith, one-at-most (toldBy (callOn upper lower r x)), steps-enough xs (n + stepsOn upper lower r x) m (runAfter upper lower r x) (T .1) C)
 
     -- where n steps are the whole tree, every further call answers Ended, and so the last
     still-ends : (x : Lent) (xs : List Lent) (n : ℕ) (r : Run) → Tells upper lower t q n r (x ∷ xs) → n + stepsTold upper lower r (x ∷ xs) ≤ treeSize (machine t q) → treeSize (machine t q) ≤ n

@@ -16,6 +16,7 @@ use Rattle.refusal.specs.Refusal.{numberOf}
 use Rattle.machine.specs.declared.Run.{Run}
 use Rattle.machine.specs.declared.Answer.{Answer}
 use Rattle.machine.specs.declared.Answer.the-variants.{Refused}
+use Rattle.machine.specs.declared.Called.{Called}
 use Rattle.machine.specs.Query.{Query}
 use Rattle.machine.specs.Machine.{Machine, Path, accepts, output, Allowed}
 use Rattle.machine.specs.Frames.{Frame, Store, Held, placeHolds}
@@ -25,9 +26,10 @@ use Rattle.machine.specs.Call as R
 use Rattle.machine.specs.Tour.{Entry}
 use Rattle.machine.specs.Transducer.{machine}
 use Rattle.machine.specs.Stack.{roomIn, store}
-use Rattle.machine.specs.Answer.{found, paused, ended, refused, kindOf, stepsOf, outputTold}
+use Rattle.machine.specs.Answer.{foundKind, endedKind, refusedKind, told, outputTold}
 use Rattle.machine.specs.Asked.{Asked, turned, runs, asked}
-use Rattle.machine.specs.Reading.{Outcome, kindBy, heldOf, answerAs, outputAs, outcomeAs, outcomeOf, outcome, Unchanged, BeforeStep, RefusedLeaves, CallBy, no-place, goes-on}
+use Rattle.machine.specs.Reading.{Outcome, toldBy, heldOf, answerAs, outputAs, outcomeAs, outcomeOf, outcome, OutcomeIs, Unchanged, BeforeStep, RefusedLeaves, CallBy, no-place, goes-on}
+use Rattle.machine.proofs.Told.{told-one}
 use Rattle.machine.proofs.Frames.{place-placed, placed-place}
 use Rattle.machine.proofs.Call.{EndLaw, outs, no-place-call, in-place-call, place-call}
 use Rattle.machine.proofs.Stops.{step-full, steps-good, advance-stops, stops-advance, stops-one}
@@ -37,29 +39,45 @@ use Rattle.machine.proofs.Asked.{TurnedBy, turned-by, same-asked}
 
 -- Replies as answers.
 
-pub steps-is : (a : Reply) (n : ℕ) → stepsOf (answerAs a n) ≡ n
+pub steps-is : (a : Reply) (n : ℕ) → told (answerAs a n) .steps ≡ n
 steps-is (R.found o) n = refl
 steps-is R.paused n = refl
 steps-is R.ended n = refl
 steps-is (R.refused r) n = refl
 
-pub told-is : (a : Reply) (n : ℕ) (b : List ℕ) → outputTold (kindOf (answerAs a n)) (outputAs a b) ≡ outs a
+pub told-is : (a : Reply) (n : ℕ) (b : List ℕ) → outputTold (told (answerAs a n)) (outputAs a b) ≡ outs a
 told-is (R.found o) n b = rw take-append-seam
 told-is R.paused n b = refl
 told-is R.ended n b = refl
 told-is (R.refused r) n b = refl
 
-pub end-is : (a : Reply) (n : ℕ) (es : List Entry) → EndLaw a es → (kindOf (answerAs a n) ≡ ended) ↔ (es ≡ [])
-end-is (R.found o) n es E = (λ e. absurd (let z : _≡_ {A = ℕ} 0 1 = cc in omega arith), λ e. absurd (E e))
-end-is R.paused n es E = (λ e. absurd (let z : _≡_ {A = ℕ} 0 1 = cc in omega arith), λ e. absurd (E e))
+pub end-is : (a : Reply) (n : ℕ) (es : List Entry) → EndLaw a es → (told (answerAs a n) .kind ≡ endedKind) ↔ (es ≡ [])
+end-is (R.found o) n es E = (λ e. absurd (omega arith), λ e. absurd (E e))
+end-is R.paused n es E = (λ e. absurd (omega arith), λ e. absurd (E e))
 end-is R.ended n es E = (λ e. E, λ e. refl)
-end-is (R.refused r) n es E = (λ e. absurd (let z : _≡_ {A = ℕ} 0 1 = cc in omega arith), λ e. absurd (E e))
+end-is (R.refused r) n es E = (λ e. absurd (omega arith), λ e. absurd (E e))
 
-pub refused-as : (a : Reply) (n m : ℕ) → kindOf (answerAs a n) ≡ refused m → (c : Refusal) × (a ≡ R.refused c) × (numberOf c ≡ m)
-refused-as (R.found o) n m e = absurd (let z : _≡_ {A = ℕ} 0 1 = cc in omega arith)
-refused-as R.paused n m e = absurd (let z : _≡_ {A = ℕ} 0 1 = cc in omega arith)
-refused-as R.ended n m e = absurd (let z : _≡_ {A = ℕ} 0 1 = cc in omega arith)
-refused-as (R.refused r) n m e = (r, refl, cc)
+-- an answer of that kind, or with a number, refuses
+pub refused-kind : (a : Reply) (n : ℕ) → told (answerAs a n) .kind ≡ refusedKind → (c : Refusal) × (a ≡ R.refused c) × (numberOf c ≡ told (answerAs a n) .number)
+refused-kind (R.found o) n e = absurd (omega arith)
+refused-kind R.paused n e = absurd (omega arith)
+refused-kind R.ended n e = absurd (omega arith)
+refused-kind (R.refused r) n e = (r, refl, refl)
+
+pub refused-number : (a : Reply) (n m : ℕ) → told (answerAs a n) .number ≡ suc m → told (answerAs a n) .kind ≡ refusedKind
+refused-number (R.found o) n m e = absurd (omega arith)
+refused-number R.paused n m e = absurd (omega arith)
+refused-number R.ended n m e = absurd (omega arith)
+refused-number (R.refused r) n m e = refl
+
+-- What a call ensures, as an equation of its result and back.
+
+pub outcome-called : {x : Outcome} {c : Called} {stack output : List ℕ} → OutcomeIs x (told (c .answer)) (c .run) stack output → c ≡ x .called
+outcome-called {x} {c} I = λ i. record { answer = told-one (c .answer) (x .called .answer) (I .answer-is) i; run = I .run-is i }
+
+pub called-outcome : {x : Outcome} {c : Called} {stack output : List ℕ} → c ≡ x .called → stack ≡ x .stack → output ≡ x .output
+    → OutcomeIs x (told (c .answer)) (c .run) stack output
+called-outcome e s o = record { answer-is = ap (λ (c : Called). told (c .answer)) e; run-is = ap (λ (c : Called). c .run) e; stack-is = s; output-is = o }
 
 -- 21 is given exactly where the run and the stack are not a place in a search.
 
@@ -81,11 +99,11 @@ module _ (t : Table) (q : Query) (run : Run) (stack : List ℕ) where
     abbrev o : Outcome
     o = outcomeOf (runs t q) run stack n buffer
 
-    placed-number : InSearch t q run stack → kindBy o ≡ refused 21 → ⊥
+    placed-number : InSearch t q run stack → toldBy o .number ≡ 21 → ⊥
     placed-number I e =
         let T = call (machine t q) store n (length buffer) (heldOf run stack) in
-        let A = refused-as (T .reply) (T .steps) 21 e in
-        ⊎-elim (λ s. let z : 22 ≡ 21 = ap numberOf (sym s) ∙ A .2 in omega arith) (λ s. let z : 23 ≡ 21 = ap numberOf (sym s) ∙ A .2 in omega arith)
+        let A = refused-kind (T .reply) (T .steps) (refused-number (T .reply) (T .steps) 20 e) in
+        ⊎-elim (λ s. let z : 22 ≡ 21 = ap numberOf (sym s) ∙ A .2 ∙ e in omega arith) (λ s. let z : 23 ≡ 21 = ap numberOf (sym s) ∙ A .2 ∙ e in omega arith)
         (place-call (machine t q) store n (length buffer) (heldOf run stack) (search-place I) (A .0) (A .1))
 
     unplaced : (InSearch t q run stack → ⊥) → o ≡ placeRefused run stack buffer
@@ -110,20 +128,20 @@ module _ (t : Table) (q : Query) (run : Run) (stack : List ℕ) where
         ap (outcomeAs (run .task) buffer) (stops-advance (machine t q) store (length buffer) s ∙ sym (in-place-call (machine t q) store n (length buffer) (heldOf run stack) (search-place I)))
 
 module _ (cells upper lower : List ℕ) (run : Run) (stack : List ℕ) (n : ℕ) (buffer : List ℕ) where
-  pub twenty-one : (kindBy (outcome cells upper lower run stack n buffer) ≡ refused 21)
+  pub twenty-one : (toldBy (outcome cells upper lower run stack n buffer) .number ≡ 21)
       ↔ ((t : Table) × (q : Query) × (asked cells (run .task) upper lower ≡ runs t q) × (InSearch t q run stack → ⊥))
   unfolding outcome
   twenty-one = (
     to (asked cells (run .task) upper lower) refl (turned-by cells (run .task) upper lower),
-    λ w. subst (λ (z : Asked). kindBy (outcomeOf z run stack n buffer) ≡ refused 21) (sym (w .2)) (ap kindBy (unplaced (w .0) (w .1) run stack n buffer (w .3))),
+    λ w. subst (λ (z : Asked). toldBy (outcomeOf z run stack n buffer) .number ≡ 21) (sym (w .2)) (ap (λ (v : Outcome). toldBy v .number) (unplaced (w .0) (w .1) run stack n buffer (w .3))),
   )
     where
-      to : (z : Asked) → asked cells (run .task) upper lower ≡ z → TurnedBy z → kindBy (outcomeOf z run stack n buffer) ≡ refused 21
+      to : (z : Asked) → asked cells (run .task) upper lower ≡ z → TurnedBy z → toldBy (outcomeOf z run stack n buffer) .number ≡ 21
           → (t : Table) × (q : Query) × (asked cells (run .task) upper lower ≡ runs t q) × (InSearch t q run stack → ⊥)
-      to (turned r) a N e = let z : numberOf r ≡ 21 = cc in absurd (⊎-elim (λ x. omega arith) (⊎-elim (λ x. omega arith) (λ x. omega arith)) N)
+      to (turned r) a N e = absurd (⊎-elim (λ x. omega arith) (⊎-elim (λ x. omega arith) (λ x. omega arith)) N)
       to (runs t q) a N e = (t, q, a, λ I. placed-number t q run stack n buffer I e)
 
-  pub twenty-one-leaves : kindBy (outcome cells upper lower run stack n buffer) ≡ refused 21 → outcome cells upper lower run stack n buffer ≡ placeRefused run stack buffer
+  pub twenty-one-leaves : toldBy (outcome cells upper lower run stack n buffer) .number ≡ 21 → outcome cells upper lower run stack n buffer ≡ placeRefused run stack buffer
   unfolding outcome
   twenty-one-leaves e =
       let w = twenty-one .0 e in
@@ -131,22 +149,22 @@ module _ (cells upper lower : List ℕ) (run : Run) (stack : List ℕ) (n : ℕ)
 
 -- What a refused call leaves.
 
-leaves-by : (t : Table) (q : Query) (run : Run) (stack : List ℕ) (n : ℕ) (buffer : List ℕ) (m : ℕ) {o : Outcome} → CallBy t q run stack n buffer o → kindBy o ≡ refused m
+leaves-by : (t : Table) (q : Query) (run : Run) (stack : List ℕ) (n : ℕ) (buffer : List ℕ) {o : Outcome} → CallBy t q run stack n buffer o → toldBy o .kind ≡ refusedKind
     → RefusedLeaves (runs t q) run stack buffer o
-leaves-by t q run stack n buffer m (no-place f) e = (refl, refl, inl (f, (refl, refl, refl)))
-leaves-by t q run stack n buffer m (goes-on I (R.at-end s k z)) e = absurd (let y : _≡_ {A = ℕ} 0 1 = cc in omega arith)
-leaves-by t q run stack n buffer m (goes-on I (R.at-reading w s k z)) e = absurd (let y : _≡_ {A = ℕ} 0 1 = cc in omega arith)
-leaves-by t q run stack n buffer m (goes-on I (R.at-allowance s z)) e = absurd (let y : _≡_ {A = ℕ} 0 1 = cc in omega arith)
-leaves-by t q run stack n buffer m (goes-on I (R.at-refusal c s k z)) e = (refl, refl, inr (I, record { refusal = c; told = refl; steps-made = s; refused-there = z }))
+leaves-by t q run stack n buffer (no-place f) e = (refl, refl, inl (f, (refl, refl, refl)))
+leaves-by t q run stack n buffer (goes-on I (R.at-end s k z)) e = absurd (omega arith)
+leaves-by t q run stack n buffer (goes-on I (R.at-reading w s k z)) e = absurd (omega arith)
+leaves-by t q run stack n buffer (goes-on I (R.at-allowance s z)) e = absurd (omega arith)
+leaves-by t q run stack n buffer (goes-on I (R.at-refusal c s k z)) e = (refl, refl, inr (I, record { refusal = c; is-refused = refl; steps-made = s; refused-there = z }))
 
-pub refused-leaves : (cells upper lower : List ℕ) (run : Run) (stack : List ℕ) (n : ℕ) (buffer : List ℕ) (m : ℕ)
-    → kindBy (outcome cells upper lower run stack n buffer) ≡ refused m → RefusedLeaves (asked cells (run .task) upper lower) run stack buffer (outcome cells upper lower run stack n buffer)
+pub refused-leaves : (cells upper lower : List ℕ) (run : Run) (stack : List ℕ) (n : ℕ) (buffer : List ℕ)
+    → toldBy (outcome cells upper lower run stack n buffer) .kind ≡ refusedKind → RefusedLeaves (asked cells (run .task) upper lower) run stack buffer (outcome cells upper lower run stack n buffer)
 unfolding outcome
-refused-leaves cells upper lower run stack n buffer m e = go (asked cells (run .task) upper lower) e
+refused-leaves cells upper lower run stack n buffer e = go (asked cells (run .task) upper lower) e
   where
-    go : (w : Asked) → kindBy (outcomeOf w run stack n buffer) ≡ refused m → RefusedLeaves w run stack buffer (outcomeOf w run stack n buffer)
+    go : (w : Asked) → toldBy (outcomeOf w run stack n buffer) .kind ≡ refusedKind → RefusedLeaves w run stack buffer (outcomeOf w run stack n buffer)
     go (turned r) e = (refl, (refl, refl, refl))
-    go (runs t q) e = leaves-by t q run stack n buffer m (call-by t q run stack n buffer) e
+    go (runs t q) e = leaves-by t q run stack n buffer (call-by t q run stack n buffer) e
 
 -- And nothing else is left so.
 
@@ -168,11 +186,11 @@ unchanged-one c run stack o v O W b =
 
 before-one : (M : Machine) (S : Store (Frame (M .D))) (l : ℕ) (h d e : Held (S .Cells)) (a b : Answer) → BeforeStep M S l h d a → BeforeStep M S l h e b → (a ≡ b) × (d ≡ e)
 before-one M S l h d e a b A B =
-    let z = stops-one M S l {n = suc (stepsOf a + stepsOf b)} (R.at-refusal (A .refusal) (A .steps-made) (omega arith) (A .refused-there))
+    let z = stops-one M S l {n = suc (told a .steps + told b .steps)} (R.at-refusal (A .refusal) (A .steps-made) (omega arith) (A .refused-there))
     (R.at-refusal (B .refusal) (B .steps-made) (omega arith) (B .refused-there)) in
-    let k : stepsOf a ≡ stepsOf b = ap (λ (r : R.Told (S .Cells)). r .steps) z in
+    let k : told a .steps ≡ told b .steps = ap (λ (r : R.Told (S .Cells)). r .steps) z in
     let y : R.refused (A .refusal) ≡ R.refused (B .refusal) = ap (λ (r : R.Told (S .Cells)). r .reply) z in
-    let c : A .refusal ≡ B .refusal = cc in (A .told ∙ ap₂ Refused k c ∙ sym (B .told), ap (λ (r : R.Told (S .Cells)). r .after) z)
+    let c : A .refusal ≡ B .refusal = cc in (A .is-refused ∙ ap₂ Refused k c ∙ sym (B .is-refused), ap (λ (r : R.Told (S .Cells)). r .after) z)
 
 pub refused-leaves-one : (w : Asked) (run : Run) (stack buffer : List ℕ) (o v : Outcome) → RefusedLeaves w run stack buffer o → RefusedLeaves w run stack buffer v → o ≡ v
 refused-leaves-one (turned c) run stack buffer o v O W = unchanged-one c run stack o v (O .1) (W .1) (O .0 ∙ sym (W .0))
@@ -183,14 +201,13 @@ refused-leaves-one (runs t q) run stack buffer o v O W =
 
 -- 23 is given only where some reading is longer than the buffer
 pub never-full : (t : Table) (q : Query) (run : Run) (stack : List ℕ) (n : ℕ) (buffer : List ℕ) {o : Outcome} → CallBy t q run stack n buffer o
-    → ((p : Path) → Allowed (machine t q) p → accepts (machine t q) p ≡ true → length (output (machine t q) p) ≤ length buffer) → kindBy o ≡ refused 23 → ⊥
-never-full t q run stack n buffer (no-place f) B e = let z : _≡_ {A = ℕ} 21 23 = cc in omega arith
-never-full t q run stack n buffer (goes-on I (R.at-end s k z)) B e = let y : _≡_ {A = ℕ} 0 1 = cc in omega arith
-never-full t q run stack n buffer (goes-on I (R.at-reading w s k z)) B e = let y : _≡_ {A = ℕ} 0 1 = cc in omega arith
-never-full t q run stack n buffer (goes-on I (R.at-allowance s z)) B e = let y : _≡_ {A = ℕ} 0 1 = cc in omega arith
+    → ((p : Path) → Allowed (machine t q) p → accepts (machine t q) p ≡ true → length (output (machine t q) p) ≤ length buffer) → toldBy o .number ≡ 23 → ⊥
+never-full t q run stack n buffer (no-place f) B e = omega arith
+never-full t q run stack n buffer (goes-on I (R.at-end s k z)) B e = omega arith
+never-full t q run stack n buffer (goes-on I (R.at-reading w s k z)) B e = omega arith
+never-full t q run stack n buffer (goes-on I (R.at-allowance s z)) B e = omega arith
 never-full t q run stack n buffer (goes-on I (R.at-refusal {d = d} c s k z)) B e =
-    let m : numberOf c ≡ 23 = cc in
-    ⊎-elim (λ x. let y : _≡_ {A = ℕ} 22 23 = ap numberOf (sym x) ∙ m in omega arith) (λ x. let W = subst (GoodStep (machine t q) store store-laws (roomIn stack) (length buffer)) z (step-good (machine t q) store store-laws (roomIn stack) (length buffer) d G) x in omega (arith, W .3, B (W .0) (W .1) (W .2)))
+    ⊎-elim (λ x. let y : _≡_ {A = ℕ} 22 23 = ap numberOf (sym x) ∙ e in omega arith) (λ x. let W = subst (GoodStep (machine t q) store store-laws (roomIn stack) (length buffer)) z (step-good (machine t q) store store-laws (roomIn stack) (length buffer) d G) x in omega (arith, W .3, B (W .0) (W .1) (W .2)))
     (step-full (machine t q) store (length buffer) d c z)
   where
     G : Good (machine t q) store (roomIn stack) d
@@ -215,32 +232,33 @@ unfolding outcome
 same-outcome c d e upper lower run stack n buffer = ap (λ (w : Asked). outcomeOf w run stack n buffer) (same-asked c d e (run .task) upper lower)
 
 -- only Found writes output, from the front, and leaves the rest
-pub buffer-left : (cells upper lower : List ℕ) (run : Run) (stack : List ℕ) (n : ℕ) (buffer : List ℕ) → ((m : ℕ) → kindBy (outcome cells upper lower run stack n buffer) ≡ found m → ⊥)
+pub buffer-left : (cells upper lower : List ℕ) (run : Run) (stack : List ℕ) (n : ℕ) (buffer : List ℕ) → (toldBy (outcome cells upper lower run stack n buffer) .kind ≡ foundKind → ⊥)
     → outcome cells upper lower run stack n buffer .output ≡ buffer
 unfolding outcome
 buffer-left cells upper lower run stack n buffer h = go (asked cells (run .task) upper lower) h
   where
-    reply : (a : Reply) (k : ℕ) → ((m : ℕ) → kindOf (answerAs a k) ≡ found m → ⊥) → outputAs a buffer ≡ buffer
-    reply (R.found o) k f = absurd (f (length o) refl)
+    reply : (a : Reply) (k : ℕ) → (told (answerAs a k) .kind ≡ foundKind → ⊥) → outputAs a buffer ≡ buffer
+    reply (R.found o) k f = absurd (f refl)
     reply R.paused k f = refl
     reply R.ended k f = refl
     reply (R.refused c) k f = refl
 
-    go : (w : Asked) → ((m : ℕ) → kindBy (outcomeOf w run stack n buffer) ≡ found m → ⊥) → outcomeOf w run stack n buffer .output ≡ buffer
+    go : (w : Asked) → (toldBy (outcomeOf w run stack n buffer) .kind ≡ foundKind → ⊥) → outcomeOf w run stack n buffer .output ≡ buffer
     go (turned c) f = refl
     go (runs t q) f = let T = call (machine t q) store n (length buffer) (heldOf run stack) in reply (T .reply) (T .steps) f
 
-pub found-left : (cells upper lower : List ℕ) (run : Run) (stack : List ℕ) (n : ℕ) (buffer : List ℕ) (m : ℕ) → kindBy (outcome cells upper lower run stack n buffer) ≡ found m
-    → drop m (outcome cells upper lower run stack n buffer .output) ≡ drop m buffer
+pub found-left : (cells upper lower : List ℕ) (run : Run) (stack : List ℕ) (n : ℕ) (buffer : List ℕ) → toldBy (outcome cells upper lower run stack n buffer) .kind ≡ foundKind
+    → drop (toldBy (outcome cells upper lower run stack n buffer) .length) (outcome cells upper lower run stack n buffer .output) ≡ drop (toldBy (outcome cells upper lower run stack n buffer) .length) buffer
 unfolding outcome
-found-left cells upper lower run stack n buffer m h = go (asked cells (run .task) upper lower) h
+found-left cells upper lower run stack n buffer h = go (asked cells (run .task) upper lower) h
   where
-    reply : (a : Reply) (k : ℕ) → kindOf (answerAs a k) ≡ found m → drop m (outputAs a buffer) ≡ drop m buffer
-    reply (R.found o) k e = let q : length o ≡ m = cc in ap (λ (j : ℕ). drop j (o ++ drop (length o) buffer)) (sym q) ∙ drop-append-seam o (drop (length o) buffer) ∙ ap (λ (j : ℕ). drop j buffer) q
-    reply R.paused k e = cc
-    reply R.ended k e = cc
-    reply (R.refused c) k e = cc
+    reply : (a : Reply) (k : ℕ) → told (answerAs a k) .kind ≡ foundKind → drop (told (answerAs a k) .length) (outputAs a buffer) ≡ drop (told (answerAs a k) .length) buffer
+    reply (R.found o) k e = drop-append-seam o (drop (length o) buffer)
+    reply R.paused k e = absurd (omega arith)
+    reply R.ended k e = absurd (omega arith)
+    reply (R.refused c) k e = absurd (omega arith)
 
-    go : (w : Asked) → kindBy (outcomeOf w run stack n buffer) ≡ found m → drop m (outcomeOf w run stack n buffer .output) ≡ drop m buffer
-    go (turned c) e = cc
+    go : (w : Asked) → toldBy (outcomeOf w run stack n buffer) .kind ≡ foundKind
+        → drop (toldBy (outcomeOf w run stack n buffer) .length) (outcomeOf w run stack n buffer .output) ≡ drop (toldBy (outcomeOf w run stack n buffer) .length) buffer
+    go (turned c) e = absurd (omega arith)
     go (runs t q) e = let T = call (machine t q) store n (length buffer) (heldOf run stack) in reply (T .reply) (T .steps) e

@@ -13,10 +13,10 @@ use Rattle.machine.specs.Query.{Query, synthesis}
 use Rattle.machine.specs.Frames.{placeHolds}
 use Rattle.machine.specs.Step.{move, step}
 use Rattle.machine.specs.Call.{advance, call}
-use Rattle.machine.specs.Answer.{found, refused}
+use Rattle.machine.specs.Answer.{foundKind}
 use Rattle.machine.specs.Asked.{runs}
 use Rattle.machine.specs.Start.{firstRun}
-use Rattle.machine.specs.Reading.{Outcome, kindBy, outcomeOf, RefusedLeaves}
+use Rattle.machine.specs.Reading.{Outcome, toldBy, outcomeOf, RefusedLeaves}
 use Rattle.machine.specs.Demand.{Lent, CallTells}
 use Rattle.machine.specs.Cases.{tableK, big, lentFor}
 use Rattle.machine.proofs.Reading.{by-call}
@@ -32,14 +32,14 @@ queryK = record { task = synthesis; upperWord = 1 ∷ 2 ∷ []; lowerWord = [] }
 abbrev pub firstK : Lent
 firstK = lentFor (cellsOf (tableK [])) big []
 
-first-finds : kindBy (outcomeOf (runs (tableK []) queryK) (firstRun 2) (firstK .stack) (firstK .allowance) (firstK .buffer)) ≡ found 2
+first-finds : toldBy (outcomeOf (runs (tableK []) queryK) (firstRun 2) (firstK .stack) (firstK .allowance) (firstK .buffer)) .kind ≡ foundKind
 unfolding call placeHolds advance step move
 first-finds = refl
 
 pub refuses-all : (n : ℕ) → CallTells (tableK []) queryK n (firstRun 2) firstK (refusesAll (firstRun 2) firstK) → ⊥
 refuses-all n T =
-    let z : refused 23 ≡ found 2 = ap kindBy (by-call (tableK []) queryK (firstRun 2) (firstK .stack) (firstK .allowance) (firstK .buffer) (T .by-steps)) ∙ first-finds in
-    let y : _≡_ {A = ℕ} 0 1 = cc in omega arith
+    let z : _≡_ {A = ℕ} 4 1 = ap (λ (o : Outcome). toldBy o .kind) (by-call (tableK []) queryK (firstRun 2) (firstK .stack) (firstK .allowance) (firstK .buffer) (T .by-steps)) ∙ first-finds in
+    omega arith
 
 -- the same outcome with the task of its run cleared
 abbrev pub taskCleared : Outcome → Outcome

@@ -4,7 +4,6 @@ use native.Mathlib.Omega.{arith}
 use mathlib.Core.Path.{_≡_, refl, sym, ap, subst, _∙_}
 use mathlib.Core.Logic.{_↔_, ⊎-elim}
 use mathlib.Core.Bool.{Bool, true, false, cond}
-use mathlib.Core.Option.{some}
 use mathlib.Core.List.{List, [], _∷_, List·Memᴰ·cases-cons, List·Memᴰ·not-nil}
 use lib.ListN.{length, take, replicate, length-append, length-replicate}
 use lib.Seq.{take-append-seam}
@@ -19,12 +18,24 @@ use Rattle.machine.specs.declared.StartAnswer.the-variants.{Ready, Refus
 use Rattle.machine.specs.declared.Started.{Started}
 use Rattle.machine.specs.Query.{Task, Query}
 use Rattle.machine.specs.Idle.{IdleWalk, Through, CycleStates, hasIdleCycle}
-use Rattle.machine.specs.Answer.{startNumber}
 use Rattle.machine.specs.Asked.{Asked, turned, runs, asked}
-use Rattle.machine.specs.Start.{firstRun, startedWith, startedAs, started, TellsCycle, StartIs}
+use Rattle.machine.specs.Start.{firstRun, startedWith, startedAs, started, TellsCycle, startToldBy, StartedIs, StartIs}
+use Rattle.machine.proofs.Told.{start-told-one}
 use Rattle.machine.proofs.Pigeon.{AllBelow, pigeon}
 use Rattle.machine.proofs.Idle.{cycle-there, cycle-walk, none-found}
 use Rattle.machine.proofs.Asked.{asked-facts, TurnedBy, turned-by, same-asked}
+
+-- a result that tells what another tells is the same
+same-start : {x s : Started} → StartedIs x s → s ≡ x
+same-start {x} {s} E =
+    λ i. record { answer = start-told-one (s .answer) (x .answer) (s .length) (x .length) (E .0) i; run = E .1 i; cycle = E .2 i; length = E .3 i }
+
+pub start-is : {cells : List ℕ} {task : ℕ} {upper lower : List ℕ} {s : Started} (S : StartIs cells task upper lower s) → s ≡ started cells task upper lower (S .cycle)
+start-is S = same-start (S .is)
+
+-- and the other way
+pub is-started : {x s : Started} → s ≡ x → StartedIs x s
+is-started e = (ap startToldBy e, ap (λ (s : Started). s .run) e, ap (λ (s : Started). s .cycle) e, ap (λ (s : Started). s .length) e)
 
 ready-refused : (r : _) → Refused r ≡ Ready → ⊥
 ready-refused r e = let z : _≡_ {A = ℕ} 0 1 = cc in omega arith
@@ -51,14 +62,14 @@ module _ (cells : List ℕ) (task : ℕ) (upper lower : List ℕ) where
   pub ready-facts : (s : Started) → StartIs cells task upper lower s → s .answer ≡ Ready → ReadyFacts (asked cells task upper lower) task s
   unfolding started
   ready-facts s S e =
-      subst (λ (z : Started). ReadyFacts (asked cells task upper lower) task z) (sym (S .is)) (ready-as (asked cells task upper lower) task (S .cycle) (ap (λ (z : Started). z .answer) (sym (S .is)) ∙ e))
+      subst (λ (z : Started). ReadyFacts (asked cells task upper lower) task z) (sym (start-is S)) (ready-as (asked cells task upper lower) task (S .cycle) (ap (λ (z : Started). z .answer) (sym (start-is S)) ∙ e))
 
   -- a start is ready where nothing is refused and there is no idle cycle
   pub ready-where : (s : Started) → StartIs cells task upper lower s → (t : Table) (q : Query) → asked cells task upper lower ≡ runs t q → hasIdleCycle t (q .task) ≡ false
       → s .answer ≡ Ready
   unfolding started
   ready-where s S t q a h =
-      ap (λ (z : Started). z .answer) (S .is) ∙ ap (λ (w : Asked). startedAs w task (S .cycle) .answer) a
+      ap (λ (z : Started). z .answer) (start-is S) ∙ ap (λ (w : Asked). startedAs w task (S .cycle) .answer) a
       ∙ ap (λ (b : Bool). cond b (startedWith (Refused (Input IdleCycle)) (firstRun 0) (S .cycle)) (startedWith Ready (firstRun task) []) .answer) h
 
   -- what a start ensures can be had
@@ -74,7 +85,7 @@ module _ (cells : List ℕ) (task : ℕ) (upper lower : List ℕ) where
       cycle-for (runs t q) a = by-test t q a (hasIdleCycle t (q .task)) refl
 
       go : (w : Asked) → asked cells task upper lower ≡ w → (s : Started) × StartIs cells task upper lower s
-      go w a = let C = cycle-for w a in (started cells task upper lower (C .0), record { cycle = C .0; is = refl; tells = C .1 })
+      go w a = let C = cycle-for w a in (started cells task upper lower (C .0), record { cycle = C .0; is = (refl, refl, refl, refl); tells = C .1 })
 
 -- a cycle's states are states, at most as many as there are
 module _ (t : Table) (k : Task) (U : Ruled t) where
@@ -92,7 +103,7 @@ module _ (t : Table) (k : Task) (U : Ruled t) where
 module _ (cells : List ℕ) (task : ℕ) (upper lower : List ℕ) (t : Table) (q : Query) (U : Ruled t) (a : asked cells task upper lower ≡ runs t q) (s : Started) (S : StartIs cells task upper lower s) where
   start-as : s ≡ startedAs (runs t q) task (S .cycle)
   unfolding started
-  start-as = S .is ∙ ap (λ (w : Asked). startedAs w task (S .cycle)) a
+  start-as = start-is S ∙ ap (λ (w : Asked). startedAs w task (S .cycle)) a
 
   tells : hasIdleCycle t (q .task) ≡ true → CycleStates t (q .task) (S .cycle)
   tells = subst (λ (w : Asked). TellsCycle w (S .cycle)) a (S .tells)
@@ -106,17 +117,17 @@ module _ (cells : List ℕ) (task : ℕ) (upper lower : List ℕ) (t : Table) (q
       go false e = n e
 
   -- 12 exactly where there is an idle cycle
-  pub twelve-where : (startNumber (s .answer) ≡ some 12) ↔ ((x : ℕ) × IdleWalk t (q .task) x x)
+  pub twelve-where : (startToldBy s .number ≡ 12) ↔ ((x : ℕ) × IdleWalk t (q .task) x x)
   twelve-where =
-      by-test (λ z. (startNumber (z .answer) ≡ some 12) ↔ ((x : ℕ) × IdleWalk t (q .task) x x)) (λ h. (λ e. cycle-walk t (q .task) (S .cycle) (tells h), λ w. refl))
-      (λ h. (λ e. absurd (let z : _≡_ {A = ℕ} 0 1 = cc in omega arith), λ w. absurd (none-found t (q .task) U h (w .0) (w .1))))
+      by-test (λ z. (startToldBy z .number ≡ 12) ↔ ((x : ℕ) × IdleWalk t (q .task) x x)) (λ h. (λ e. cycle-walk t (q .task) (S .cycle) (tells h), λ w. refl))
+      (λ h. (λ e. absurd (omega arith), λ w. absurd (none-found t (q .task) U h (w .0) (w .1))))
 
   -- the states told with it
-  pub twelve-tells : startNumber (s .answer) ≡ some 12 → CycleStates t (q .task) (take (s .length) (s .cycle))
+  pub twelve-tells : startToldBy s .number ≡ 12 → CycleStates t (q .task) (take (s .length) (s .cycle))
   twelve-tells =
-      by-test (λ z. startNumber (z .answer) ≡ some 12 → CycleStates t (q .task) (take (z .length) (z .cycle)))
+      by-test (λ z. startToldBy z .number ≡ 12 → CycleStates t (q .task) (take (z .length) (z .cycle)))
       (λ h e. subst (λ (l : List ℕ). CycleStates t (q .task) l) (sym (take-append-seam (S .cycle) (replicate (256 - length (S .cycle)) 0))) (tells h))
-      (λ h e. absurd (let z : _≡_ {A = ℕ} 0 1 = cc in omega arith))
+      (λ h e. absurd (omega arith))
 
   -- the array has 256 cells
   pub cells-where : length (s .cycle) ≡ 256
@@ -129,22 +140,21 @@ module _ (cells : List ℕ) (task : ℕ) (upper lower : List ℕ) (t : Table) (q
 module _ (cells : List ℕ) (task : ℕ) (upper lower : List ℕ) (s : Started) (S : StartIs cells task upper lower s) where
   turned-as : (r : Refusal) → asked cells task upper lower ≡ turned r → s ≡ startedWith (Refused r) (firstRun 0) []
   unfolding started
-  turned-as r a = S .is ∙ ap (λ (w : Asked). startedAs w task (S .cycle)) a
+  turned-as r a = start-is S ∙ ap (λ (w : Asked). startedAs w task (S .cycle)) a
 
   table-ruled : (t : Table) (q : Query) → asked cells task upper lower ≡ runs t q → Ruled t
   table-ruled t q a = ruled t (asked-facts cells task upper lower t q a .keeps-rules)
 
-  pub twelve : (startNumber (s .answer) ≡ some 12) ↔ ((t : Table) × (q : Query) × (asked cells task upper lower ≡ runs t q) × ((x : ℕ) × IdleWalk t (q .task) x x))
+  pub twelve : (startToldBy s .number ≡ 12) ↔ ((t : Table) × (q : Query) × (asked cells task upper lower ≡ runs t q) × ((x : ℕ) × IdleWalk t (q .task) x x))
   twelve = (
     to (asked cells task upper lower) refl (turned-by cells task upper lower),
     λ w. twelve-where cells task upper lower (w .0) (w .1) (table-ruled (w .0) (w .1) (w .2)) (w .2) s S .1 (w .3),
   )
     where
-      to : (z : Asked) → asked cells task upper lower ≡ z → TurnedBy z → startNumber (s .answer) ≡ some 12
+      to : (z : Asked) → asked cells task upper lower ≡ z → TurnedBy z → startToldBy s .number ≡ 12
           → (t : Table) × (q : Query) × (asked cells task upper lower ≡ runs t q) × ((x : ℕ) × IdleWalk t (q .task) x x)
       to (turned r) a N e =
-          let y : some (numberOf r) ≡ some 12 = ap (λ (z : Started). startNumber (z .answer)) (sym (turned-as r a)) ∙ e in
-          let z : numberOf r ≡ 12 = cc in
+          let z : numberOf r ≡ 12 = ap (λ (z : Started). startToldBy z .number) (sym (turned-as r a)) ∙ e in
           absurd (⊎-elim (λ x. omega arith) (⊎-elim (λ x. omega arith) (λ x. omega arith)) N)
       to (runs t q) a N e = (t, q, a, twelve-where cells task upper lower t q (table-ruled t q a) a s S .0 e)
 

@@ -1,42 +1,45 @@
--- What each case of an answer tells, with document 01's numbers.
+-- Document 01: "Where an answer is an enum, a definition sets out this paper's number and values for each of its cases." The answers of the
+-- call for a reading and of the start.
 use Prim.Native.Nat.{ℕ}
+use mathlib.Core.Bool.{cond}
 use mathlib.Core.List.{List, [], _∷_}
-use mathlib.Core.Option.{Option, none, some}
+use lib.Dec.{eqb}
 use lib.ListN.{take}
-use Rattle.refusal.specs.Refusal.{numberOf}
+use Rattle.refusal.specs.Told.{Told, refused, answered}
 use Rattle.machine.specs.declared.Answer.{Answer}
 use Rattle.machine.specs.declared.Answer.the-variants.{Found, Paused, Ended, Refused}
 use Rattle.machine.specs.declared.StartAnswer.{StartAnswer}
-use Rattle.machine.specs.declared.StartAnswer.the-variants.{Ready}
+use Rattle.machine.specs.declared.StartAnswer.the-variants as S
 
--- Found with the output's length, Paused, Ended, or Refused with the refusal's number
-pub data Kind : Type 0 where
-  found : ℕ → Kind
-  paused ended : Kind
-  refused : ℕ → Kind
+-- the kinds of answers, by their numbers
+abbrev pub doneKind : ℕ
+doneKind = 0
 
--- "is Found (.., its length told), Paused, Ended, or Refused"
-abbrev pub kindOf : Answer → Kind
-kindOf (Found steps length) = found length
-kindOf (Paused steps) = paused
-kindOf (Ended steps) = ended
-kindOf (Refused steps refusal) = refused (numberOf refusal)
+abbrev pub foundKind : ℕ
+foundKind = 1
 
--- "Its answer carries the number of steps made in this call"
-abbrev pub stepsOf : Answer → ℕ
-stepsOf (Found steps length) = steps
-stepsOf (Paused steps) = steps
-stepsOf (Ended steps) = steps
-stepsOf (Refused steps refusal) = steps
+abbrev pub pausedKind : ℕ
+pausedKind = 2
+
+abbrev pub endedKind : ℕ
+endedKind = 3
+
+abbrev pub refusedKind : ℕ
+refusedKind = 4
+
+-- the call for a reading: "Its answer carries the number of steps made in this call, and is Found (.., its length told), Paused, Ended, or
+-- Refused"
+abbrev pub told : Answer → Told
+told (Found steps length) = answered foundKind steps length
+told (Paused steps) = answered pausedKind steps 0
+told (Ended steps) = answered endedKind steps 0
+told (Refused steps refusal) = refused refusal steps 0
 
 -- the output that an answer tells of, as the call left it in the buffer
-abbrev pub outputTold : Kind → List ℕ → List (List ℕ)
-outputTold (found n) buffer = take n buffer ∷ []
-outputTold paused buffer = []
-outputTold ended buffer = []
-outputTold (refused n) buffer = []
+abbrev pub outputTold : Told → List ℕ → List (List ℕ)
+outputTold d buffer = cond (eqb (d .kind) foundKind) (take (d .length) buffer ∷ []) []
 
--- the number of a start's refusal
-abbrev pub startNumber : StartAnswer → Option ℕ
-startNumber Ready = none
-startNumber (Rattle.machine.specs.declared.StartAnswer.the-variants.Refused refusal) = some (numberOf refusal)
+-- the start: "A refusal carries its number, 12 its cycle too". With a refusal the length is that of the cycle, 0 without 12.
+abbrev pub startTold : StartAnswer → ℕ → Told
+startTold S.Ready length = answered doneKind 0 0
+startTold (S.Refused refusal) length = refused refusal 0 length

@@ -4,7 +4,6 @@ use Prim.Native.Nat.{ℕ, _+_, _*_, _≤_, _<_}
 use Prim.Native.Char.{code}
 use Prim.Native.String.{String, [] as []ᶜ, _∷_ as _∷ᶜ_}
 use mathlib.Core.Bool.{Bool, true, false, _&&_}
-use mathlib.Core.Option.{Option, none, some}
 use mathlib.Core.List.{List, [], _∷_, _++_}
 use lib.ListN.{replicate, take}
 use lib.Dec.{eqb}
@@ -15,10 +14,10 @@ use Rattle.machine.specs.declared.Started.{Started}
 use Rattle.machine.specs.Query.{sameWord}
 use Rattle.machine.specs.Tour.{treeSize}
 use Rattle.machine.specs.Transducer.{machine}
-use Rattle.machine.specs.Answer.{Kind, found, paused, ended, refused, startNumber}
+use Rattle.machine.specs.Answer.{doneKind, foundKind, pausedKind, endedKind, refusedKind}
 use Rattle.machine.specs.Asked.{Asked, turned, runs, asked}
-use Rattle.machine.specs.Start.{started}
-use Rattle.machine.specs.Reading.{Outcome, kindBy, stepsBy}
+use Rattle.machine.specs.Start.{started, startToldBy}
+use Rattle.machine.specs.Reading.{Outcome, toldBy}
 use Rattle.machine.specs.Demand.{Lent, callOn, runAfter, usedAfter}
 
 -- What a row says.
@@ -53,16 +52,9 @@ pub record Row : Type 0 where
 
 -- What the definitions give.
 
--- an answer with the output as the call left it
-abbrev pub said : Kind → ℕ → List ℕ → Says
-said (found n) steps buffer = finds steps (take n buffer)
-said paused steps buffer = pauses steps
-said ended steps buffer = ends steps
-said (refused n) steps buffer = refuses steps n
-
--- what a call tells
-abbrev pub saidBy : Outcome → Says
-saidBy o = said (kindBy o) (stepsBy o) (o .output)
+-- what a call tells in this paper's numbers, with the output as it left it, as a word
+abbrev pub spelledBy : Outcome → List ℕ
+spelledBy o = toldBy o .kind ∷ toldBy o .number ∷ toldBy o .steps ∷ take (toldBy o .length) (o .output)
 
 -- a stack that holds the used frames, as far as they go in, and 7 in its other cells; a buffer of 9s
 abbrev pub lentFor : List ℕ → Ask → List ℕ → Lent
@@ -80,11 +72,11 @@ AsksAmple w [] = Unit {0}
 AsksAmple w (a ∷ asks) = ((w ≤ a .frames) × (0 < a .allowance) × (w ≤ a .letters + 1)) × AsksAmple w asks
 
 -- what calls tell, one after another, each with the run and the used frames as demand 3 hands them on
-abbrev pub callsGive : List ℕ → List ℕ → List ℕ → Run → List ℕ → List Ask → List Says
+abbrev pub callsGive : List ℕ → List ℕ → List ℕ → Run → List ℕ → List Ask → List (List ℕ)
 callsGive cells upper lower r used [] = []
 callsGive cells upper lower r used (a ∷ asks) =
     let x = lentFor cells a used in
-    saidBy (callOn upper lower r x) ∷ callsGive cells upper lower (runAfter upper lower r x) (usedAfter upper lower r used x) asks
+    spelledBy (callOn upper lower r x) ∷ callsGive cells upper lower (runAfter upper lower r x) (usedAfter upper lower r used x) asks
 
 -- the size of the search tree
 abbrev pub treeOf : Asked → ℕ
@@ -93,26 +85,19 @@ treeOf (runs t q) = treeSize (machine t q)
 
 -- Whether they agree.
 
--- what is told as a word, to be compared
+-- what a row says, as the same word
 abbrev pub spelled : Says → List ℕ
-spelled (finds n o) = 1 ∷ n ∷ o
-spelled (pauses n) = 2 ∷ n ∷ []
-spelled (ends n) = 3 ∷ n ∷ []
-spelled (refuses n m) = 4 ∷ n ∷ m ∷ []
+spelled (finds n o) = foundKind ∷ 0 ∷ n ∷ o
+spelled (pauses n) = pausedKind ∷ 0 ∷ n ∷ []
+spelled (ends n) = endedKind ∷ 0 ∷ n ∷ []
+spelled (refuses n m) = refusedKind ∷ m ∷ n ∷ []
 
 -- whether the same is told, call by call
-abbrev pub sameSays : List Says → List Says → Bool
+abbrev pub sameSays : List (List ℕ) → List Says → Bool
 sameSays [] [] = true
 sameSays [] (y ∷ ys) = false
 sameSays (x ∷ xs) [] = false
-sameSays (x ∷ xs) (y ∷ ys) = sameWord (spelled x) (spelled y) && sameSays xs ys
-
--- whether the same is told of a start: no refusal, or its number
-abbrev pub sameStart : Option ℕ → Option ℕ → Bool
-sameStart none none = true
-sameStart none (some n) = false
-sameStart (some m) none = false
-sameStart (some m) (some n) = eqb m n
+sameSays (x ∷ xs) (y ∷ ys) = sameWord x (spelled y) && sameSays xs ys
 
 module _ (r : Row) where
   -- its table, loaded
@@ -124,14 +109,14 @@ module _ (r : Row) where
   startOf = started cellsFor (r .task) (r .upper) (r .lower) []
 
   -- what calls after it give
-  abbrev pub callsFrom : Run → List Ask → List Says
+  abbrev pub callsFrom : Run → List Ask → List (List ℕ)
   callsFrom run asks = callsGive cellsFor (r .upper) (r .lower) run [] asks
 
   -- whether all goes as the row says
   abbrev pub courseHolds : Course → Bool
-  courseHolds (refusedWith n) = sameStart (startNumber (startOf .answer)) (some n)
+  courseHolds (refusedWith n) = eqb (startToldBy startOf .kind) refusedKind && eqb (startToldBy startOf .number) n
   courseHolds (goes asks says tree) =
-      sameStart (startNumber (startOf .answer)) none
+      eqb (startToldBy startOf .kind) doneKind
       && (sameSays (callsFrom (startOf .run) asks) says && eqb (treeOf (asked cellsFor (r .task) (r .upper) (r .lower))) tree)
   courseHolds (called starts depth ask says) = sameSays (callsFrom (record { task = r .task; started = starts; depth = depth }) (ask ∷ [])) (says ∷ [])
 

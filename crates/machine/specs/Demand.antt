@@ -5,7 +5,8 @@ use mathlib.Core.Logic.{_↔_, _⊎_}
 use mathlib.Core.Bool.{true, cond}
 use mathlib.Core.List.{List, [], _∷_, _++_}
 use lib.ListN.{length, take}
-use lib.Dec.{leb}
+use lib.Dec.{eqb, leb}
+use Rattle.refusal.specs.Told.{Told}
 use Rattle.table_format.specs.Table.{Table}
 use Rattle.table_format.specs.Loaded.{loaded}
 use Rattle.machine.specs.declared.Run.{Run}
@@ -14,8 +15,8 @@ use Rattle.machine.specs.Tour.{tour, readings, treeSize}
 use Rattle.machine.specs.Machine.{Path, accepts, output, Allowed}
 use Rattle.machine.specs.Transducer.{lettersToRead, machine}
 use Rattle.machine.specs.Stack.{framesIn}
-use Rattle.machine.specs.Answer.{Kind, found, paused, ended, refused, outputTold}
-use Rattle.machine.specs.Reading.{Outcome, kindBy, stepsBy, outcome, CallBy}
+use Rattle.machine.specs.Answer.{endedKind, refusedKind, outputTold}
+use Rattle.machine.specs.Reading.{Outcome, toldBy, outcome, CallBy}
 
 -- what a caller lends to one call: the cells of the table, any stack, any allowance and any output buffer
 pub record Lent : Type 0 where
@@ -35,14 +36,14 @@ module _ (t : Table) (q : Query) where
     -- leaves them
     pub by-steps : CallBy t q r (x .stack) (x .allowance) (x .buffer) o
     -- Ended exactly when the steps told add up to the tree's size
-    pub ended-is : (kindBy o ≡ ended) ↔ (n + stepsBy o ≡ treeSize (machine t q))
+    pub ended-is : (toldBy o .kind ≡ endedKind) ↔ (n + toldBy o .steps ≡ treeSize (machine t q))
     -- "A shorter stack gives 21 whatever it holds", and nothing else does; no refusal but 21, 22 and 23
-    pub short-is : (kindBy o ≡ refused 21) ↔ (framesIn (x .stack) < r .depth)
-    pub refusals : (m : ℕ) → kindBy o ≡ refused m → (m ≡ 21) ⊎ ((m ≡ 22) ⊎ (m ≡ 23))
+    pub short-is : (toldBy o .number ≡ 21) ↔ (framesIn (x .stack) < r .depth)
+    pub refusals : toldBy o .kind ≡ refusedKind → (toldBy o .number ≡ 21) ⊎ ((toldBy o .number ≡ 22) ⊎ (toldBy o .number ≡ 23))
     -- "Never too short": (letters to read + 1) × states frames
-    pub never-short : (lettersToRead q + 1) * t .states ≤ framesIn (x .stack) → (kindBy o ≡ refused 21 → ⊥) × (kindBy o ≡ refused 22 → ⊥)
+    pub never-short : (lettersToRead q + 1) * t .states ≤ framesIn (x .stack) → (toldBy o .number ≡ 21 → ⊥) × (toldBy o .number ≡ 22 → ⊥)
     -- and 23 only where some reading is longer than the buffer
-    pub never-full : ((p : Path) → Allowed (machine t q) p → accepts (machine t q) p ≡ true → length (output (machine t q) p) ≤ length (x .buffer)) → kindBy o ≡ refused 23 → ⊥
+    pub never-full : ((p : Path) → Allowed (machine t q) p → accepts (machine t q) p ≡ true → length (output (machine t q) p) ≤ length (x .buffer)) → toldBy o .number ≡ 23 → ⊥
 
   -- a call with room enough: as many frames as are never too short, a step allowed, and a buffer that no reading is longer than
   pub record Ample (x : Lent) : Type 0 where
@@ -57,11 +58,8 @@ module _ (t : Table) (q : Query) where
     other : {n : ℕ} {x : Lent} {xs : List Lent} → AmpleCalls n xs → AmpleCalls n (x ∷ xs)
 
 -- 0 for Ended, 1 for any other
-abbrev pub oneUnlessEnded : Kind → ℕ
-oneUnlessEnded (found n) = 1
-oneUnlessEnded paused = 1
-oneUnlessEnded ended = 0
-oneUnlessEnded (refused n) = 1
+abbrev pub oneUnlessEnded : Told → ℕ
+oneUnlessEnded d = cond (eqb (d .kind) endedKind) 0 1
 
 -- "Every call gets the start's .. words."
 module _ (upper lower : List ℕ) where
@@ -71,7 +69,7 @@ module _ (upper lower : List ℕ) where
 
   -- the steps that it tells
   abbrev pub stepsOn : Run → Lent → ℕ
-  stepsOn r x = stepsBy (callOn r x)
+  stepsOn r x = toldBy (callOn r x) .steps
 
   -- the run as it leaves it
   abbrev pub runAfter : Run → Lent → Run
@@ -94,7 +92,7 @@ module _ (upper lower : List ℕ) where
   -- "The readings received are the outputs of the calls that answered Found, each as its call left it, in the order of the calls."
   abbrev pub received : Run → List Lent → List (List ℕ)
   received r [] = []
-  received r (x ∷ xs) = outputTold (kindBy (callOn r x)) (callOn r x .output) ++ received (runAfter r x) xs
+  received r (x ∷ xs) = outputTold (toldBy (callOn r x)) (callOn r x .output) ++ received (runAfter r x) xs
 
   -- "The steps told are the numbers in the answers, refusals among them."
   abbrev pub stepsTold : Run → List Lent → ℕ
@@ -104,12 +102,12 @@ module _ (upper lower : List ℕ) where
   -- how many calls do not answer Ended
   abbrev pub unended : Run → List Lent → ℕ
   unended r [] = 0
-  unended r (x ∷ xs) = oneUnlessEnded (kindBy (callOn r x)) + unended (runAfter r x) xs
+  unended r (x ∷ xs) = oneUnlessEnded (toldBy (callOn r x)) + unended (runAfter r x) xs
 
   -- the last call answers Ended
   abbrev pub LastEnds : Run → List Lent → Type 0
   LastEnds r [] = ⊥
-  LastEnds r (x ∷ []) = kindBy (callOn r x) ≡ ended
+  LastEnds r (x ∷ []) = toldBy (callOn r x) .kind ≡ endedKind
   LastEnds r (x ∷ y ∷ ys) = LastEnds (runAfter r x) (y ∷ ys)
 
   module _ (t : Table) (q : Query) where

@@ -8,6 +8,7 @@ use lib.ListN.{length, drop}
 use Rattle.refusal.specs.declared.Refusal.{Refusal}
 use Rattle.refusal.specs.declared.Refusal.the-variants.{State}
 use Rattle.refusal.specs.declared.StateCause.the-variants.{Place}
+use Rattle.refusal.specs.Told.{Told}
 use Rattle.table_format.specs.Table.{Table}
 use Rattle.machine.specs.declared.Run.{Run}
 use Rattle.machine.specs.declared.Answer.{Answer}
@@ -18,10 +19,10 @@ use Rattle.machine.specs.Machine.{Machine}
 use Rattle.machine.specs.Frames.{Frame, Store, Held}
 use Rattle.machine.specs.Step.{refuses, step}
 use Rattle.machine.specs.Place.{InSearch}
-use Rattle.machine.specs.Call.{Reply, found, paused, ended, refused, Told, still, call, Steps, Stops}
+use Rattle.machine.specs.Call.{Reply, found, paused, ended, refused, Told as Replied, still, call, Steps, Stops}
 use Rattle.machine.specs.Transducer.{machine}
 use Rattle.machine.specs.Stack.{store}
-use Rattle.machine.specs.Answer.{Kind, kindOf, stepsOf}
+use Rattle.machine.specs.Answer.{told}
 use Rattle.machine.specs.Asked.{Asked, turned, runs, asked}
 
 -- what a call gives back, and the lent cells at exit
@@ -30,13 +31,9 @@ pub record Outcome : Type 0 where
   pub stack : List ℕ
   pub output : List ℕ
 
--- the kind of its answer
-abbrev pub kindBy : Outcome → Kind
-kindBy o = kindOf (o .called .answer)
-
--- the steps that it tells
-abbrev pub stepsBy : Outcome → ℕ
-stepsBy o = stepsOf (o .called .answer)
+-- its answer in this paper's numbers
+abbrev pub toldBy : Outcome → Told
+toldBy o = told (o .called .answer)
 
 -- a run with the stack that is lent to it
 abbrev pub heldOf : Run → List ℕ → Held (List ℕ)
@@ -57,7 +54,7 @@ outputAs ended buffer = buffer
 outputAs (refused r) buffer = buffer
 
 -- a call that was begun
-abbrev pub outcomeAs : ℕ → List ℕ → Told (List ℕ) → Outcome
+abbrev pub outcomeAs : ℕ → List ℕ → Replied (List ℕ) → Outcome
 outcomeAs task buffer r =
     record {
       called = record { answer = answerAs (r .reply) (r .steps); run = record { task = task; started = r .after .started; depth = r .after .depth } };
@@ -74,13 +71,21 @@ outcomeOf (runs t q) run stack allowance buffer = outcomeAs (run .task) buffer (
 unfoldable pub outcome : List ℕ → List ℕ → List ℕ → Run → List ℕ → ℕ → List ℕ → Outcome
 outcome cells upper lower run stack allowance buffer = outcomeOf (asked cells (run .task) upper lower) run stack allowance buffer
 
+-- what a call ensures, of an outcome x: the answer in this paper's numbers, the run, and every cell of the stack and of the output at exit.
+-- It tells the answer itself (`outcome-called`).
+pub record OutcomeIs (x : Outcome) (answer : Told) (run : Run) (stack output : List ℕ) : Type 0 where
+  pub answer-is : answer ≡ toldBy x
+  pub run-is : run ≡ x .called .run
+  pub stack-is : stack ≡ x .stack
+  pub output-is : output ≡ x .output
+
 -- The same as a relation, from the step rule and without the loop: a call on a run, where 20, 11 and 10 are not given. It has one solution,
 -- the outcome (`call-is`).
 pub data CallBy (t : Table) (q : Query) (run : Run) (stack : List ℕ) (allowance : ℕ) (buffer : List ℕ) : Outcome → Type 0 where
   -- 21, with all as it was, exactly where "The run or its used frames are not a place in a search"
   no-place : (InSearch t q run stack → ⊥) → CallBy t q run stack allowance buffer (outcomeAs (run .task) buffer (still (refused (State Place)) (heldOf run stack)))
   -- else its steps, as they stop
-  goes-on : {c : Told (List ℕ)} → InSearch t q run stack → Stops (machine t q) store (length buffer) allowance (heldOf run stack) c → CallBy t q run stack allowance buffer (outcomeAs (run .task) buffer c)
+  goes-on : {c : Replied (List ℕ)} → InSearch t q run stack → Stops (machine t q) store (length buffer) allowance (heldOf run stack) c → CallBy t q run stack allowance buffer (outcomeAs (run .task) buffer c)
 
 -- "Steps before a refused one stand"; "every lent buffer holds what it held before the refused step, or before the call where no step was
 -- begun". What a refused call leaves:
@@ -92,8 +97,8 @@ Unchanged c run stack o = (o .called .answer ≡ Refused 0 c) × (o .called .run
 -- the steps told lead to the run and the stack that it leaves, and the step from there is the refused one
 pub record BeforeStep (M : Machine) (S : Store (Frame (M .D))) (l : ℕ) (h d : Held (S .Cells)) (a : Answer) : Type 0 where
   pub refusal : Refusal
-  pub told : a ≡ Refused (stepsOf a) refusal
-  pub steps-made : Steps M S l (stepsOf a) h d
+  pub is-refused : a ≡ Refused (told a .steps) refusal
+  pub steps-made : Steps M S l (told a .steps) h d
   pub refused-there : step M S l d ≡ refuses refusal
 
 -- what a call that is refused leaves, by what was asked: 20, 11 or 10; else 21, where it is no place in a search, or what a step is refused

@@ -7,10 +7,12 @@ use mathlib.Core.List.{List, [], _++_}
 use lib.ListN.{length, replicate}
 use Rattle.refusal.specs.declared.Refusal.the-variants.{Input}
 use Rattle.refusal.specs.declared.InputCause.the-variants.{IdleCycle}
+use Rattle.refusal.specs.Told.{Told}
 use Rattle.machine.specs.declared.Run.{Run}
 use Rattle.machine.specs.declared.StartAnswer.{StartAnswer}
 use Rattle.machine.specs.declared.StartAnswer.the-variants.{Ready, Refused}
 use Rattle.machine.specs.declared.Started.{Started}
+use Rattle.machine.specs.Answer.{startTold}
 use Rattle.machine.specs.Idle.{CycleStates, hasIdleCycle}
 use Rattle.machine.specs.Asked.{Asked, turned, runs, asked}
 
@@ -36,8 +38,17 @@ abbrev pub TellsCycle : Asked → List ℕ → Type 0
 TellsCycle (turned r) cycle = Unit {0}
 TellsCycle (runs t q) cycle = hasIdleCycle t (q .task) ≡ true → CycleStates t (q .task) cycle
 
+-- what a start tells in this paper's numbers
+abbrev pub startToldBy : Started → Told
+startToldBy s = startTold (s .answer) (s .length)
+
+-- a start's result s tells what x tells in this paper's numbers, and gives the same run, the same cells of the cycle and their count. It is
+-- x then (`start-is`).
+abbrev pub StartedIs : Started → Started → Type 0
+StartedIs x s = (startToldBy s ≡ startToldBy x) × (s .run ≡ x .run) × (s .cycle ≡ x .cycle) × (s .length ≡ x .length)
+
 -- what a start ensures: all is told by the definition but for one cycle, which has these properties
 pub record StartIs (cells : List ℕ) (task : ℕ) (upper lower : List ℕ) (s : Started) : Type 0 where
   pub cycle : List ℕ
-  pub is : s ≡ started cells task upper lower cycle
+  pub is : StartedIs (started cells task upper lower cycle) s
   pub tells : TellsCycle (asked cells task upper lower) cycle

@@ -27,6 +27,7 @@ use Rattle.machine.specs.declared.Started.{Started}
 use Rattle.machine.specs.Asked as M
 use Rattle.machine.specs.Idle.{hasIdleCycle}
 use Rattle.machine.specs.Start.{firstRun, startedWith, startedAs, started, StartIs}
+use Rattle.machine.proofs.Start.{start-is}
 use Rattle.session_query.specs.Parts.{tableText, queryText, tableSize}
 use Rattle.session_query.specs.declared.Question.{Question}
 use Rattle.session_query.specs.declared.Asking.the-variants.{Fault, Query}
@@ -73,8 +74,8 @@ start-same : (cells : List ℕ) (task : ℕ) (upper lower : List ℕ) (s : Start
     → (s .answer ≡ started cells task upper lower [] .answer) × (s .run ≡ started cells task upper lower [] .run)
 unfolding started
 start-same cells task upper lower s S = (
-  ap (λ (x : Started). x .answer) (S .is) ∙ answer-same (M.asked cells task upper lower) task (S .cycle),
-  ap (λ (x : Started). x .run) (S .is) ∙ run-same (M.asked cells task upper lower) task (S .cycle),
+  ap (λ (x : Started). x .answer) (start-is S) ∙ answer-same (M.asked cells task upper lower) task (S .cycle),
+  ap (λ (x : Started). x .run) (start-is S) ∙ run-same (M.asked cells task upper lower) task (S .cycle),
 )
 
 -- The query.

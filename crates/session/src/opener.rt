@@ -3,7 +3,6 @@ use crate::Opening;
 use crate::Talk;
 use destination::Answer;
 use destination::copy_cells;
-use engine::starter;
 use machine::Run;
 use machine::StartAnswer;
 use refusal::InputCause;
@@ -50,7 +49,7 @@ fn begin_query(
     let bytes = question.bytes;
     let task = widen::byte_as_count(bytes[1]);
     let asked = &bytes;
-    let started = starter::start(cells, task, words::upper(asked), words::lower(asked));
+    let started = engine_start::start(cells, task, words::upper(asked), words::lower(asked));
     let answer = started.answer;
     if let StartAnswer::Refused(refusal) = answer {
         return Opening::Refused(refusal);

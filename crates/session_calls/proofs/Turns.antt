@@ -9,7 +9,9 @@ use Rattle.machine.specs.declared.Run.{Run}
 use Rattle.machine.specs.declared.Answer.{Answer}
 use Rattle.machine.specs.declared.Answer.the-variants.{Found, Paused, Ended, Refused}
 use Rattle.machine.specs.declared.Called.{Called}
-use Rattle.machine.specs.Reading.{Outcome, outcome}
+use Rattle.machine.specs.Answer.{told}
+use Rattle.machine.specs.Reading.{Outcome, outcome, OutcomeIs}
+use Rattle.machine.proofs.Reading.{outcome-called}
 use Rattle.session_calls.specs.declared.Said.{Said}
 use Rattle.session_calls.specs.declared.Said.the-variants as S
 use Rattle.session_calls.specs.Heard.{Heard, heardBy, heard}
@@ -42,7 +44,10 @@ module _ (cells upper lower : List ℕ) where
     abbrev O : Outcome
     O = outcome cells upper lower run stack 1000 output
 
-    module _ (some-left : 0 < left) (called : Called) (s o : List ℕ) (p : called ≡ O .called) (q : s ≡ O .stack) (r : o ≡ O .output) where
+    module _ (some-left : 0 < left) (called : Called) (s o : List ℕ) (I : OutcomeIs O (told (called .answer)) (called .run) s o) where
+      is-called : called ≡ O .called
+      is-called = outcome-called I
+
       after : Outcome
       after = record { called = called; stack = s; output = o }
 
@@ -54,10 +59,10 @@ module _ (cells upper lower : List ℕ) where
           go zero z = absurd (omega arith)
           go (suc n) z =
               let less : left - 1 ≡ n = omega arith in
-              let same : after ≡ O = λ i. record { called = p i; stack = q i; output = r i } in
-              let told : a ≡ O .called .answer = sym e ∙ ap (λ (x : Called). x .answer) p in
+              let same : after ≡ O = λ i. record { called = is-called i; stack = I .stack-is i; output = I .output-is i } in
+              let is : a ≡ O .called .answer = sym e ∙ ap (λ (x : Called). x .answer) is-called in
               ap (λ (k : ℕ). heardBy a after k (λ r s o. heard cells upper lower k r s o)) less
-              ∙ ap₂ (λ (x : Answer) (y : Outcome). heardBy x y n (λ r s o. heard cells upper lower n r s o)) told same
+              ∙ ap₂ (λ (x : Answer) (y : Outcome). heardBy x y n (λ r s o. heard cells upper lower n r s o)) is same
               ∙ sym (ap (λ (k : ℕ). heard cells upper lower k run stack output) z) ∙ A .is
 
       parts : (x : Heard) → x ≡ h → HeardIs h (x .said) (x .stack) (x .output)

@@ -8,7 +8,7 @@ use Rattle.refusal.specs.declared.InputCause.{InputCause}
 use Rattle.refusal.specs.declared.Refusal.the-variants.{Input}
 use Rattle.destination.specs.declared.Answer.{Answer}
 use Rattle.destination.specs.declared.Answer.the-variants.{Refused}
-use Rattle.destination.specs.Told.{told}
+use Rattle.destination.specs.Told.{storedTold}
 use Rattle.destination.specs.Stored.{storedAnswer, storedCells}
 use Rattle.table_parser.specs.declared.Gathered.{Gathered}
 use Rattle.table_parser.specs.declared.Read.the-variants.{Cells, Fault}
@@ -25,11 +25,11 @@ use Rattle.table_parser.proofs.Filled.{length-filled, take-filled}
 module _ (text destination : List ℕ) where
   -- the answer and the destination as the reader leaves them
   abbrev pub Left : Answer → List ℕ → Type 0
-  Left r d = (told r ≡ told (readAnswer text destination)) × (d ≡ readCells text destination)
+  Left r d = (storedTold r ≡ storedTold (readAnswer text destination)) × (d ≡ readCells text destination)
 
   from-parsed : (p : Parsed) (r : Answer) (d : List ℕ) → parsed text ≡ p → r ≡ readAs p destination → d ≡ readCellsAs p destination → Left r d
   unfolding readAnswer readCells
-  from-parsed p r d e f g = (ap told (f ∙ ap (λ (q : Parsed). readAs q destination) (sym e)), g ∙ ap (λ (q : Parsed). readCellsAs q destination) (sym e))
+  from-parsed p r d e f g = (ap storedTold (f ∙ ap (λ (q : Parsed). readAs q destination) (sym e)), g ∙ ap (λ (q : Parsed). readCellsAs q destination) (sym e))
 
   module _ (g : Gathered) (made : g ≡ gathered (parsed text)) where
     as-parsed : (p : Parsed) → parsed text ≡ p → g ≡ gathered p

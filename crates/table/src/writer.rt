@@ -9,7 +9,7 @@ ghost use Prim.Native.Nat.{_+_, _≤_};
 ghost use lib.ListN.{length, drop};
 ghost use Rattle.table_format.specs.Loaded.{tableIn, loaded};
 ghost use Rattle.table_format.specs.Text.{textOf};
-ghost use Rattle.destination.specs.Told.{told};
+ghost use Rattle.destination.specs.Told.{storedTold};
 ghost use Rattle.table.specs.Calls.{writeAnswer, writeText};
 
 // How many characters the text of a loaded table has.
@@ -41,7 +41,7 @@ fn write_table(cells: &[u16], text: &mut [u8])
 
 // A loaded table's text, from the front of the destination: 20, then 24.
 pub fn write(cells: &[u16], text: &mut [u8]) -> Answer
-    ensures { λ r. ⌜ (told r ≡ told (writeAnswer (now (cells .entry)) (now (text .entry))))
+    ensures { λ r. ⌜ (storedTold r ≡ storedTold (writeAnswer (now (cells .entry)) (now (text .entry))))
         × (now (text .exit) ≡ writeText (now (cells .entry)) (now (text .entry))) ⌝ }
 {
     let checked = table_check::check(cells);

@@ -1,6 +1,6 @@
 -- A walk of the MIR, by hand: every reference is passed on to `next_reading` as it came and given up for good, and the answer is put into
 -- numbers by `answer_numbers`. What `next_reading` says of the last values is what this function says of them.
-use mathlib.Core.Path.{_≡_, refl, ap, _∙_}
+use mathlib.Core.Path.{_≡_, refl, _∙_}
 use Prim.Native.Nat.{ℕ, _<_, _^_}
 use mathlib.Core.List.{[], _∷_, List}
 use lib.ListN.{length}
@@ -36,27 +36,27 @@ use denote.Triple.Call.{calls-at}
 use denote.Triple.Clauses.{Lasts, ensured, lasts}
 use denote.Triple.Table.{cited}
 use denote.Triple.Walked.{says, walkOf, Walks, walked}
-use Rattle.machine.specs.Reading.{Outcome, outcome}
+use Rattle.machine.specs.Answer.{told}
+use Rattle.machine.specs.Reading.{outcome, OutcomeIs}
 use Rattle.machine.specs.declared.Run.{Run}
 use Rattle.machine.specs.declared.Answer.{Answer}
-use Rattle.capi.specs.declared.Reply.{Reply}
-use Rattle.capi.specs.Numbers.{answerNumbers}
-use Rattle.engine.proofs.Told.{told, ends-told}
-use Rattle.capi.proofs.Walking as Walking
-use Rattle.capi.proofs.Walking.{slice, fm, by-hand}
+use Rattle.capi_numbers.specs.declared.Reply.{Reply}
+use Rattle.capi_numbers.specs.Numbers.{replyTold}
+use Rattle.engine_reading.proofs.Walking as Walking
+use Rattle.engine_reading.proofs.Walking.{slice, exits, ends, fm, by-hand}
 use Rattle.machine.proofs.Run as R
 use Rattle.machine.proofs.Answer as S
 use Rattle.machine.proofs.Answer.Laws as S′
-use Rattle.capi.proofs.Reply as F
-use Rattle.capi.proofs.Reply.Laws as F′
-use Rattle.engine.proofs.reading.next_reading as next
-use Rattle.engine.proofs.reading.next_reading.Symbol as next-def
-use Rattle.engine.proofs.reading.next_reading.Symbol.{name as #next}
-use Rattle.engine.proofs.reading.next_reading.Met as next-thm
-use Rattle.capi.proofs.numbers.answer_numbers as nums
-use Rattle.capi.proofs.numbers.answer_numbers.Symbol as nums-def
-use Rattle.capi.proofs.numbers.answer_numbers.Symbol.{name as #nums}
-use Rattle.capi.proofs.numbers.answer_numbers.Met as nums-thm
+use Rattle.capi_numbers.proofs.Reply as F
+use Rattle.capi_numbers.proofs.Reply.Laws as F′
+use Rattle.engine_reading.proofs.next_reading as next
+use Rattle.engine_reading.proofs.next_reading.Symbol as next-def
+use Rattle.engine_reading.proofs.next_reading.Symbol.{name as #next}
+use Rattle.engine_reading.proofs.next_reading.Met as next-thm
+use Rattle.capi_numbers.proofs.answer_numbers as nums
+use Rattle.capi_numbers.proofs.answer_numbers.Symbol as nums-def
+use Rattle.capi_numbers.proofs.answer_numbers.Symbol.{name as #nums}
+use Rattle.capi_numbers.proofs.answer_numbers.Met as nums-thm
 use Rattle.capi.proofs.calls.rd_next.Key.{name as #f}
 use Rattle.capi.proofs.calls.rd_next as f
 use Rattle.capi.proofs.calls.rd_next.Statement as stated
@@ -79,7 +79,7 @@ module _ {M : Type 1} (𝓤 : URA M) (H : Heap 𝓤) (A : Atoms 𝓤) (W : Given
   vals = (slice-vals t, (slice-vals u, (slice-vals l, (vptr (x .ptr .0) (x .ptr .1) ∷ [], (slice-vals s, (vint w32 n ∷ [], (slice-vals o, tt)))))))
 
   abbrev Post : Val → SProp 𝓤
-  Post = walkOf 𝓤 H A f.ended (told f.ended) (f.clauses 𝓤 H A mem run) .post ((κs, qs, bounds, a, vals), tt)
+  Post = walkOf 𝓤 H A f.ended (exits f.ended) (f.clauses 𝓤 H A mem run) .post ((κs, qs, bounds, a, vals), tt)
 
   -- what `next_reading` is called at: all as it came
   abbrev to : Next 𝓤 H A mem run .Ghost
@@ -101,13 +101,9 @@ module _ {M : Type 1} (𝓤 : URA M) (H : Heap 𝓤) (A : Atoms 𝓤) (W : Given
       ‵ (owns (ShrSlice (named 0) (κs .0) u16 ∷ ShrSlice (named 1) (κs .1 .0) u8 ∷ ShrSlice (named 2) (κs .1 .1 .0) u8 ∷ MutRef (named 3) (κs .1 .1 .1 .0) R.the-row
       ∷ MutSlice (named 4) (κs .1 .1 .1 .1 .0) u32 ∷ u32 ∷ MutSlice (named 5) (κs .1 .1 .1 .1 .1 .0) u8 ∷ []) a vals)
 
-  -- the outcome that the definition gives
-  abbrev due : Outcome
-  due = outcome (t .now) (u .now) (l .now) (x .now) (s .now) n (o .now)
-
   -- what `next_reading` ensures
-  abbrev Told : Answer → Run → List ℕ → List ℕ → Type 0
-  Told r z ss os = (r ≡ due .called .answer) × (z ≡ due .called .run) × (ss ≡ due .stack) × (os ≡ due .output)
+  abbrev Done : Answer → Run → List ℕ → List ℕ → Type 0
+  Done r z ss os = OutcomeIs (outcome (t .now) (u .now) (l .now) (x .now) (s .now) n (o .now)) (told r) z ss os
 
   -- the machine values passed
   abbrev passed : List Val
@@ -149,8 +145,8 @@ module _ {M : Type 1} (𝓤 : URA M) (H : Heap 𝓤) (A : Atoms 𝓤) (W : Given
         -- what `next_reading` ensures, at some last values
         split ! $ move ! (1 ∷ []) $
         use1 W (some (λ (ws : Lasts next.ended κs a). ‵ (lasts next.ended κs a ws)
-        ⊛ raw (fact 𝓤 (Told r (ws .1 .1 .1 .0) (ws .1 .1 .1 .1 .0) (ws .1 .1 .1 .1 .1 .1 .0))))) (id⊢ 𝓤 _) $
-        pick ! (λ ws. split ! $ move ! (1 ∷ []) $ heard ! (Told r (ws .1 .1 .1 .0) (ws .1 .1 .1 .1 .0) (ws .1 .1 .1 .1 .1 .1 .0)) (λ e.
+        ⊛ raw (fact 𝓤 (Done r (ws .1 .1 .1 .0) (ws .1 .1 .1 .1 .0) (ws .1 .1 .1 .1 .1 .1 .0))))) (id⊢ 𝓤 _) $
+        pick ! (λ ws. split ! $ move ! (1 ∷ []) $ heard ! (Done r (ws .1 .1 .1 .0) (ws .1 .1 .1 .1 .0) (ws .1 .1 .1 .1 .1 .1 .0)) (λ e.
         move ! (1 ∷ []) $ split ! $ move ! (1 ∷ []) $ peeks ! S.the-row (Is S.the-row) (shows 𝓤 H A S.the-row) r (w ∷ []) (λ is.
         -- [what the answer owns; the tokens; the last values; _13 at 3; …; _0 at 29; …]
         land ! (from ! (stop !)) (init ! 13 refl (EL.lawful S.the-type S′.the-laws 𝓤 H A W tt .typed r _ is .0)) $
@@ -159,8 +155,8 @@ module _ {M : Type 1} (𝓤 : URA M) (H : Heap 𝓤) (A : Atoms 𝓤) (W : Given
         calls-at ! fm (Nums 𝓤 H A mem run) told-in (at r w) (and-then ! (load ! (from ! (stop !)) (look ! 13 refl)) (no-more !)) (λ v.
         use1 W (later (some (λ (z : Reply). (‵ ftrue ⊛ ‵ (F.the-row .own z (v ∷ []))) ⊛ raw (ensured 𝓤 H A nums.ended (nums.clauses 𝓤 H A mem run) tt (r, tt) tt z)))) (id⊢ 𝓤 _) $
         await ! tt $ pick ! (λ z. split ! $ move ! (1 ∷ []) $
-        use1 W (some (λ (ys : Lasts nums.ended tt (r, tt)). ‵ (lasts nums.ended tt (r, tt) ys) ⊛ raw (fact 𝓤 (z ≡ answerNumbers r)))) (id⊢ 𝓤 _) $
-        pick ! (λ ys. split ! $ drop ! $ heard ! (z ≡ answerNumbers r) (λ e′. split ! $ drop ! $
+        use1 W (some (λ (ys : Lasts nums.ended tt (r, tt)). ‵ (lasts nums.ended tt (r, tt) ys) ⊛ raw (fact 𝓤 (replyTold z ≡ told r)))) (id⊢ 𝓤 _) $
+        pick ! (λ ys. split ! $ drop ! $ heard ! (replyTold z ≡ told r) (λ e′. split ! $ drop ! $
         peeks ! F.the-row (Is F.the-row) (shows 𝓤 H A F.the-row) z (v ∷ []) (λ is′.
         -- [what the reply owns; the tokens; the last values; _13 at 3; …; _0 at 29; …]
         land ! (from ! (stop !)) (init ! 29 refl (LL.lawful F.the-type F′.the-laws 𝓤 H A W .typed z _ is′ .0)) $
@@ -172,13 +168,13 @@ module _ {M : Type 1} (𝓤 : URA M) (H : Heap 𝓤) (A : Atoms 𝓤) (W : Given
         move ! (13 ∷ 14 ∷ []) $ free1 ! $ move ! (11 ∷ 12 ∷ []) $ free1 ! $ move ! (9 ∷ 10 ∷ []) $ free1 ! $ move ! (7 ∷ 8 ∷ []) $ free1 ! $
         move ! (5 ∷ 6 ∷ []) $ free1 ! $ move ! (3 ∷ 4 ∷ []) $ free1 ! $ free0 ! $
         -- the exit
-        suffices ! _ (ends-told 𝓤 H A f.ended (f.clauses 𝓤 H A mem run) W ((κs, qs, bounds, a, vals), tt) v z ws) $
-        says ! (e′ ∙ ap answerNumbers (e .0), e .1, e .2, e .3) $ move ! (1 ∷ 2 ∷ 0 ∷ []) $ frame ! $ frame ! $ done !))))))))))))))))))))))))
+        suffices ! _ (ends 𝓤 H A f.ended (f.clauses 𝓤 H A mem run) W ((κs, qs, bounds, a, vals), tt) v z ws) $
+        says ! (record { answer-is = e′ ∙ e .answer-is; run-is = e .run-is; stack-is = e .stack-is; output-is = e .output-is }) $ move ! (1 ∷ 2 ∷ 0 ∷ []) $ frame ! $ frame ! $ done !))))))))))))))))))))))))
 
 module _ {M : Type 1} (𝓤 : URA M) (H : Heap 𝓤) (A : Atoms 𝓤) (W : Given 𝓤 H A) (mem : Memory → SProp 𝓤) (run : Routine → Fun 𝓤) where
   walks : (C : Calls 𝓤 H) (Λ : Loops 𝓤 H) → FmC 𝓤 H (W .laws) C → Triple 𝓤 (C #next) (Next 𝓤 H A mem run) → Triple 𝓤 (C #nums) (Nums 𝓤 H A mem run)
-      → Walks 𝓤 H A f.ended (told f.ended) (WpFn 𝓤 H C Λ code.function) (f.clauses 𝓤 H A mem run)
-  walks C Λ fm known told-in = walked 𝓤 H A f.ended (told f.ended) (f.clauses 𝓤 H A mem run) (WpFn 𝓤 H C Λ code.function)
+      → Walks 𝓤 H A f.ended (exits f.ended) (WpFn 𝓤 H C Λ code.function) (f.clauses 𝓤 H A mem run)
+  walks C Λ fm known told-in = walked 𝓤 H A f.ended (exits f.ended) (f.clauses 𝓤 H A mem run) (WpFn 𝓤 H C Λ code.function)
       (λ κs. (slice-vals, (slice-vals, (slice-vals, (ptr-vals, (slice-vals, (uint-vals w32, (slice-vals, tt))))))))
       (λ κs. (
         shr-slice-tells (named 0) (κs .0) u16,
@@ -199,5 +195,5 @@ unfolding code.routine
 rd-next-spec 𝓤 H 𝓜 𝓖 𝓡 =
     by-hand 𝓤 H 𝓜 𝓖 𝓡 code.env f.ended (f.clauses 𝓤 H (𝓖 .A) (𝓜 .mem) (𝓡 .run)) #f code.function (code.unfolded 𝓤 H 𝓜 𝓡)
     (walks 𝓤 H (𝓖 .A) (givenOf 𝓤 H 𝓜 𝓖) (𝓜 .mem) (𝓡 .run) (Walking.C 𝓤 H 𝓜 𝓖 𝓡 code.env) (Walking.Λ 𝓤 H 𝓜 𝓖 𝓡 code.env) (fm 𝓤 H 𝓜 𝓖 𝓡 code.env)
-    (cited 𝓤 H (Next 𝓤 H (𝓖 .A) (𝓜 .mem) (𝓡 .run)) 𝓜 𝓡 code.env #next next-def.routine code.calls-engine·reading·next-reading (next-thm.met 𝓤 H 𝓜 𝓖 𝓡))
-    (cited 𝓤 H (Nums 𝓤 H (𝓖 .A) (𝓜 .mem) (𝓡 .run)) 𝓜 𝓡 code.env #nums nums-def.routine code.calls-capi·numbers·answer-numbers (nums-thm.met 𝓤 H 𝓜 𝓖 𝓡)))
+    (cited 𝓤 H (Next 𝓤 H (𝓖 .A) (𝓜 .mem) (𝓡 .run)) 𝓜 𝓡 code.env #next next-def.routine code.calls-engine-reading·next-reading (next-thm.met 𝓤 H 𝓜 𝓖 𝓡))
+    (cited 𝓤 H (Nums 𝓤 H (𝓖 .A) (𝓜 .mem) (𝓡 .run)) 𝓜 𝓡 code.env #nums nums-def.routine code.calls-capi-numbers·answer-numbers (nums-thm.met 𝓤 H 𝓜 𝓖 𝓡)))

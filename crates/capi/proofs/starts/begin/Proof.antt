@@ -21,7 +21,7 @@ returns c =
     let r = c .before .start-run in
     let n = c .start-reply in
     told-as (now (args .table)) (args .task) (now (args .upper)) (now (args .lower)) (args .run) (s .result) (s .ensures)
-    (n .result) (n .ensures) (r .result) (r .ensures)
+    (n .result) (r .result) (n .ensures .0, n .ensures .1, r .ensures)
 
 pub begin-spec : {M : Type 1} → statement M
 begin-spec = tie.close (tie.spec start-requires start-run-requires start-reply-requires returns)

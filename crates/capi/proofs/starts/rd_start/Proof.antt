@@ -40,9 +40,8 @@ use denote.Triple.Walked.{says, walkOf, Walks, walked}
 use Rattle.machine.specs.declared.Run.{Run}
 use Rattle.capi.specs.declared.Begun.{Begun}
 use Rattle.capi.specs.Start.{StartTold}
-use Rattle.engine.proofs.Told.{told, ends-told}
-use Rattle.capi.proofs.Walking as Walking
-use Rattle.capi.proofs.Walking.{slice, fm, by-hand}
+use Rattle.engine_reading.proofs.Walking as Walking
+use Rattle.engine_reading.proofs.Walking.{slice, exits, ends, fm, by-hand}
 use Rattle.machine.proofs.Run as R
 use Rattle.machine.proofs.Run.Laws as R′
 use Rattle.capi.proofs.StartReply as S
@@ -72,7 +71,7 @@ module _ {M : Type 1} (𝓤 : URA M) (H : Heap 𝓤) (A : Atoms 𝓤) (W : Given
   vals = (slice-vals t, (vint w32 n ∷ [], (slice-vals u, (slice-vals l, (vptr (x .ptr .0) (x .ptr .1) ∷ [], tt)))))
 
   abbrev Post : Val → SProp 𝓤
-  Post = walkOf 𝓤 H A f.ended (told f.ended) (f.clauses 𝓤 H A mem run) .post ((κs, qs, bounds, a, vals), tt)
+  Post = walkOf 𝓤 H A f.ended (exits f.ended) (f.clauses 𝓤 H A mem run) .post ((κs, qs, bounds, a, vals), tt)
 
   -- what `begin` is called at: the lifetimes and shares but the run's, and the run by value
   abbrev κs′ : Lfts 3
@@ -99,8 +98,8 @@ module _ {M : Type 1} (𝓤 : URA M) (H : Heap 𝓤) (A : Atoms 𝓤) (W : Given
       ‵ (flft (κs .0) (qs .0)) ⊛ ‵ (flft (κs .1 .0) (qs .1 .0)) ⊛ ‵ (flft (κs .1 .1 .0) (qs .1 .1 .0)) ⊛ ‵ (flft (κs .1 .1 .1 .0) (qs .1 .1 .1 .0)) ⊛ ‵ ftrue
 
   -- what `begin` ensures
-  abbrev Told : Begun → Type 0
-  Told r = StartTold (t .now) n (u .now) (l .now) (x .now) (r .reply) (r .run)
+  abbrev Done : Begun → Type 0
+  Done r = StartTold (t .now) n (u .now) (l .now) (x .now) (r .reply) (r .run)
 
   -- the machine values passed
   abbrev passed : List Val
@@ -159,8 +158,8 @@ module _ {M : Type 1} (𝓤 : URA M) (H : Heap 𝓤) (A : Atoms 𝓤) (W : Given
         await ! tt $ pick ! (λ r.
         -- what `begin` ensures
         split ! $ move ! (1 ∷ []) $
-        use1 W (some (λ (ws : Lasts begin.ended κs′ a′). ‵ (lasts begin.ended κs′ a′ ws) ⊛ raw (fact 𝓤 (Told r)))) (id⊢ 𝓤 _) $
-        pick ! (λ ws. split ! $ drop ! $ heard ! (Told r) (λ e.
+        use1 W (some (λ (ws : Lasts begin.ended κs′ a′). ‵ (lasts begin.ended κs′ a′ ws) ⊛ raw (fact 𝓤 (Done r)))) (id⊢ 𝓤 _) $
+        pick ! (λ ws. split ! $ drop ! $ heard ! (Done r) (λ e.
         split ! $ move ! (1 ∷ []) $ peeks ! T.the-row (Is T.the-row) (shows 𝓤 H A T.the-row) r (w ∷ []) (λ is′.
         -- [what the result owns; three tokens; the run's cell at 2; the open borrow; obs; auth; _7 at 6; …; _0 at 20; …]
         land ! (from ! (stop !)) (init ! 8 refl (LL.lawful T.the-type T′.the-laws 𝓤 H A W .typed r _ is′ .0)) $
@@ -178,7 +177,7 @@ module _ {M : Type 1} (𝓤 : URA M) (H : Heap 𝓤) (A : Atoms 𝓤) (W : Given
         move ! (18 ∷ 19 ∷ []) $ free1 ! $ move ! (16 ∷ 17 ∷ []) $ free1 ! $ move ! (14 ∷ 15 ∷ []) $ free1 ! $ move ! (12 ∷ 13 ∷ []) $ free1 ! $
         move ! (10 ∷ 11 ∷ []) $ free1 ! $ move ! (8 ∷ 9 ∷ []) $ free1 ! $ move ! (6 ∷ 7 ∷ []) $ free1 ! $ move ! (4 ∷ 5 ∷ []) $ free1 ! $ free0 ! $
         -- the exit
-        suffices ! _ (ends-told 𝓤 H A f.ended (f.clauses 𝓤 H A mem run) W ((κs, qs, bounds, a, vals), tt) (ans r) (r .reply)
+        suffices ! _ (ends 𝓤 H A f.ended (f.clauses 𝓤 H A mem run) W ((κs, qs, bounds, a, vals), tt) (ans r) (r .reply)
         (tt, (tt, (tt, (tt, (r .run, tt)))))) $ says ! e $
         keep ! (3 ∷ 0 ∷ 2 ∷ []) $ split ! $ move ! (1 ∷ []) $ split ! $ move ! (1 ∷ []) $ split ! $
         -- ['lower; no more; 'upper; 'table; obs; the run's token]
@@ -190,8 +189,8 @@ module _ {M : Type 1} (𝓤 : URA M) (H : Heap 𝓤) (A : Atoms 𝓤) (W : Given
 
 module _ {M : Type 1} (𝓤 : URA M) (H : Heap 𝓤) (A : Atoms 𝓤) (W : Given 𝓤 H A) (mem : Memory → SProp 𝓤) (run : Routine → Fun 𝓤) where
   walks : (C : Calls 𝓤 H) (Λ : Loops 𝓤 H) → FmC 𝓤 H (W .laws) C → Triple 𝓤 (C #begin) (Begin 𝓤 H A mem run)
-      → Walks 𝓤 H A f.ended (told f.ended) (WpFn 𝓤 H C Λ code.function) (f.clauses 𝓤 H A mem run)
-  walks C Λ fm known = walked 𝓤 H A f.ended (told f.ended) (f.clauses 𝓤 H A mem run) (WpFn 𝓤 H C Λ code.function)
+      → Walks 𝓤 H A f.ended (exits f.ended) (WpFn 𝓤 H C Λ code.function) (f.clauses 𝓤 H A mem run)
+  walks C Λ fm known = walked 𝓤 H A f.ended (exits f.ended) (f.clauses 𝓤 H A mem run) (WpFn 𝓤 H C Λ code.function)
       (λ κs. (slice-vals, (uint-vals w32, (slice-vals, (slice-vals, (ptr-vals, tt))))))
       (λ κs. (
         shr-slice-tells (named 0) (κs .0) u16,

@@ -2,8 +2,6 @@
 use mathlib.Core.Path.{sym, ap, _∙_}
 use denote.Ref.{now}
 use borrow.Author.Needs.{needs}
-use Rattle.destination.proofs.Told.{told-one}
-use Rattle.capi.specs.Numbers.{tableNumbers}
 use Rattle.capi.proofs.Sizes.{read-small}
 use Rattle.capi.proofs.tables.rd_table_read.Statement.{statement}
 use Rattle.capi.proofs.tables.rd_table_read.Tie as tie
@@ -14,13 +12,13 @@ read-requires c κs = search needs
 table-numbers-requires : tie.Need-table-numbers-requires
 table-numbers-requires c κs =
     let args = c .before .before .before .before .before .before .args in
-    λ n e. read-small (now (args .text)) (now (args .table)) n (sym (told-one _ _ (c .before .before .read .ensures .0)) ∙ e)
+    λ n e. read-small (now (args .text)) (now (args .table)) n (sym (c .before .before .read .ensures .0) ∙ e)
 
 same-length : tie.Need-same-length
 same-length c = search needs
 
 returns : tie.Need-returns
-returns c = let read = c .before .before .before .read .ensures in (c .table-numbers .ensures ∙ ap tableNumbers (told-one _ _ (read .0)), read .1)
+returns c = let read = c .before .before .before .read .ensures in (c .table-numbers .ensures ∙ read .0, read .1)
 
 pub rd-table-read-spec : {M : Type 1} → statement M
 rd-table-read-spec = tie.close (tie.spec read-requires table-numbers-requires same-length returns)

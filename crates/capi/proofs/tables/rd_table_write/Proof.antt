@@ -2,8 +2,6 @@
 use mathlib.Core.Path.{sym, ap, _∙_}
 use denote.Ref.{now}
 use borrow.Author.Needs.{needs}
-use Rattle.destination.proofs.Told.{told-one}
-use Rattle.capi.specs.Numbers.{tableNumbers}
 use Rattle.capi.proofs.Sizes.{write-small}
 use Rattle.capi.proofs.tables.rd_table_write.Statement.{statement}
 use Rattle.capi.proofs.tables.rd_table_write.Tie as tie
@@ -14,13 +12,13 @@ write-requires c κs = search needs
 table-numbers-requires : tie.Need-table-numbers-requires
 table-numbers-requires c κs =
     let args = c .before .before .before .before .before .before .args in
-    λ n e. write-small (now (args .table)) (now (args .text)) n (sym (told-one _ _ (c .before .before .write .ensures .0)) ∙ e)
+    λ n e. write-small (now (args .table)) (now (args .text)) n (sym (c .before .before .write .ensures .0) ∙ e)
 
 same-length : tie.Need-same-length
 same-length c = search needs
 
 returns : tie.Need-returns
-returns c = let write = c .before .before .before .write .ensures in (c .table-numbers .ensures ∙ ap tableNumbers (told-one _ _ (write .0)), write .1)
+returns c = let write = c .before .before .before .write .ensures in (c .table-numbers .ensures ∙ write .0, write .1)
 
 pub rd-table-write-spec : {M : Type 1} → statement M
 rd-table-write-spec =

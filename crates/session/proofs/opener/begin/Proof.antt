@@ -6,7 +6,7 @@ use lib.ListN.{replicate, length-replicate}
 use lib.Seq.{length-take-le}
 use native.Mathlib.Omega.{arith}
 use denote.Ref.{now}
-use Rattle.destination.proofs.Told.{told-one}
+use Rattle.destination.proofs.Told.{stored-told-one}
 use Rattle.session.specs.Opened.{Opened, opened}
 use Rattle.session.specs.Begun.{begun}
 use Rattle.session.proofs.Begun.{begun-refused, begun-same, opened-long, end-inside, table-refused, count-inside, table-read}
@@ -44,19 +44,19 @@ part-begin-query-end : tie.Need-part-begin-query-end
 part-begin-query-end c = search needs
 
 array-share-prefix-cells : tie.Need-array-share-prefix-cells
-array-share-prefix-cells c = count-inside (now (c .before .before .before .before .before .before .before .before .before .before .before .args .input)) (c .before .before .before .before .before .before .before .before .table-end .result) (c .before .before .before .before .before .before .before .before .table-end .ensures) (c .before .before .before .before .before .before .before .before .before .if1 .left) (replicate 4612 0) (length-replicate {A = ℕ} 4612 0) (c .before .before .answer2 .given .0 .0) (c .before .before .before .before .before .read .last .1 .0) (sym (c .before .before .answer2 .given .1) ∙ told-one _ _ (c .before .before .before .before .before .read .ensures .0)) (c .before .before .before .before .before .read .ensures .1)
+array-share-prefix-cells c = count-inside (now (c .before .before .before .before .before .before .before .before .before .before .before .args .input)) (c .before .before .before .before .before .before .before .before .table-end .result) (c .before .before .before .before .before .before .before .before .table-end .ensures) (c .before .before .before .before .before .before .before .before .before .if1 .left) (replicate 4612 0) (length-replicate {A = ℕ} 4612 0) (c .before .before .answer2 .given .0 .0) (c .before .before .before .before .before .read .last .1 .0) (sym (c .before .before .answer2 .given .1) ∙ stored-told-one _ _ (c .before .before .before .before .before .read .ensures .0)) (c .before .before .before .before .before .read .ensures .1)
 
 slice-aggregate-begin-query : tie.Need-slice-aggregate-begin-query
-slice-aggregate-begin-query c = sym (length-take-le _ _ (count-inside (now (c .before .before .before .before .before .before .before .before .before .before .before .before .args .input)) (c .before .before .before .before .before .before .before .before .before .table-end .result) (c .before .before .before .before .before .before .before .before .before .table-end .ensures) (c .before .before .before .before .before .before .before .before .before .before .if1 .left) (replicate 4612 0) (length-replicate {A = ℕ} 4612 0) (c .before .before .before .answer2 .given .0 .0) (c .before .before .before .before .before .before .read .last .1 .0) (sym (c .before .before .before .answer2 .given .1) ∙ told-one _ _ (c .before .before .before .before .before .before .read .ensures .0)) (c .before .before .before .before .before .before .read .ensures .1)))
+slice-aggregate-begin-query c = sym (length-take-le _ _ (count-inside (now (c .before .before .before .before .before .before .before .before .before .before .before .before .args .input)) (c .before .before .before .before .before .before .before .before .before .table-end .result) (c .before .before .before .before .before .before .before .before .before .table-end .ensures) (c .before .before .before .before .before .before .before .before .before .before .if1 .left) (replicate 4612 0) (length-replicate {A = ℕ} 4612 0) (c .before .before .before .answer2 .given .0 .0) (c .before .before .before .before .before .before .read .last .1 .0) (sym (c .before .before .before .answer2 .given .1) ∙ stored-told-one _ _ (c .before .before .before .before .before .before .read .ensures .0)) (c .before .before .before .before .before .before .read .ensures .1)))
 
 begin-query-requires : tie.Need-begin-query-requires
-begin-query-requires c κs = let n = count-inside (now (c .before .before .before .before .before .before .before .before .before .before .before .before .before .before .args .input)) (c .before .before .before .before .before .before .before .before .before .before .before .table-end .result) (c .before .before .before .before .before .before .before .before .before .before .before .table-end .ensures) (c .before .before .before .before .before .before .before .before .before .before .before .before .if1 .left) (replicate 4612 0) (length-replicate {A = ℕ} 4612 0) (c .before .before .before .before .before .answer2 .given .0 .0) (c .before .before .before .before .before .before .before .before .read .last .1 .0) (sym (c .before .before .before .before .before .answer2 .given .1) ∙ told-one _ _ (c .before .before .before .before .before .before .before .before .read .ensures .0)) (c .before .before .before .before .before .before .before .before .read .ensures .1) in omega (arith, length-take-le (c .before .before .before .before .before .answer2 .given .0 .0) (c .before .before .before .before .before .before .before .before .read .last .1 .0) n, c .before .before .before .before .before .before .before .before .read .kept)
+begin-query-requires c κs = let n = count-inside (now (c .before .before .before .before .before .before .before .before .before .before .before .before .before .before .args .input)) (c .before .before .before .before .before .before .before .before .before .before .before .table-end .result) (c .before .before .before .before .before .before .before .before .before .before .before .table-end .ensures) (c .before .before .before .before .before .before .before .before .before .before .before .before .if1 .left) (replicate 4612 0) (length-replicate {A = ℕ} 4612 0) (c .before .before .before .before .before .answer2 .given .0 .0) (c .before .before .before .before .before .before .before .before .read .last .1 .0) (sym (c .before .before .before .before .before .answer2 .given .1) ∙ stored-told-one _ _ (c .before .before .before .before .before .before .before .before .read .ensures .0)) (c .before .before .before .before .before .before .before .before .read .ensures .1) in omega (arith, length-take-le (c .before .before .before .before .before .answer2 .given .0 .0) (c .before .before .before .before .before .before .before .before .read .last .1 .0) n, c .before .before .before .before .before .before .before .before .read .kept)
 
 returns-2 : tie.Need-returns-2
-returns-2 c = begun-refused (opened (now (c .before .before .before .before .before .before .before .before .before .before .args .input))) (now (c .before .before .before .before .before .before .before .before .before .before .args .table)) (now (c .before .before .before .before .before .before .before .before .before .before .args .query)) _ (table-refused (now (c .before .before .before .before .before .before .before .before .before .before .args .input)) (c .before .before .before .before .before .before .before .table-end .result) (c .before .before .before .before .before .before .before .table-end .ensures) (c .before .before .before .before .before .before .before .before .if1 .left) (replicate 4612 0) (length-replicate {A = ℕ} 4612 0) _ (sym (c .before .answer .given .1) ∙ told-one _ _ (c .before .before .before .before .read .ensures .0)))
+returns-2 c = begun-refused (opened (now (c .before .before .before .before .before .before .before .before .before .before .args .input))) (now (c .before .before .before .before .before .before .before .before .before .before .args .table)) (now (c .before .before .before .before .before .before .before .before .before .before .args .query)) _ (table-refused (now (c .before .before .before .before .before .before .before .before .before .before .args .input)) (c .before .before .before .before .before .before .before .table-end .result) (c .before .before .before .before .before .before .before .table-end .ensures) (c .before .before .before .before .before .before .before .before .if1 .left) (replicate 4612 0) (length-replicate {A = ℕ} 4612 0) _ (sym (c .before .answer .given .1) ∙ stored-told-one _ _ (c .before .before .before .before .read .ensures .0)))
 
 returns-3 : tie.Need-returns-3
-returns-3 c = begun-same _ _ _ _ _ (ap (λ (o : Opened). begun o (now (c .before .before .before .before .before .before .before .before .before .before .before .before .before .before .before .args .table)) (now (c .before .before .before .before .before .before .before .before .before .before .before .before .before .before .before .args .query))) (sym (table-read (now (c .before .before .before .before .before .before .before .before .before .before .before .before .before .before .before .args .input)) (c .before .before .before .before .before .before .before .before .before .before .before .before .table-end .result) (c .before .before .before .before .before .before .before .before .before .before .before .before .table-end .ensures) (c .before .before .before .before .before .before .before .before .before .before .before .before .before .if1 .left) (replicate 4612 0) (length-replicate {A = ℕ} 4612 0) (c .before .before .before .before .before .before .answer2 .given .0 .0) (c .before .before .before .before .before .before .before .before .before .read .last .1 .0) (sym (c .before .before .before .before .before .before .answer2 .given .1) ∙ told-one _ _ (c .before .before .before .before .before .before .before .before .before .read .ensures .0)) (c .before .before .before .before .before .before .before .before .before .read .ensures .1)))) (c .begin-query .ensures)
+returns-3 c = begun-same _ _ _ _ _ (ap (λ (o : Opened). begun o (now (c .before .before .before .before .before .before .before .before .before .before .before .before .before .before .before .args .table)) (now (c .before .before .before .before .before .before .before .before .before .before .before .before .before .before .before .args .query))) (sym (table-read (now (c .before .before .before .before .before .before .before .before .before .before .before .before .before .before .before .args .input)) (c .before .before .before .before .before .before .before .before .before .before .before .before .table-end .result) (c .before .before .before .before .before .before .before .before .before .before .before .before .table-end .ensures) (c .before .before .before .before .before .before .before .before .before .before .before .before .before .if1 .left) (replicate 4612 0) (length-replicate {A = ℕ} 4612 0) (c .before .before .before .before .before .before .answer2 .given .0 .0) (c .before .before .before .before .before .before .before .before .before .read .last .1 .0) (sym (c .before .before .before .before .before .before .answer2 .given .1) ∙ stored-told-one _ _ (c .before .before .before .before .before .before .before .before .before .read .ensures .0)) (c .before .before .before .before .before .before .before .before .before .read .ensures .1)))) (c .begin-query .ensures)
 
 pub begin-spec : {M : Type 1} → statement M
 begin-spec =

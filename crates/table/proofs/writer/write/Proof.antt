@@ -5,7 +5,7 @@ use mathlib.Core.Option.{some}
 use denote.Ref.{now}
 use borrow.Author.Needs.{needs}
 use Rattle.destination.specs.declared.Answer.the-variants.{Done}
-use Rattle.destination.specs.Told.{told}
+use Rattle.destination.specs.Told.{storedTold}
 use Rattle.table_format.specs.Loaded.{tableIn, loaded}
 use Rattle.table.proofs.Calls.{write-fits, write-short, write-broken, write-refused}
 use Rattle.table_check.proofs.Passing.{passed, failed}
@@ -32,20 +32,20 @@ returns c =
     let size = c .before .before .before .before .before .text-size .ensures in
     let args = c .before .before .before .before .before .before .before .before .before .before .args in
     let w = write-fits (now (args .cells)) (now (args .text)) (tableIn (now (args .cells))) (held (c .before .before .before .before .before .before)) (omega arith) in
-    (ap told (ap Done size ∙ sym (w .0)), c .before .before .write-table .ensures ∙ sym (w .1))
+    (ap storedTold (ap Done size ∙ sym (w .0)), c .before .before .write-table .ensures ∙ sym (w .1))
 
 returns-2 : tie.Need-returns-2
 returns-2 c =
     let size = c .before .text-size .ensures in
     let args = c .before .before .before .before .before .before .args in
     let short = write-short (now (args .cells)) (now (args .text)) .1 (tableIn (now (args .cells)), held (c .before .before), omega arith) in
-    (ap told (sym short), sym (write-refused (now (args .cells)) (now (args .text)) _ short))
+    (ap storedTold (sym short), sym (write-refused (now (args .cells)) (now (args .text)) _ short))
 
 returns-3 : tie.Need-returns-3
 returns-3 c =
     let args = c .before .before .before .before .args in
     let broken = write-broken (now (args .cells)) (now (args .text)) .1 (failed (now (args .cells)) (c .before .check .result) (c .before .check .ensures) (c .if1 .left)) in
-    (ap told (sym broken), sym (write-refused (now (args .cells)) (now (args .text)) _ broken))
+    (ap storedTold (sym broken), sym (write-refused (now (args .cells)) (now (args .text)) _ broken))
 
 pub write-spec : {M : Type 1} → statement M
 write-spec =

@@ -1,0 +1,2 @@
+-- What a reply's numbers tell.
+pub mod Numbers

@@ -1,0 +1,2 @@
+-- Proofs by hand.
+pub mod Walking
