@@ -1,5 +1,5 @@
 -- Laws of a walk that notes each state's place until a state comes again: from its place on it is a cycle.
-use Prim.Native.Nat.{ℕ, zero, suc, _+_, _*_, _-_, _/_, _<_, _≤_}
+use Prim.Native.Nat.{ℕ, zero, suc, _+_, _-_, _<_, _≤_}
 use native.Mathlib.Omega.{arith}
 use native.Mathlib.Numerals.{add-one}
 use mathlib.Core.Path.{_≡_, refl, sym, ap, subst, _∙_}
@@ -9,10 +9,13 @@ use lib.Dec.{eqb, ltb}
 use lib.ListN.{length, getD, set, take, drop, replicate, length-set, length-drop, length-replicate, getD-replicate}
 use lib.Seq.{getD-set-same, getD-set-other, getD-take, getD-drop, length-take-le, take-suc, set-at, append-snoc}
 use borrow.Author.Tests.{eqb-true, eqb-false, ltb-true, ltb-false}
-use Rattle.machine.specs.Idle.{Distinct}
+use Rattle.graph.specs.Lists.{Distinct}
+use Rattle.graph.specs.Walk.{Through, Walk}
+use Rattle.graph.proofs.Walk.{walk-below}
 use Rattle.machine.proofs.Transducer.{mem-at}
 use Rattle.engine_idle.specs.declared.Cycle.{Cycle}
-use Rattle.engine_idle.specs.Graph.{Graph, cycleCells, FirstAlive, Edge, Walk, one, andThen, Along, Cyclic, Stable, Next, CycleOrNone, FoundCycle}
+use Rattle.engine_idle.specs.Graph.{Graph, cycleCells, FirstAlive, IdleEdge, Cyclic, Stable, Next, CycleOrNone, FoundCycle}
+use Rattle.engine_idle.proofs.Rounds.{among}
 
 -- Cells that are 0.
 
@@ -75,11 +78,11 @@ part-ends order from end k states h g e s =
     cyc l n = record { states = l; length = n }
 
 module _ (arcs : List ℕ) (upper lower : Bool) (alive : List ℕ) where
-  along-places : (s : ℕ) (l : List ℕ) (r : ℕ) → ((i : ℕ) → i + 1 < length (s ∷ l) → Edge arcs upper lower (getD (s ∷ l) i 0) (getD (s ∷ l) (i + 1) 0)) → Edge arcs upper lower (getD (s ∷ l) (length l) 0) r
-      → Along arcs upper lower s l r
-  along-places s [] r f e = e
-  along-places s (x ∷ l) r f e =
-      (f 0 (omega arith), along-places x l r (λ i h. subst (λ (m : ℕ). Edge arcs upper lower (getD (x ∷ l) i 0) (getD (s ∷ x ∷ l) m 0)) {x = suc i + 1} {y = suc (i + 1)} (omega arith) (f (suc i) (omega arith))) e)
+  through-places : (s : ℕ) (l : List ℕ) (r : ℕ) → ((i : ℕ) → i + 1 < length (s ∷ l) → IdleEdge arcs upper lower (getD (s ∷ l) i 0) (getD (s ∷ l) (i + 1) 0)) → IdleEdge arcs upper lower (getD (s ∷ l) (length l) 0) r
+      → Through (IdleEdge arcs upper lower) s l r
+  through-places s [] r f e = e
+  through-places s (x ∷ l) r f e =
+      (f 0 (omega arith), through-places x l r (λ i h. subst (λ (m : ℕ). IdleEdge arcs upper lower (getD (x ∷ l) i 0) (getD (s ∷ x ∷ l) m 0)) {x = suc i + 1} {y = suc (i + 1)} (omega arith) (f (suc i) (omega arith))) e)
 
   -- a walk of n states, of which each has its place noted, before it comes to s
   pub record Walked (order place : List ℕ) (n s : ℕ) : Type 0 where
@@ -88,8 +91,8 @@ module _ (arcs : List ℕ) (upper lower : Bool) (alive : List ℕ) where
     pub count : n + zeros place ≡ 256
     pub placed : (i : ℕ) → i < n → getD place (getD order i 0) 0 ≡ i + 1
     pub held : (x : ℕ) → 0 < getD place x 0 → (getD place x 0 ≤ n) × (getD order (getD place x 0 - 1) 0 ≡ x)
-    pub edges : (i : ℕ) → i + 1 < n → Edge arcs upper lower (getD order i 0) (getD order (i + 1) 0)
-    pub last : 0 < n → Edge arcs upper lower (getD order (n - 1) 0) s
+    pub edges : (i : ℕ) → i + 1 < n → IdleEdge arcs upper lower (getD order i 0) (getD order (i + 1) 0)
+    pub last : 0 < n → IdleEdge arcs upper lower (getD order (n - 1) 0) s
     pub inside : s < length alive
     pub lives : getD alive s 0 ≡ 1
 
@@ -120,7 +123,7 @@ module _ (arcs : List ℕ) (upper lower : Bool) (alive : List ℕ) where
       pub walk-room : getD place s 0 ≡ 0 → n < 256
       walk-room e = let z = zeros-set place s 1 (omega (arith, W .place-long, W .inside)) e (omega arith) in omega (arith, W .count)
 
-      pub walk-goes-on : getD place s 0 ≡ 0 → (r : ℕ) → Edge arcs upper lower s r → r < length alive → getD alive r 0 ≡ 1 → Walked (set order n s) (set place s (n + 1)) (n + 1) r
+      pub walk-goes-on : getD place s 0 ≡ 0 → (r : ℕ) → IdleEdge arcs upper lower s r → r < length alive → getD alive r 0 ≡ 1 → Walked (set order n s) (set place s (n + 1)) (n + 1) r
       walk-goes-on e r E h a =
           record {
             order-long = length-set order n s ∙ W .order-long;
@@ -129,7 +132,7 @@ module _ (arcs : List ℕ) (upper lower : Bool) (alive : List ℕ) where
             placed = λ i k. placed′ i k (eqb i n) refl;
             held = λ x k. held′ x k (eqb x s) refl;
             edges = λ i k. edges′ i k (eqb (i + 1) n) refl;
-            last = λ k. subst (λ (m : ℕ). Edge arcs upper lower (getD (set order n s) m 0) r) {x = n} {y = n + 1 - 1} (omega arith) (subst (λ (x : ℕ). Edge arcs upper lower x r) (sym new) E);
+            last = λ k. subst (λ (m : ℕ). IdleEdge arcs upper lower (getD (set order n s) m 0) r) {x = n} {y = n + 1 - 1} (omega arith) (subst (λ (x : ℕ). IdleEdge arcs upper lower x r) (sym new) E);
             inside = h;
             lives = a;
           }
@@ -165,16 +168,16 @@ module _ (arcs : List ℕ) (upper lower : Bool) (alive : List ℕ) where
               let few′ : getD place x 0 ≤ n = H .0 in
               (omega arith, ap (λ (m : ℕ). getD (set order n s) (m - 1) 0) p ∙ old (getD place x 0 - 1) (omega arith) ∙ H .1)
 
-          edges′ : (i : ℕ) → i + 1 < n + 1 → (b : Bool) → eqb (i + 1) n ≡ b → Edge arcs upper lower (getD (set order n s) i 0) (getD (set order n s) (i + 1) 0)
+          edges′ : (i : ℕ) → i + 1 < n + 1 → (b : Bool) → eqb (i + 1) n ≡ b → IdleEdge arcs upper lower (getD (set order n s) i 0) (getD (set order n s) (i + 1) 0)
           edges′ i k true z =
               let y = eqb-true (i + 1) n z in
-              let L : Edge arcs upper lower (getD order i 0) s = subst (λ (m : ℕ). Edge arcs upper lower (getD order m 0) s) {x = n - 1} {y = i} (omega arith) (W .last (omega arith)) in
-              subst (λ (x : ℕ). Edge arcs upper lower x (getD (set order n s) (i + 1) 0)) (sym (old i (omega arith)))
-              (subst (λ (x : ℕ). Edge arcs upper lower (getD order i 0) x) (sym (ap (λ (m : ℕ). getD (set order n s) m 0) y ∙ new)) L)
+              let L : IdleEdge arcs upper lower (getD order i 0) s = subst (λ (m : ℕ). IdleEdge arcs upper lower (getD order m 0) s) {x = n - 1} {y = i} (omega arith) (W .last (omega arith)) in
+              subst (λ (x : ℕ). IdleEdge arcs upper lower x (getD (set order n s) (i + 1) 0)) (sym (old i (omega arith)))
+              (subst (λ (x : ℕ). IdleEdge arcs upper lower (getD order i 0) x) (sym (ap (λ (m : ℕ). getD (set order n s) m 0) y ∙ new)) L)
           edges′ i k false z =
               let y : i + 1 ≡ n → ⊥ = eqb-false (i + 1) n z in
-              subst (λ (x : ℕ). Edge arcs upper lower x (getD (set order n s) (i + 1) 0)) (sym (old i (omega arith)))
-              (subst (λ (x : ℕ). Edge arcs upper lower (getD order i 0) x) (sym (old (i + 1) (omega arith))) (W .edges i (omega arith)))
+              subst (λ (x : ℕ). IdleEdge arcs upper lower x (getD (set order n s) (i + 1) 0)) (sym (old i (omega arith)))
+              (subst (λ (x : ℕ). IdleEdge arcs upper lower (getD order i 0) x) (sym (old (i + 1) (omega arith))) (W .edges i (omega arith)))
 
       -- the state has a place: the walk from there on is a cycle
       pub walk-closes : 0 < getD place s 0 → FoundCycle arcs upper lower (cycleCells (take (n - (getD place s 0 - 1)) (drop (getD place s 0 - 1) order)))
@@ -206,60 +209,56 @@ module _ (arcs : List ℕ) (upper lower : Bool) (alive : List ℕ) where
               let z : from + i + 1 ≡ from + j + 1 = sym a ∙ ap (λ (x : ℕ). getD place x 0) same ∙ b in
               omega arith
 
-          part-edges : (i : ℕ) → i + 1 < length part → Edge arcs upper lower (getD part i 0) (getD part (i + 1) 0)
+          part-edges : (i : ℕ) → i + 1 < length part → IdleEdge arcs upper lower (getD part i 0) (getD part (i + 1) 0)
           part-edges i k =
               let L = part-long in
-              let E : Edge arcs upper lower (getD order (from + i) 0) (getD order (from + (i + 1)) 0) = subst (λ (m : ℕ). Edge arcs upper lower (getD order (from + i) 0) (getD order m 0)) {x = from + i + 1} {y = from + (i + 1)} (omega arith) (W .edges (from + i) (omega arith)) in
-              subst (λ (x : ℕ). Edge arcs upper lower x (getD part (i + 1) 0)) (sym (part-at i (omega arith))) (subst (λ (x : ℕ). Edge arcs upper lower (getD order (from + i) 0) x) (sym (part-at (i + 1) (omega arith))) E)
+              let E : IdleEdge arcs upper lower (getD order (from + i) 0) (getD order (from + (i + 1)) 0) = subst (λ (m : ℕ). IdleEdge arcs upper lower (getD order (from + i) 0) (getD order m 0)) {x = from + i + 1} {y = from + (i + 1)} (omega arith) (W .edges (from + i) (omega arith)) in
+              subst (λ (x : ℕ). IdleEdge arcs upper lower x (getD part (i + 1) 0)) (sym (part-at i (omega arith))) (subst (λ (x : ℕ). IdleEdge arcs upper lower (getD order (from + i) 0) x) (sym (part-at (i + 1) (omega arith))) E)
 
           first-is : getD part 0 0 ≡ s
           first-is = let P = p-few in part-at 0 (omega arith) ∙ ap (λ (m : ℕ). getD order m 0) {x = from + 0} {y = from} (omega arith) ∙ W .held s h .1
 
-          last-edge : Edge arcs upper lower (getD part (length part - 1) 0) s
+          last-edge : IdleEdge arcs upper lower (getD part (length part - 1) 0) s
           last-edge =
               let L = part-long in
               let P = p-few in
               let i : getD part (length part - 1) 0 ≡ getD order (n - 1) 0 = part-at (length part - 1) (omega arith) ∙ ap (λ (m : ℕ). getD order m 0) {x = from + (length part - 1)} {y = n - 1} (omega arith) in
-              subst (λ (x : ℕ). Edge arcs upper lower x s) (sym i) (W .last (omega arith))
+              subst (λ (x : ℕ). IdleEdge arcs upper lower x s) (sym i) (W .last (omega arith))
 
           go : (l : List ℕ) → part ≡ l → CycleOrNone arcs upper lower l
           go [] e = absurd (let L = part-long in let P = p-few in let z : length part ≡ 0 = ap length e in omega arith)
           go (x ∷ l) e =
               let x-is : x ≡ s = sym (ap (λ (k : List ℕ). getD k 0 0) e) ∙ first-is in
-              let E : (i : ℕ) → i + 1 < length (x ∷ l) → Edge arcs upper lower (getD (x ∷ l) i 0) (getD (x ∷ l) (i + 1) 0) = subst (λ (k : List ℕ). (i : ℕ) → i + 1 < length k → Edge arcs upper lower (getD k i 0) (getD k (i + 1) 0)) e part-edges in
-              let F : Edge arcs upper lower (getD (x ∷ l) (length (x ∷ l) - 1) 0) s = subst (λ (k : List ℕ). Edge arcs upper lower (getD k (length k - 1) 0) s) e last-edge in
-              let F₂ : Edge arcs upper lower (getD (x ∷ l) (length l) 0) s = subst (λ (m : ℕ). Edge arcs upper lower (getD (x ∷ l) m 0) s) {x = length (x ∷ l) - 1} {y = length l} (omega arith) F in
+              let E : (i : ℕ) → i + 1 < length (x ∷ l) → IdleEdge arcs upper lower (getD (x ∷ l) i 0) (getD (x ∷ l) (i + 1) 0) = subst (λ (k : List ℕ). (i : ℕ) → i + 1 < length k → IdleEdge arcs upper lower (getD k i 0) (getD k (i + 1) 0)) e part-edges in
+              let F : IdleEdge arcs upper lower (getD (x ∷ l) (length (x ∷ l) - 1) 0) s = subst (λ (k : List ℕ). IdleEdge arcs upper lower (getD k (length k - 1) 0) s) e last-edge in
+              let F₂ : IdleEdge arcs upper lower (getD (x ∷ l) (length l) 0) s = subst (λ (m : ℕ). IdleEdge arcs upper lower (getD (x ∷ l) m 0) s) {x = length (x ∷ l) - 1} {y = length l} (omega arith) F in
               let D : (i j : ℕ) → i < length (x ∷ l) → j < length (x ∷ l) → getD (x ∷ l) i 0 ≡ getD (x ∷ l) j 0 → i ≡ j = subst (λ (k : List ℕ). (i j : ℕ) → i < length k → j < length k → getD k i 0 ≡ getD k j 0 → i ≡ j) e part-distinct in
-              (along-places x l x E (subst (λ (y : ℕ). Edge arcs upper lower (getD (x ∷ l) (length l) 0) y) (sym x-is) F₂), distinct-places (x ∷ l) D)
+              (through-places x l x E (subst (λ (y : ℕ). IdleEdge arcs upper lower (getD (x ∷ l) (length l) 0) y) (sym x-is) F₂), distinct-places (x ∷ l) D)
 
 -- The search on a graph.
 
-walk-source : {arcs : List ℕ} {upper lower : Bool} {s r : ℕ} → Walk arcs upper lower s r → (n : ℕ) × (n < length arcs / 4) × (getD arcs (4 * n) 0 ≡ s)
-walk-source (one e) = (e .number, e .inside, e .from)
-walk-source (andThen e w) = (e .number, e .inside, e .from)
-
 module _ (arcs : List ℕ) (upper lower : Bool) (first alive : List ℕ) (G : Graph arcs first (length alive)) where
   -- a state on a cycle is a state
-  pub cyclic-below : (s : ℕ) → Walk arcs upper lower s s → s < length alive
-  cyclic-below s w = let P = walk-source w in subst (λ (x : ℕ). x < length alive) (P .2) (G .source-in (P .0) (P .1))
+  pub cyclic-below : (s : ℕ) → Walk (IdleEdge arcs upper lower) s s → s < length alive
+  cyclic-below s w = walk-below (IdleEdge arcs upper lower) (length alive) (among arcs upper lower first (length alive) G) s s w
 
   -- none lives: there is no cycle
   pub none-found : Cyclic arcs upper lower alive → (r : ℕ) → FirstAlive alive r → length alive ≤ r → FoundCycle arcs upper lower (cycleCells [])
   none-found C r F h = record { cycle = []; cells = refl; is = λ s w. F .none-lives h s (cyclic-below s w) (C s w) }
 
   module _ (S : Stable arcs upper lower alive) where
-    pub next-lives : (s r : ℕ) → s < length alive → getD alive s 0 ≡ 1 → Next arcs upper lower alive s r → Edge arcs upper lower s r × (r < length alive) × (getD alive r 0 ≡ 1)
+    pub next-lives : (s r : ℕ) → s < length alive → getD alive s 0 ≡ 1 → Next arcs upper lower alive s r → IdleEdge arcs upper lower s r × (r < length alive) × (getD alive r 0 ≡ 1)
     next-lives s r h e N =
         let k : r < 256 = small in
-        let E = N .found k .0 in
-        (E, subst (λ (x : ℕ). x < length alive) (E .to) (G .target-in (E .number) (E .inside)), N .found k .1)
+        let E = N .leads-on k .0 in
+        (E, among arcs upper lower first (length alive) G s r E .1, N .leads-on k .1)
       where
         small : r < 256
         small = go (ltb r 256) refl
           where
             go : (b : Bool) → ltb r 256 ≡ b → r < 256
             go true z = ltb-true r 256 z
-            go false z = let P = S s h e in absurd (N .none-found (ltb-false r 256 z) (P .0) (P .1) (P .2))
+            go false z = let P = S s h e in absurd (N .leads-nowhere (ltb-false r 256 z) (P .0) (P .1) (P .2))
 
     module _ (order place : List ℕ) (n s at : ℕ) (W : Walked arcs upper lower alive order place n s) (a : at ≡ getD place s 0) where
       pub walk-next : at ≡ 0 → (i j k r : ℕ) → i ≡ n → j ≡ s → k ≡ s → Next arcs upper lower alive k r → Walked arcs upper lower alive (set order i s) (set place j (n + 1)) (n + 1) r

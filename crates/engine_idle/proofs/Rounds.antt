@@ -1,16 +1,24 @@
 -- Laws of the rounds in which states die: the arcs of a state, one state's turn in a round, and the rounds.
-use Prim.Native.Nat.{ℕ, zero, suc, _+_, _*_, _-_, _<_, _≤_}
+use Prim.Native.Nat.{ℕ, zero, suc, _+_, _-_, _<_, _≤_}
 use native.Mathlib.Omega.{arith}
 use mathlib.Core.Path.{_≡_, refl, sym, ap, subst, _∙_}
 use mathlib.Core.Bool.{Bool, true, false, cond, _&&_, true≢false}
-use mathlib.Core.List.{List, [], _∷_}
+use mathlib.Core.List.{List, [], _∷_, List·Memᴰ}
 use lib.Dec.{eqb}
 use lib.ListN.{length, getD, set, length-set}
 use lib.Seq.{getD-set-other}
 use borrow.Author.Tests.{eqb-true, eqb-false, eq-eqb, ne-eqb}
 use Rattle.table_format.proofs.Tests.{and-left, and-right, and-both}
+use Rattle.table_format.specs.Table.{Arc}
+use Rattle.table_format.specs.declared.Arc as held
+use Rattle.table_format.specs.Cells.{arcHeld, arcCount, arcOf, arcsAs}
+use Rattle.table_format.proofs.Arcs.{length-arcs, getD-arcs}
+use Rattle.graph.specs.Walk.{Among}
+use Rattle.graph.proofs.Walk.{rotated}
+use Rattle.machine.specs.Transducer.{noArc}
 use Rattle.machine.specs.Idle.{sideIdle}
-use Rattle.engine_idle.specs.Graph.{Graph, total, idleAt, Edge, Walk, one, andThen, Cyclic, Stable, Next, Peeled, Settled}
+use Rattle.machine.proofs.Transducer.{at-mem, mem-at}
+use Rattle.engine_idle.specs.Graph.{Graph, total, idleBy, leadsAlive, IdleEdge, Cyclic, Stable, Next, Peeled, Settled}
 
 -- a letter on a side that is read
 pub letter-read : (read : Bool) (x : ℕ) → read ≡ true → eqb x 0 ≡ sideIdle read x
@@ -58,42 +66,66 @@ fails-more f from n F e i h k = go (eqb i n) refl
     go false w = let d : i ≡ n → ⊥ = eqb-false i n w in F i h (omega arith)
 
 module _ (arcs : List ℕ) (upper lower : Bool) where
+  -- the edges by their numbers
+  edge-at : (n : ℕ) → n < arcCount arcs → idleBy upper lower (arcOf arcs n) ≡ true → IdleEdge arcs upper lower (arcOf arcs n .source) (arcOf arcs n .target)
+  edge-at n h i =
+      record {
+        arc = arcOf arcs n;
+        listed = subst (λ (a : Arc). List·Memᴰ a (arcsAs arcs)) (getD-arcs (arcCount arcs) arcs n noArc h) (at-mem (arcsAs arcs) n noArc (omega (arith, length-arcs (arcCount arcs) arcs)));
+        from = refl;
+        to = refl;
+        passes = i;
+      }
+
+  pub edge-number : {s r : ℕ} (E : IdleEdge arcs upper lower s r) → (n : ℕ) × (n < arcCount arcs) × (arcOf arcs n ≡ E .arc)
+  edge-number E =
+      let P = mem-at (arcsAs arcs) (E .arc) noArc (E .listed) in
+      let h : P .0 < arcCount arcs = omega (arith, P .1, length-arcs (arcCount arcs) arcs) in
+      (P .0, h, sym (getD-arcs (arcCount arcs) arcs (P .0) noArc h) ∙ P .2)
+
+  -- they lead among the states
+  pub among : (first : List ℕ) (states : ℕ) → Graph arcs first states → Among (IdleEdge arcs upper lower) states
+  among first states G s r E =
+      let N = edge-number E in (
+        subst (λ (x : ℕ). x < states) (ap (λ (a : Arc). a .source) (N .2) ∙ E .from) (G .source-in (N .0) (N .1)),
+        subst (λ (x : ℕ). x < states) (ap (λ (a : Arc). a .target) (N .2) ∙ E .to) (G .target-in (N .0) (N .1)),
+      )
+
   -- arc n is idle and leads to a state that is alive
   abbrev pub leadsAt : List ℕ → ℕ → Bool
-  leadsAt alive n = idleAt arcs upper lower n && eqb (getD alive (getD arcs (4 * n + 3) 0) 0) 1
+  leadsAt alive n = leadsAlive upper lower alive (arcHeld (arcOf arcs n))
 
   module _ (first alive : List ℕ) (G : Graph arcs first (length alive)) (q : ℕ) (h : q < length alive) where
-    pub next-found : (n : ℕ) → getD first q 0 ≤ n → n < getD first (q + 1) 0 → leadsAt alive n ≡ true → Next arcs upper lower alive q (getD arcs (4 * n + 3) 0)
-    next-found n a b e =
+    at-number : (n : ℕ) → getD first q 0 ≤ n → n < getD first (q + 1) 0 → leadsAt alive n ≡ true → Next arcs upper lower alive q (arcOf arcs n .target)
+    at-number n a b e =
         let i = G .numbered q n h a b in
-        let idle = and-left (idleAt arcs upper lower n) (eqb (getD alive (getD arcs (4 * n + 3) 0) 0) 1) e in
-        let lives = and-right (idleAt arcs upper lower n) (eqb (getD alive (getD arcs (4 * n + 3) 0) 0) 1) e in
+        let idle = and-left (idleBy upper lower (arcOf arcs n)) (eqb (getD alive (arcOf arcs n .target) 0) 1) e in
+        let lives = and-right (idleBy upper lower (arcOf arcs n)) (eqb (getD alive (arcOf arcs n .target) 0) 1) e in
         record {
-          found = λ k. (record { number = n; inside = i .0; from = i .1; to = refl; is-idle = idle }, eqb-true _ _ lives);
-          none-found = λ k. absurd (omega (arith, G .target-in n (i .0), G .few));
+          leads-on = λ k. (subst (λ (s : ℕ). IdleEdge arcs upper lower s (arcOf arcs n .target)) (i .1) (edge-at n (i .0) idle), eqb-true _ _ lives);
+          leads-nowhere = λ k. absurd (omega (arith, G .target-in n (i .0), G .few));
         }
 
+    pub next-found : (n : ℕ) (r : held.Arc) → r ≡ arcHeld (arcOf arcs n) → getD first q 0 ≤ n → n < getD first (q + 1) 0 → leadsAlive upper lower alive r ≡ true
+        → Next arcs upper lower alive q (r .target)
+    next-found n r z a b t =
+        let e : leadsAt alive n ≡ true = ap (leadsAlive upper lower alive) (sym z) ∙ t in
+        subst (λ (x : held.Arc). Next arcs upper lower alive q (x .target)) (sym z) (at-number n a b e)
+
     pub next-none : ((n : ℕ) → getD first q 0 ≤ n → n < getD first (q + 1) 0 → leadsAt alive n ≡ false) → Next arcs upper lower alive q 256
-    next-none f = record { found = λ k. absurd (omega arith); none-found = λ k x E a. clash x E a }
+    next-none f = record { leads-on = λ k. absurd (omega arith); leads-nowhere = λ k x E a. clash x E a }
       where
-        clash : (x : ℕ) (E : Edge arcs upper lower q x) → getD alive x 0 ≡ 1 → ⊥
+        clash : (x : ℕ) (E : IdleEdge arcs upper lower q x) → getD alive x 0 ≡ 1 → ⊥
         clash x E a =
-            let i = G .indexed (E .number) (E .inside) in
-            let lo : getD first q 0 ≤ E .number = subst (λ (s : ℕ). getD first s 0 ≤ E .number) (E .from) (i .0) in
-            let hi : E .number < getD first (q + 1) 0 = subst (λ (s : ℕ). E .number < getD first (s + 1) 0) (E .from) (i .1) in
-            let yes : leadsAt alive (E .number) ≡ true = and-both (E .is-idle) (eq-eqb _ _ (ap (λ (z : ℕ). getD alive z 0) (E .to) ∙ a)) in
-            true≢false (sym yes ∙ f (E .number) lo hi)
-
-  -- walks
-
-  pub edge-last : {s x r : ℕ} → Walk arcs upper lower s x → Edge arcs upper lower x r → Walk arcs upper lower s r
-  edge-last (one e) f = andThen e (one f)
-  edge-last (andThen e w) f = andThen e (edge-last w f)
-
-  -- from a state on a cycle an idle arc leads to one
-  onward : (s : ℕ) → Walk arcs upper lower s s → (x : ℕ) × Edge arcs upper lower s x × Walk arcs upper lower x x
-  onward s (one e) = (s, e, one e)
-  onward s (andThen e w) = (_, e, edge-last w e)
+            let N = edge-number E in
+            let n : ℕ = N .0 in
+            let at : arcOf arcs n .source ≡ q = ap (λ (z : Arc). z .source) (N .2) ∙ E .from in
+            let i = G .indexed n (N .1) in
+            let lo : getD first q 0 ≤ n = subst (λ (s : ℕ). getD first s 0 ≤ n) at (i .0) in
+            let hi : n < getD first (q + 1) 0 = subst (λ (s : ℕ). n < getD first (s + 1) 0) at (i .1) in
+            let lives : getD alive (arcOf arcs n .target) 0 ≡ 1 = ap (λ (z : Arc). getD alive (z .target) 0) (N .2) ∙ ap (λ (z : ℕ). getD alive z 0) (E .to) ∙ a in
+            let yes : leadsAt alive n ≡ true = and-both (ap (idleBy upper lower) (N .2) ∙ E .passes) (eq-eqb _ _ lives) in
+            true≢false (sym yes ∙ f n lo hi)
 
   -- A round: from state q on, the states had their turn.
 
@@ -102,7 +134,7 @@ module _ (arcs : List ℕ) (upper lower : Bool) where
     pub keeps : Cyclic arcs upper lower before → Cyclic arcs upper lower alive
     pub no-more : total alive ≤ total before
     pub fewer : died ≡ true → total alive < total before
-    pub seen : died ≡ false → (s : ℕ) → q ≤ s → s < length alive → getD alive s 0 ≡ 1 → (r : ℕ) × Edge arcs upper lower s r × (getD alive r 0 ≡ 1)
+    pub seen : died ≡ false → (s : ℕ) → q ≤ s → s < length alive → getD alive s 0 ≡ 1 → (r : ℕ) × IdleEdge arcs upper lower s r × (getD alive r 0 ≡ 1)
 
   pub round-begins : (alive : List ℕ) (q : ℕ) → q ≡ length alive → Round alive alive q false
   round-begins alive q h =
@@ -114,11 +146,11 @@ module _ (arcs : List ℕ) (upper lower : Bool) where
 
   module _ (before alive : List ℕ) (q : ℕ) (died : Bool) (h : 0 < q) (R : Round before alive q died) where
     -- one state more, where it needs nothing or has what it needs
-    stays : ((getD alive (q - 1) 0 ≡ 1) → (r : ℕ) × Edge arcs upper lower (q - 1) r × (getD alive r 0 ≡ 1)) → Round before alive (q - 1) died
+    stays : ((getD alive (q - 1) 0 ≡ 1) → (r : ℕ) × IdleEdge arcs upper lower (q - 1) r × (getD alive r 0 ≡ 1)) → Round before alive (q - 1) died
     stays f = record { same-length = R .same-length; keeps = R .keeps; no-more = R .no-more; fewer = R .fewer; seen = λ e s a b w. go e s a b w (eqb s (q - 1)) refl }
       where
-        go : died ≡ false → (s : ℕ) → q - 1 ≤ s → s < length alive → getD alive s 0 ≡ 1 → (b : Bool) → eqb s (q - 1) ≡ b → (r : ℕ) × Edge arcs upper lower s r × (getD alive r 0 ≡ 1)
-        go e s a k w true z = let y = eqb-true s (q - 1) z in subst (λ (x : ℕ). (r : ℕ) × Edge arcs upper lower x r × (getD alive r 0 ≡ 1)) (sym y) (f (subst (λ (x : ℕ). getD alive x 0 ≡ 1) y w))
+        go : died ≡ false → (s : ℕ) → q - 1 ≤ s → s < length alive → getD alive s 0 ≡ 1 → (b : Bool) → eqb s (q - 1) ≡ b → (r : ℕ) × IdleEdge arcs upper lower s r × (getD alive r 0 ≡ 1)
+        go e s a k w true z = let y = eqb-true s (q - 1) z in subst (λ (x : ℕ). (r : ℕ) × IdleEdge arcs upper lower x r × (getD alive r 0 ≡ 1)) (sym y) (f (subst (λ (x : ℕ). getD alive x 0 ≡ 1) y w))
         go e s a k w false z = let y : s ≡ q - 1 → ⊥ = eqb-false s (q - 1) z in R .seen e s (omega arith) k w
 
     pub round-dead : (getD alive (q - 1) 0 ≡ 1 → ⊥) → Round before alive (q - 1) died
@@ -126,7 +158,7 @@ module _ (arcs : List ℕ) (upper lower : Bool) where
 
     module _ (r : ℕ) (N : Next arcs upper lower alive (q - 1) r) where
       pub round-lives : r < 256 → Round before alive (q - 1) died
-      round-lives k = stays (λ e. (r, N .found k .0, N .found k .1))
+      round-lives k = stays (λ e. (r, N .leads-on k .0, N .leads-on k .1))
 
       pub round-dies : q ≤ length alive → getD alive (q - 1) 0 ≡ 1 → 256 ≤ r → Round before (set alive (q - 1) 0) (q - 1) true
       round-dies i a k =
@@ -145,8 +177,8 @@ module _ (arcs : List ℕ) (upper lower : Bool) where
             where
               go : (b : Bool) → eqb s (q - 1) ≡ b → getD (set alive (q - 1) 0) s 0 ≡ 1
               go true z =
-                  let O = onward s w in
-                  absurd (N .none-found k (O .0) (subst (λ (x : ℕ). Edge arcs upper lower x (O .0)) (eqb-true s (q - 1) z) (O .1)) (C (O .0) (O .2)))
+                  let O = rotated (IdleEdge arcs upper lower) s w in
+                  absurd (N .leads-nowhere k (O .0) (subst (λ (x : ℕ). IdleEdge arcs upper lower x (O .0)) (eqb-true s (q - 1) z) (O .1)) (C (O .0) (O .2)))
               go false z = getD-set-other alive (q - 1) s 0 0 (eqb-false s (q - 1) z) ∙ C s w
 
   -- The rounds.

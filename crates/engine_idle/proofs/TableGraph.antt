@@ -1,5 +1,5 @@
 -- The arcs of a loaded table as a graph: the index numbers each state's arcs, and the graph's cycles are the table's idle cycles.
-use Prim.Native.Nat.{ℕ, suc, _+_, _*_, _-_, _/_, _<_, _≤_}
+use Prim.Native.Nat.{ℕ, suc, _+_, _-_, _<_, _≤_}
 use native.Mathlib.Omega.{arith}
 use native.Mathlib.Numerals.{add-one}
 use mathlib.Core.Path.{_≡_, refl, sym, ap, subst, _∙_}
@@ -14,21 +14,21 @@ use Rattle.table_format.specs.Table.{Arc, Table}
 use Rattle.table_format.specs.Rules.{keepsRules}
 use Rattle.table_format.specs.Loaded.{countsIn, extent, tableIn, loaded}
 use Rattle.table_format.specs.Index.{below, firstIndex}
-use Rattle.table_format.specs.Cells.{arcsAs}
+use Rattle.table_format.specs.Cells.{arcCount, arcOf, arcsAs}
 use Rattle.table_check.specs.Check.{layoutOf, LaidOut, checkedAs, checked}
-use Rattle.table_format.proofs.Arcs.{arcAt, length-arcs, getD-arcs}
+use Rattle.table_format.proofs.Arcs.{length-arcs, getD-arcs}
 use Rattle.table_format.proofs.Index.{length-index, index-at}
 use Rattle.table_check.proofs.Parts.{laid-out}
 use Rattle.table_format.proofs.Ruled.{Ruled}
+use Rattle.graph.specs.Walk as walks
+use Rattle.graph.specs.Walk.{NoCycle}
 use Rattle.machine.specs.Query.{Task, recognition, upperSide, lowerSide, reads, Query}
 use Rattle.machine.specs.Machine.{ArcOf}
 use Rattle.machine.specs.Transducer.{noArc, machine}
-use Rattle.machine.specs.Idle.{idle, IdleWalk, one, andThen, IdleArc, Through, CycleStates, hasIdleCycle}
-use Rattle.machine.proofs.Transducer.{arc-of, at-mem, mem-at}
+use Rattle.machine.specs.Idle.{idle, Leads, CycleStates, hasIdleCycle}
+use Rattle.machine.proofs.Transducer.{arc-of, at-mem}
 use Rattle.machine.proofs.Idle.{cycle-walk, none-there, none-found}
-use Rattle.engine_idle.specs.Graph as graph
-use Rattle.engine_idle.specs.Graph.{Graph, Edge, Walk, Along, CycleOrNone}
-use Rattle.engine_idle.proofs.Rounds.{edge-last}
+use Rattle.engine_idle.specs.Graph.{Graph, CycleOrNone}
 
 -- cells that hold a table hold it whole
 pub loaded-whole : (cells : List ℕ) (t : Table) → loaded cells ≡ some t → extent (countsIn cells) ≤ length cells
@@ -47,13 +47,13 @@ unfolding checked
 loaded-index cells t e = ap (λ (o : Option Table). checkedAs (layoutOf (countsIn cells)) o .first) e
 
 module _ (t : Table) (U : Ruled t) (cells : List ℕ) (e : arcsAs cells ≡ t .arcs) where
-  size : length cells / 4 ≡ length (t .arcs)
-  size = sym (length-arcs (length cells / 4) cells) ∙ ap length e
+  size : arcCount cells ≡ length (t .arcs)
+  size = sym (length-arcs (arcCount cells) cells) ∙ ap length e
 
-  arc-is : (n : ℕ) → n < length cells / 4 → getD (t .arcs) n noArc ≡ arcAt cells n
-  arc-is n h = ap (λ (l : List Arc). getD l n noArc) (sym e) ∙ getD-arcs (length cells / 4) cells n noArc h
+  arc-is : (n : ℕ) → n < arcCount cells → getD (t .arcs) n noArc ≡ arcOf cells n
+  arc-is n h = ap (λ (l : List Arc). getD l n noArc) (sym e) ∙ getD-arcs (arcCount cells) cells n noArc h
 
-  listed : (n : ℕ) → n < length cells / 4 → List·Memᴰ (getD (t .arcs) n noArc) (t .arcs)
+  listed : (n : ℕ) → n < arcCount cells → List·Memᴰ (getD (t .arcs) n noArc) (t .arcs)
   listed n h = at-mem (t .arcs) n noArc (omega (arith, size))
 
   -- any query: the numbers of arcs are the table's
@@ -71,7 +71,7 @@ module _ (t : Table) (U : Ruled t) (cells : List ℕ) (e : arcsAs cells ≡ t .a
         numbered = numbered′;
       }
     where
-      source : (n : ℕ) → n < length cells / 4 → getD cells (4 * n) 0 < t .states
+      source : (n : ℕ) → n < arcCount cells → arcOf cells n .source < t .states
       source n h = subst (λ (a : Arc). a .source < t .states) (arc-is n h) (U .source-in _ (listed n h))
 
       at : (q : ℕ) → q ≤ t .states → getD first q 0 ≡ below q (t .arcs)
@@ -80,9 +80,9 @@ module _ (t : Table) (U : Ruled t) (cells : List ℕ) (e : arcsAs cells ≡ t .a
       after : (q : ℕ) → q < t .states → getD first (q + 1) 0 ≡ below (suc q) (t .arcs)
       after q h = at (q + 1) (omega arith) ∙ ap (λ (m : ℕ). below m (t .arcs)) (add-one q)
 
-      indexed′ : (n : ℕ) → n < length cells / 4 → (getD first (getD cells (4 * n) 0) 0 ≤ n) × (n < getD first (getD cells (4 * n) 0 + 1) 0)
+      indexed′ : (n : ℕ) → n < arcCount cells → (getD first (arcOf cells n .source) 0 ≤ n) × (n < getD first (arcOf cells n .source + 1) 0)
       indexed′ n h =
-          let q : ℕ = getD cells (4 * n) 0 in
+          let q : ℕ = arcOf cells n .source in
           let A : ArcOf (machine t anyQuery) q n = arc-of t anyQuery (U .rising) q n .1 (omega (arith, size), ap (λ (a : Arc). a .source) (arc-is n h)) in
           let lo : below q (t .arcs) ≤ n = A .0 in
           let hi : n < below q (t .arcs) + (below (suc q) (t .arcs) - below q (t .arcs)) = A .1 in
@@ -90,64 +90,28 @@ module _ (t : Table) (U : Ruled t) (cells : List ℕ) (e : arcsAs cells ≡ t .a
           let f₂ = after q (source n h) in
           (omega arith, omega arith)
 
-      numbered′ : (q n : ℕ) → q < t .states → getD first q 0 ≤ n → n < getD first (q + 1) 0 → (n < length cells / 4) × (getD cells (4 * n) 0 ≡ q)
+      numbered′ : (q n : ℕ) → q < t .states → getD first q 0 ≤ n → n < getD first (q + 1) 0 → (n < arcCount cells) × (arcOf cells n .source ≡ q)
       numbered′ q n h a b =
           let f₁ = at q (omega arith) in
           let f₂ = after q h in
           let R = arc-of t anyQuery (U .rising) q n .0 (omega arith, omega arith) in
-          let inside : n < length cells / 4 = omega (arith, size, R .0) in
+          let inside : n < arcCount cells = omega (arith, size, R .0) in
           (inside, sym (ap (λ (x : Arc). x .source) (arc-is n inside)) ∙ R .1)
 
-  -- The graph's arcs are the table's idle arcs.
+  -- The graph's arcs are the table's, so its cycles are the table's idle cycles.
 
   module _ (k : Task) where
-    abbrev up : Bool
-    up = reads k upperSide
+    -- the edges of arcs that are idle for the task
+    abbrev idleEdges : List Arc → ℕ → ℕ → Type 0
+    idleEdges arcs = Leads arcs (idle k)
 
-    abbrev low : Bool
-    low = reads k lowerSide
+    pub found-none : CycleOrNone cells (reads k upperSide) (reads k lowerSide) [] → hasIdleCycle t k ≡ false
+    found-none C = none-there t k (subst (λ (l : List Arc). NoCycle (idleEdges l)) e C)
 
-    edge-arc : {s r : ℕ} → Edge cells up low s r → IdleArc t k s r
-    edge-arc E =
-        let i = arc-is (E .number) (E .inside) in
-        record {
-          arc = getD (t .arcs) (E .number) noArc;
-          listed = listed (E .number) (E .inside);
-          from = ap (λ (a : Arc). a .source) i ∙ E .from;
-          to = ap (λ (a : Arc). a .target) i ∙ E .to;
-          is-idle = ap (idle k) i ∙ E .is-idle;
-        }
+    pub found-states : (s : ℕ) (l : List ℕ) → CycleOrNone cells (reads k upperSide) (reads k lowerSide) (s ∷ l) → CycleStates t k (s ∷ l)
+    found-states s l C = subst (λ (z : List Arc). walks.CycleStates (idleEdges z) (s ∷ l)) e C
 
-    arc-edge : (a : Arc) → List·Memᴰ a (t .arcs) → idle k a ≡ true → Edge cells up low (a .source) (a .target)
-    arc-edge a m w =
-        let P = mem-at (t .arcs) a noArc m in
-        let h : P .0 < length cells / 4 = omega (arith, size, P .1) in
-        let i : arcAt cells (P .0) ≡ a = sym (arc-is (P .0) h) ∙ P .2 in
-        record {
-          number = P .0;
-          inside = h;
-          from = ap (λ (x : Arc). x .source) i;
-          to = ap (λ (x : Arc). x .target) i;
-          is-idle = ap (idle k) i ∙ w;
-        }
-
-    walk-of : {s r : ℕ} → IdleWalk t k s r → Walk cells up low s r
-    walk-of (one a m i) = graph.one (arc-edge a m i)
-    walk-of (andThen a w m i) = edge-last cells up low (walk-of w) (arc-edge a m i)
-
-    through-of : (s : ℕ) (l : List ℕ) (r : ℕ) → Along cells up low s l r → Through t k s l r
-    through-of s [] r E = edge-arc E
-    through-of s (x ∷ l) r A = (edge-arc (A .0), through-of x l r (A .1))
-
-    -- no cycle was found, or the states of one
-
-    pub found-none : CycleOrNone cells up low [] → hasIdleCycle t k ≡ false
-    found-none C = none-there t k (λ s w. C s (walk-of w))
-
-    pub found-states : (s : ℕ) (l : List ℕ) → CycleOrNone cells up low (s ∷ l) → CycleStates t k (s ∷ l)
-    found-states s l C = (through-of s l s (C .0), C .1)
-
-    pub found-some : (s : ℕ) (l : List ℕ) → CycleOrNone cells up low (s ∷ l) → hasIdleCycle t k ≡ true
+    pub found-some : (s : ℕ) (l : List ℕ) → CycleOrNone cells (reads k upperSide) (reads k lowerSide) (s ∷ l) → hasIdleCycle t k ≡ true
     found-some s l C = go (hasIdleCycle t k) refl
       where
         go : (b : Bool) → hasIdleCycle t k ≡ b → b ≡ true

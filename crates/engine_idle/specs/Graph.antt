@@ -1,20 +1,25 @@
 -- What the search for an idle cycle says, on the cells of a table's arcs; upper and lower tell whether a side is read.
-use Prim.Native.Nat.{ℕ, _+_, _*_, _-_, _/_, _<_, _≤_}
+use Prim.Native.Nat.{ℕ, _+_, _-_, _<_, _≤_}
 use mathlib.Core.Path.{_≡_}
 use mathlib.Core.Bool.{Bool, true, false, _&&_}
 use mathlib.Core.List.{List, [], _∷_, _++_}
+use lib.Dec.{eqb}
 use lib.ListN.{length, getD, replicate}
-use Rattle.machine.specs.Idle.{sideIdle, Distinct}
+use Rattle.table_format.specs.declared.Arc as held
+use Rattle.table_format.specs.Table.{Arc}
+use Rattle.table_format.specs.Cells.{arcCount, arcOf, arcsAs}
+use Rattle.graph.specs.Walk.{Walk, NoCycle, CycleStates}
+use Rattle.machine.specs.Idle.{sideIdle, Leads}
 use Rattle.engine_idle.specs.declared.Cycle.{Cycle}
 
 -- the arcs lead among the states, and those of state q are numbered from the index at q up to the index at q + 1
 pub record Graph (arcs first : List ℕ) (states : ℕ) : Type 0 where
   pub few : states ≤ 256
   pub index : length first ≡ 257
-  pub source-in : (n : ℕ) → n < length arcs / 4 → getD arcs (4 * n) 0 < states
-  pub target-in : (n : ℕ) → n < length arcs / 4 → getD arcs (4 * n + 3) 0 < states
-  pub indexed : (n : ℕ) → n < length arcs / 4 → (getD first (getD arcs (4 * n) 0) 0 ≤ n) × (n < getD first (getD arcs (4 * n) 0 + 1) 0)
-  pub numbered : (q n : ℕ) → q < states → getD first q 0 ≤ n → n < getD first (q + 1) 0 → (n < length arcs / 4) × (getD arcs (4 * n) 0 ≡ q)
+  pub source-in : (n : ℕ) → n < arcCount arcs → arcOf arcs n .source < states
+  pub target-in : (n : ℕ) → n < arcCount arcs → arcOf arcs n .target < states
+  pub indexed : (n : ℕ) → n < arcCount arcs → (getD first (arcOf arcs n .source) 0 ≤ n) × (n < getD first (arcOf arcs n .source + 1) 0)
+  pub numbered : (q n : ℕ) → q < states → getD first q 0 ≤ n → n < getD first (q + 1) 0 → (n < arcCount arcs) × (arcOf arcs n .source ≡ q)
 
 -- the sum of cells
 unfoldable pub total : List ℕ → ℕ
@@ -30,43 +35,33 @@ pub record FirstAlive (alive : List ℕ) (r : ℕ) : Type 0 where
   pub lives : r < length alive → getD alive r 0 ≡ 1
   pub none-lives : length alive ≤ r → (s : ℕ) → s < length alive → getD alive s 0 ≡ 1 → ⊥
 
+-- an arc is idle
+abbrev pub idleBy : Bool → Bool → Arc → Bool
+idleBy upper lower a = sideIdle upper (a .upper) && sideIdle lower (a .lower)
+
+-- an arc, as code holds it, is idle and leads to a state that is alive
+abbrev pub leadsAlive : Bool → Bool → List ℕ → held.Arc → Bool
+leadsAlive upper lower alive a = (sideIdle upper (a .upper) && sideIdle lower (a .lower)) && eqb (getD alive (a .target) 0) 1
+
 module _ (arcs : List ℕ) (upper lower : Bool) where
-  -- arc n is idle
-  abbrev pub idleAt : ℕ → Bool
-  idleAt n = sideIdle upper (getD arcs (4 * n + 1) 0) && sideIdle lower (getD arcs (4 * n + 2) 0)
-
   -- an idle arc leads from s to r
-  pub record Edge (s r : ℕ) : Type 0 where
-    pub number : ℕ
-    pub inside : number < length arcs / 4
-    pub from : getD arcs (4 * number) 0 ≡ s
-    pub to : getD arcs (4 * number + 3) 0 ≡ r
-    pub is-idle : idleAt number ≡ true
-
-  -- a walk of one or more idle arcs
-  pub data Walk : ℕ → ℕ → Type 0 where
-    one : {s r : ℕ} → Edge s r → Walk s r
-    andThen : {s x r : ℕ} → Edge s x → Walk x r → Walk s r
-
-  -- idle arcs lead from s through the states l to r
-  abbrev pub Along : ℕ → List ℕ → ℕ → Type 0
-  Along s [] r = Edge s r
-  Along s (x ∷ l) r = Edge s x × Along x l r
+  abbrev pub IdleEdge : ℕ → ℕ → Type 0
+  IdleEdge = Leads (arcsAs arcs) (idleBy upper lower)
 
   -- A state is alive where its cell is 1.
 
   -- every state on a cycle is alive
   abbrev pub Cyclic : List ℕ → Type 0
-  Cyclic alive = (s : ℕ) → Walk s s → getD alive s 0 ≡ 1
+  Cyclic alive = (s : ℕ) → Walk IdleEdge s s → getD alive s 0 ≡ 1
 
   -- an idle arc leads from every state that is alive to one that is
   abbrev pub Stable : List ℕ → Type 0
-  Stable alive = (s : ℕ) → s < length alive → getD alive s 0 ≡ 1 → (r : ℕ) × Edge s r × (getD alive r 0 ≡ 1)
+  Stable alive = (s : ℕ) → s < length alive → getD alive s 0 ≡ 1 → (r : ℕ) × IdleEdge s r × (getD alive r 0 ≡ 1)
 
   -- r is a state that is alive and to which an idle arc leads from q, or beyond the states where there is none
   pub record Next (alive : List ℕ) (q r : ℕ) : Type 0 where
-    pub found : r < 256 → Edge q r × (getD alive r 0 ≡ 1)
-    pub none-found : 256 ≤ r → (x : ℕ) → Edge q x → getD alive x 0 ≡ 1 → ⊥
+    pub leads-on : r < 256 → IdleEdge q r × (getD alive r 0 ≡ 1)
+    pub leads-nowhere : 256 ≤ r → (x : ℕ) → IdleEdge q x → getD alive x 0 ≡ 1 → ⊥
 
   -- a round, and whether a state died in it
   pub record Peeled (before after : List ℕ) (died : Bool) : Type 0 where
@@ -84,8 +79,8 @@ module _ (arcs : List ℕ) (upper lower : Bool) where
 
   -- the states of a cycle, none twice, in walking order; none where there is no cycle
   abbrev pub CycleOrNone : List ℕ → Type 0
-  CycleOrNone [] = (s : ℕ) → Walk s s → ⊥
-  CycleOrNone (s ∷ l) = Along s l s × Distinct (s ∷ l)
+  CycleOrNone [] = NoCycle IdleEdge
+  CycleOrNone (s ∷ l) = CycleStates IdleEdge (s ∷ l)
 
   -- what the search finds
   pub record FoundCycle (c : Cycle) : Type 0 where

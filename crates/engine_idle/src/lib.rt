@@ -1,12 +1,12 @@
-// The search for an idle cycle. States die in rounds: one lives while an idle arc leads from it to a living state. Where some are left,
-// a walk among them comes back to a state, and from there on it is a cycle.
+// The search for an idle cycle, by leaf removal: in rounds, a state without an idle arc to a state that remains is removed, until none is.
+// A state remains ("is alive") while its cell is 1. Where some remain, a walk among them comes back to a state, and from there on it is a
+// cycle. `leads` looks at an arc, `next` at the arcs of a state, `peel` makes a round, `settle` all of them, `walk` finds the cycle.
+use table_format::Arc;
 ghost use mathlib.Core.Path.{_≡_};
-ghost use mathlib.Core.Bool.{_&&_};
-ghost use Prim.Native.Nat.{_+_, _*_, _-_, _/_, _≤_, _<_};
+ghost use Prim.Native.Nat.{_-_, _≤_, _<_};
 ghost use lib.ListN.{length, getD, take, drop};
-ghost use lib.Dec.{eqb};
 ghost use Rattle.machine.specs.Idle.{sideIdle};
-ghost use Rattle.engine_idle.specs.Graph.{idleAt, Graph, Cyclic, Stable, Next, Peeled, Settled, FirstAlive, cycleCells, FoundCycle};
+ghost use Rattle.engine_idle.specs.Graph.{Graph, leadsAlive, Cyclic, Stable, Next, Peeled, Settled, FirstAlive, cycleCells, FoundCycle};
 
 // The states of an idle cycle, from the front; none where there is no such cycle.
 pub struct Cycle {
@@ -24,14 +24,14 @@ fn side_idle(read: bool, letter: u16) -> bool
     true
 }
 
-// Arc `n` is idle and leads to a living state.
-fn leads(arcs: &[u16], n: usize, upper: bool, lower: bool, alive: &[u8]) -> bool
-    requires { ⌜ (n < length (now arcs) / 4) × (getD (now arcs) (4 * n + 3) 0 < length (now alive)) ⌝ }
-    ensures { λ r. ⌜ r ≡ (idleAt (now (arcs .entry)) upper lower n && eqb (getD (now (alive .entry)) (getD (now (arcs .entry)) (4 * n + 3) 0) 0) 1) ⌝ }
+// The arc is idle and leads to a living state.
+fn leads(arc: Arc, upper: bool, lower: bool, alive: &[u8]) -> bool
+    requires { ⌜ arc .target < length (now alive) ⌝ }
+    ensures { λ r. ⌜ r ≡ leadsAlive upper lower (now (alive .entry)) arc ⌝ }
 {
-    if side_idle(upper, arcs[4 * n + 1]) {
-        if side_idle(lower, arcs[4 * n + 2]) {
-            let target = widen::cell_as_index(arcs[4 * n + 3]);
+    if side_idle(upper, arc.upper) {
+        if side_idle(lower, arc.lower) {
+            let target = widen::cell_as_index(arc.target);
             return alive[target] == 1;
         }
     }
@@ -47,8 +47,10 @@ fn next(arcs: &[u16], first: &[u16], q: usize, upper: bool, lower: bool, alive: 
     let end = widen::cell_as_index(first[q + 1]);
     let mut n = widen::cell_as_index(first[q]);
     while n < end {
-        if leads(arcs, n, upper, lower, alive) {
-            return arcs[4 * n + 3];
+        let arc = table_format::arc_at(arcs, n);
+        let target = arc.target;
+        if leads(arc, upper, lower, alive) {
+            return target;
         }
         n += 1;
     }

@@ -19,7 +19,7 @@ use Rattle.machine.specs.Report.{Kernel, Cell, Trace, null, thence, Walk
 use Rattle.machine.specs.Agree.{place, inputOf, outputOf, TraceFor, Same}
 use Rattle.machine.proofs.Transducer.{at-mem, mem-at, onward-parts}
 use Rattle.machine.proofs.Bound.{countIf, within, has-datum}
-use Rattle.machine.proofs.Idle.{member-mem, mem-member}
+use Rattle.graph.proofs.Lists.{member-mem, mem-member}
 use Rattle.machine.proofs.Traces.{sideData, trace-end, letters, dataOf, beginAt, TraceOf, PathOf, path-trace, trace-path, path-unique}
 
 -- a path that accepts with the reading x

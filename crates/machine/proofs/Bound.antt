@@ -1,10 +1,9 @@
 -- Without an idle cycle a path that the words allow has fewer arcs than (letters to read + 1) × states.
-use Prim.Native.Nat.{ℕ, zero, suc, _+_, _*_, _<_, _≤_}
-use mathlib.Core.Path.{_≡_, refl, subst, sym, _∙_}
+use Prim.Native.Nat.{ℕ, zero, suc, _+_, _<_, _≤_}
+use mathlib.Core.Path.{_≡_, refl, subst}
 use mathlib.Core.Bool.{Bool, true, false, _&&_}
 use mathlib.Core.Option.{some}
-use mathlib.Core.Logic.{⊎-elim}
-use mathlib.Core.List.{List, [], _∷_, List·Memᴰ, List·Memᴰ·not-nil, List·Memᴰ·cases-cons}
+use mathlib.Core.List.{List, List·Memᴰ}
 use native.Mathlib.Omega.{arith}
 use native.Mathlib.Nat.{mul-le-mul-right}
 use lib.ListN.{length, getD}
@@ -12,11 +11,13 @@ use lib.Dec.{eqb}
 use borrow.Author.Tests.{eqb-true}
 use Rattle.table_format.specs.Table.{Arc, Table}
 use Rattle.table_format.proofs.Ruled.{Ruled}
-use Rattle.machine.specs.Query.{Task, Side, upperSide, lowerSide, reads, letter, word, Query}
+use Rattle.graph.specs.Cost.{Costly, stay, freely, paying}
+use Rattle.graph.proofs.Cost.{few-edges}
+use Rattle.machine.specs.Query.{Side, upperSide, lowerSide, reads, letter, word, Query}
 use Rattle.machine.specs.Transducer.{noArc, arcAt, sideFollow, sideToRead, Passed, passed, nothingPassed, followArc, toReadOn, lettersToRead, machine}
 use Rattle.machine.specs.Machine.{Path, start, more, final, datum, size, Allowed, Bounded}
-use Rattle.machine.specs.Idle.{sideIdle, idleOn, idle, IdleWalk, one, andThen, NoIdleCycle, Distinct}
-use Rattle.machine.proofs.Pigeon.{AllBelow, pigeon}
+use Rattle.machine.specs.Idle.{sideIdle, idleOn, idle, Leads, IdleArc, NoIdleCycle}
+use Rattle.machine.proofs.Idle.{among}
 use Rattle.machine.proofs.Transducer.{arc-of, at-mem, onward-parts, follow-parts, somewhen-parts, getD-lt}
 
 abbrev pub countIf : Bool → ℕ → ℕ
@@ -42,28 +43,12 @@ other-false : (a b : Bool) → (a && b) ≡ false → a ≡ true → b ≡ false
 other-false true b e h = e
 other-false false b e h = cc
 
--- States since the last arc that is not idle: the last state s and different states from which idle walks lead there.
-module _ (t : Table) (k : Task) where
-  abbrev Linked : ℕ → List ℕ → Type 0
-  Linked s l = (x : ℕ) → List·Memᴰ x l → IdleWalk t k x s
+-- any arc of the table; one that passes a test is one
+abbrev AnyArc : Table → ℕ → ℕ → Type 0
+AnyArc t = Leads (t .arcs) (λ a. true)
 
-  pub record RecentLaw (s : ℕ) (l : List ℕ) : Type 0 where
-    pub before : List ℕ
-    pub is : l ≡ s ∷ before
-    pub linked : Linked s before
-    pub distinct : Distinct l
-
-  pub alone : (s : ℕ) → RecentLaw s (s ∷ [])
-  alone s = record { before = []; is = refl; linked = λ x m. absurd (List·Memᴰ·not-nil m); distinct = (λ m. List·Memᴰ·not-nil m, tt) }
-
-  pub extended : NoIdleCycle t k → (s : ℕ) (l : List ℕ) → RecentLaw s l → (a : Arc) → List·Memᴰ a (t .arcs) → a .source ≡ s → idle k a ≡ true → RecentLaw (a .target) (a .target ∷ l)
-  extended none-idle s l T a m e i = record { before = l; is = refl; linked = linked; distinct = (λ j. none-idle (a .target) (linked (a .target) j), T .distinct) }
-    where
-      linked : Linked (a .target) l
-      linked x j =
-          ⊎-elim (λ w. subst (λ (z : ℕ). IdleWalk t k z (a .target)) (e ∙ sym w) (one a m i))
-          (λ w. andThen a (subst (λ (z : ℕ). IdleWalk t k x z) (sym e) (T .linked x w)) m i)
-          (List·Memᴰ·cases-cons (subst (λ (z : List ℕ). List·Memᴰ x z) (T .is) j))
+any-arc : {arcs : List Arc} {test : Arc → Bool} (s r : ℕ) → Leads arcs test s r → Leads arcs (λ a. true) s r
+any-arc s r A = record { arc = A .arc; listed = A .listed; from = A .from; to = A .to; passes = refl }
 
 module _ (t : Table) (q : Query) where
   abbrev pub readOn : Side → Passed → ℕ
@@ -99,15 +84,6 @@ module _ (t : Table) (q : Query) where
       go true eb = omega (arith, arc-law a d e h upperSide .grows, arc-law a d e h lowerSide .steps (other-false (idleOn (q .task) upperSide a) (idleOn (q .task) lowerSide a) i eb))
       go false eb = omega (arith, arc-law a d e h upperSide .steps eb, arc-law a d e h lowerSide .grows)
 
-  -- the states since the last arc that is not idle, the last one first
-  abbrev since : Bool → ℕ → List ℕ → List ℕ
-  since true s l = s ∷ l
-  since false s l = s ∷ []
-
-  abbrev recent : Path → List ℕ
-  recent (start i) = getD (t .initials) i 0 ∷ []
-  recent (more p n) = since (idle (q .task) (arcAt t n)) (arcAt t n .target) (recent p)
-
   pub has-datum : (p : Path) → Allowed (machine t q) p → (d : Passed) × (datum (machine t q) p ≡ some d)
   has-datum (start i) A = (nothingPassed, refl)
   has-datum (more p n) A = A .2
@@ -117,40 +93,46 @@ module _ (t : Table) (q : Query) where
     last-arc : (p : Path) (n : ℕ) → Allowed (machine t q) (more p n) → List·Memᴰ (arcAt t n) (t .arcs) × (arcAt t n .source ≡ final (machine t q) p)
     last-arc p n A = let h = arc-of t q (R .rising) (final (machine t q) p) n .0 (A .1) in (at-mem (t .arcs) n noArc (h .0), h .1)
 
-    recent-law : (p : Path) → Allowed (machine t q) p → RecentLaw t (q .task) (final (machine t q) p) (recent p)
-    recent-law (start i) A = alone t (q .task) (getD (t .initials) i 0)
-    recent-law (more p n) A = go (idle (q .task) (arcAt t n)) refl (recent-law p (A .0))
-      where
-        go : (b : Bool) → idle (q .task) (arcAt t n) ≡ b → RecentLaw t (q .task) (final (machine t q) p) (recent p) → RecentLaw t (q .task) (arcAt t n .target) (since b (arcAt t n .target) (recent p))
-        go true e T = let L = last-arc p n A in extended t (q .task) none-idle (final (machine t q) p) (recent p) T (arcAt t n) (L .0) (L .1) e
-        go false e T = alone t (q .task) (arcAt t n .target)
+    -- a path is a walk whose idle arcs are free; its cost is at most what is read
+    record CostOf (p : Path) (d : Passed) : Type 0 where
+      from : ℕ
+      initially : List·Memᴰ from (t .initials)
+      cost : ℕ
+      walk : Costly (AnyArc t) (IdleArc t (q .task)) from (final (machine t q) p) (size p) cost
+      within-read : cost ≤ readCount d
 
-    recent-below : (p : Path) → Allowed (machine t q) p → AllBelow (t .states) (recent p)
-    recent-below (start i) A x k = ⊎-elim (λ w. rw w (R .initial-in _ (at-mem (t .initials) i 0 A))) (λ w. absurd (List·Memᴰ·not-nil w)) (List·Memᴰ·cases-cons k)
-    recent-below (more p n) A x k = go (idle (q .task) (arcAt t n)) k (λ w. recent-below p (A .0) x w)
-      where
-        go : (b : Bool) → List·Memᴰ x (since b (arcAt t n .target) (recent p)) → (List·Memᴰ x (recent p) → x < t .states) → x < t .states
-        go true m r = ⊎-elim (λ w. rw w (R .target-in _ (last-arc p n A .0))) r (List·Memᴰ·cases-cons m)
-        go false m r = ⊎-elim (λ w. rw w (R .target-in _ (last-arc p n A .0))) (λ w. absurd (List·Memᴰ·not-nil w)) (List·Memᴰ·cases-cons m)
-
-    recent-short : (p : Path) → Allowed (machine t q) p → length (recent p) ≤ t .states
-    recent-short p A = pigeon (t .states) (recent p) (recent-law p A .distinct) (recent-below p A)
-
-    sized : (p : Path) → Allowed (machine t q) p → (d : Passed) → datum (machine t q) p ≡ some d → suc (size p) ≤ readCount d * t .states + length (recent p)
-    sized (start i) A d e = omega arith
-    sized (more p n) A d e =
+    cost-of : (p : Path) → Allowed (machine t q) p → (d : Passed) → datum (machine t q) p ≡ some d → CostOf p d
+    cost-of (start i) A d e = record { from = getD (t .initials) i 0; initially = at-mem (t .initials) i 0 A; cost = 0; walk = stay; within-read = omega arith }
+    cost-of (more p n) A d e =
         let P = onward-parts (datum (machine t q) p) (λ x. followArc q (arcAt t n) x) d e in
-        go (P .0) (P .2) (idle (q .task) (arcAt t n)) refl (sized p (A .0) (P .0) (P .1)) (recent-short p (A .0))
+        go (P .0) (P .2) (idle (q .task) (arcAt t n)) refl (cost-of p (A .0) (P .0) (P .1)) (last-arc p n A)
       where
-        go : (c : Passed) → followArc q (arcAt t n) c ≡ some d → (b : Bool) → idle (q .task) (arcAt t n) ≡ b → suc (size p) ≤ readCount c * t .states + length (recent p) → length (recent p) ≤ t .states
-            → suc (suc (size p)) ≤ readCount d * t .states + length (since b (arcAt t n .target) (recent p))
-        go c f true i h k =
-            let g : readCount c ≤ readCount d = omega (arith, arc-law (arcAt t n) c d f upperSide .grows, arc-law (arcAt t n) c d f lowerSide .grows) in
-            omega (arith, mul-le-mul-right (t .states) g)
-        go c f false i h k = omega (arith, mul-le-mul-right (t .states) (reads-more (arcAt t n) c d f i))
+        go : (c : Passed) → followArc q (arcAt t n) c ≡ some d → (b : Bool) → idle (q .task) (arcAt t n) ≡ b → CostOf p c
+            → List·Memᴰ (arcAt t n) (t .arcs) × (arcAt t n .source ≡ final (machine t q) p) → CostOf (more p n) d
+        go c f true i C L =
+            record {
+              from = C .from;
+              initially = C .initially;
+              cost = C .cost;
+              walk = freely (C .walk) (record { arc = arcAt t n; listed = L .0; from = L .1; to = refl; passes = i });
+              within-read = omega (arith, C .within-read, arc-law (arcAt t n) c d f upperSide .grows, arc-law (arcAt t n) c d f lowerSide .grows);
+            }
+        go c f false i C L =
+            record {
+              from = C .from;
+              initially = C .initially;
+              cost = suc (C .cost);
+              walk = paying (C .walk) (record { arc = arcAt t n; listed = L .0; from = L .1; to = refl; passes = refl });
+              within-read = omega (arith, C .within-read, reads-more (arcAt t n) c d f i);
+            }
 
     pub bounded : Bounded (machine t q)
     bounded p A =
         let D = has-datum p A in
-        let h : readCount (D .0) ≤ lettersToRead q = omega (arith, within p (D .0) (D .1) upperSide, within p (D .0) (D .1) lowerSide) in
-        omega (arith, mul-le-mul-right (t .states) h, sized p A (D .0) (D .1), recent-short p A)
+        let C = cost-of p A (D .0) (D .1) in
+        let h : C .cost ≤ lettersToRead q = omega (arith, C .within-read, within p (D .0) (D .1) upperSide, within p (D .0) (D .1) lowerSide) in
+        omega (
+          arith,
+          mul-le-mul-right (t .states) h,
+          few-edges (AnyArc t) (IdleArc t (q .task)) (t .states) (t .initials) any-arc (among t R (λ a. true)) (λ s r w. none-idle s w) (R .initial-in) (C .from) (C .initially) (C .walk),
+        )

@@ -7,7 +7,6 @@ pub mod Order
 pub mod Turn
 pub mod Stops
 pub mod Call
-pub mod Pigeon
 pub mod Transducer
 pub mod Range
 pub mod Stack

@@ -9,14 +9,14 @@ use lib.ListN.{length}
 use Rattle.table_format.specs.Table.{Arc, Table}
 use Rattle.table_format.proofs.Tests.{and-left, and-right}
 use Rattle.table_format.proofs.Ruled.{Ruled}
+use Rattle.graph.proofs.Walk.{rotated}
 use Rattle.machine.specs.Query.{Task, Side, upperSide, lowerSide, reads, letter, Query}
 use Rattle.machine.specs.Machine.{Path, start, more, size}
 use Rattle.machine.specs.Transducer.{sideWrites, nothingPassed, machine}
-use Rattle.machine.specs.Idle.{sideIdle, idle, IdleWalk, one, andThen, NoIdleCycle}
+use Rattle.machine.specs.Idle.{sideIdle, idle, IdleArc, IdleWalk, NoIdleCycle}
 use Rattle.machine.specs.Report.{Word, Cell, Edge, Noetherian, kernel}
 use Rattle.machine.specs.Agree.{arcsBack}
 use Rattle.machine.proofs.Bound.{bounded}
-use Rattle.machine.proofs.Idle.{first, rotated}
 use Rattle.machine.proofs.Traces.{sideData, sideRel, on, from-sides, PathOf, extend}
 
 size-is : (t : Table) (p : Path) → size p ≡ length (arcsBack t p)
@@ -84,15 +84,11 @@ module _ (t : Table) (k : Task) (U : Ruled t) where
         extend t′ q′ v U′ 0 (c n) (c (suc n)) (edges n) (path n)
         (record { arc = E n .arc; listed = E n .listed; from = E n .from; to = E n .to; related = E n .related })
 
-    moved : {s e : ℕ} → IdleWalk t′ k s e → IdleWalk t k s e
-    moved (one a m i) = one a m i
-    moved (andThen a w m i) = andThen a (moved w) m i
-
     never : NoIdleCycle t k → ⊥
     never N =
         let n : ℕ = machine t′ q′ .limit in
         let P = path n in
-        let h : size (P .path) < n = bounded t′ q′ (λ s w. N s (moved w)) U′ (P .path) (P .allowed) in
+        let h : size (P .path) < n = bounded t′ q′ N U′ (P .path) (P .allowed) in
         let e : size (P .path) ≡ n = size-is t′ (P .path) ∙ ap length (P .arcs-are) ∙ edges-length n in
         omega (arith, h, e)
 
@@ -117,16 +113,19 @@ module _ (t : Table) (k : Task) (U : Ruled t) where
   module _ (s : ℕ) (w : IdleWalk t k s s) where
     abbrev turn : ℕ → (x : ℕ) × IdleWalk t k x x
     turn zero = (s, w)
-    turn (suc n) = (first t k (turn n .1) .arc .target, rotated t k (first t k (turn n .1)))
+    turn (suc n) = (rotated (IdleArc t k) (turn n .0) (turn n .1) .0, rotated (IdleArc t k) (turn n .0) (turn n .1) .2)
+
+    abbrev arcAfter : (n : ℕ) → IdleArc t k (turn n .0) (turn (suc n) .0)
+    arcAfter n = rotated (IdleArc t k) (turn n .0) (turn n .1) .1
 
     abbrev dataAt : ℕ → Word × Word
     dataAt zero = ([], [])
-    dataAt (suc n) = movedBy (first t k (turn n .1) .arc) (dataAt n)
+    dataAt (suc n) = movedBy (arcAfter n .arc) (dataAt n)
 
     endless : (n : ℕ) → Edge (kernel t k) (dataAt n, turn n .0) (dataAt (suc n), turn (suc n) .0)
     endless n =
-        let F = first t k (turn n .1) in
-        record { arc = F .arc; listed = F .in-arcs; from = F .from-s; to = refl; related = from-sides k (F .arc) (dataAt n) (dataAt (suc n)) (idle-related (F .arc) (dataAt n) (F .is-idle)) }
+        let A = arcAfter n in
+        record { arc = A .arc; listed = A .listed; from = A .from; to = A .to; related = from-sides k (A .arc) (dataAt n) (dataAt (suc n)) (idle-related (A .arc) (dataAt n) (A .passes)) }
 
   pub noetherian : NoIdleCycle t k → Noetherian (kernel t k)
   noetherian N c E = never c E N

@@ -3,36 +3,18 @@ use Prim.Native.Nat.{ℕ, zero, suc, _+_, _≤_, _<_}
 use native.Mathlib.Omega.{arith}
 use mathlib.Core.Path.{_≡_, refl, sym, ap, ap₂, subst, subst₂, _∙_}
 use mathlib.Core.Logic.{_↔_, _⊎_, inl, inr, ⊎-elim}
-use mathlib.Core.Bool.{Bool, true, false}
+use mathlib.Core.Bool.{Bool, true, false, cond}
 use mathlib.Core.Option.{Option, none, some}
 use mathlib.Core.List.{List, [], _∷_, _++_, append-assoc, List·Memᴰ, List·Memᴰ·head, List·Memᴰ·tail, List·Memᴰ·not-nil, List·Memᴰ·cases-cons, List·Memᴰ·append-cases, Memᴰ·append-left, Memᴰ·append-right}
 use lib.ListN.{length}
 use lib.Dec.{eqb}
 use borrow.Author.Tests.{eqb-true, eqb-false}
+use Rattle.graph.specs.Lists.{keep, Before}
+use Rattle.graph.proofs.Lists.{keep-mem, mem-keep, before-same, before-trans, before-never}
 use Rattle.machine.specs.Machine.{Machine, Path, start, more, size, numbers, final, datum, accepts, output, Allowed, Bounded}
 use Rattle.machine.specs.Tour.{Entry, branch, trail, following, after, tourFrom, tour, readingIf, readings, pathsIn, nodesIf, longer, pathsFrom, pathsOf, allowedPaths}
-use Rattle.machine.specs.Order.{Before, Rising, keptIf, accepting, outputs, ListsAllowed, Lists}
+use Rattle.machine.specs.Order.{Rising, accepting, outputs, ListsAllowed, Lists}
 use Rattle.machine.proofs.Tour.{unrolls, tour-is}
-
--- The order of words.
-
-before-same : (l a b : List ℕ) → Before a b → Before (l ++ a) (l ++ b)
-before-same [] a b h = h
-before-same (x ∷ l) a b h = inr (refl, before-same l a b h)
-
-pub before-trans : (a b c : List ℕ) → Before a b → Before b c → Before a c
-before-trans [] [] c h k = absurd h
-before-trans [] (y ∷ b) [] h k = absurd k
-before-trans [] (y ∷ b) (z ∷ c) h k = tt
-before-trans (x ∷ a) [] c h k = absurd h
-before-trans (x ∷ a) (y ∷ b) [] h k = absurd k
-before-trans (x ∷ a) (y ∷ b) (z ∷ c) h k =
-    ⊎-elim (λ u. ⊎-elim (λ v. inl (omega arith)) (λ v. let e : y ≡ z = v .0 in inl (omega arith)) k)
-    (λ u. let d : x ≡ y = u .0 in ⊎-elim (λ v. inl (omega arith)) (λ v. inr (d ∙ v .0, before-trans a b c (u .1) (v .1))) k) h
-
-pub before-never : (a : List ℕ) → Before a a → ⊥
-before-never [] h = h
-before-never (x ∷ a) h = ⊎-elim (λ u. omega arith) (λ u. before-never a (u .1)) h
 
 -- Rising lists.
 
@@ -42,6 +24,15 @@ rising-append (p ∷ a) b A B h = (
   λ r m. ⊎-elim (λ u. A .0 r u) (λ u. h p r (List·Memᴰ·head refl) u) (List·Memᴰ·append-cases a m),
   rising-append a b (A .1) B (λ x r m k. h x r (List·Memᴰ·tail m) k),
 )
+
+-- those that pass a test rise too
+pub rising-keep : (test : Path → Bool) (ps : List Path) → Rising ps → Rising (keep test ps)
+rising-keep test [] R = tt
+rising-keep test (p ∷ ps) R = go (test p) (rising-keep test ps (R .1))
+  where
+    go : (b : Bool) → Rising (keep test ps) → Rising (cond b (p ∷ keep test ps) (keep test ps))
+    go true S = (λ r m. R .0 r (keep-mem test ps r m .0), S)
+    go false S = S
 
 -- a rising list is told by its members
 pub rising-unique : (a b : List Path) → Rising a → Rising b → ((p : Path) → List·Memᴰ p a ↔ List·Memᴰ p b) → a ≡ b
@@ -270,40 +261,18 @@ module _ (M : Machine) where
   readings-outputs (none ∷ es) = readings-outputs es
   readings-outputs (some p ∷ es) = go (accepts M p) (readings-outputs es)
     where
-      go : (b : Bool) → readings M es ≡ outputs M (accepting M (pathsIn es)) → readingIf M b (output M p) ++ readings M es ≡ outputs M (keptIf b p (accepting M (pathsIn es)))
+      go : (b : Bool) → readings M es ≡ outputs M (accepting M (pathsIn es)) → readingIf M b (output M p) ++ readings M es ≡ outputs M (cond b (p ∷ accepting M (pathsIn es)) (accepting M (pathsIn es)))
       go true e = ap (λ (l : List (List ℕ)). output M p ∷ l) e
       go false e = e
-
-  accepting-mem : (ps : List Path) (r : Path) → List·Memᴰ r (accepting M ps) ↔ (List·Memᴰ r ps × (accepts M r ≡ true))
-  accepting-mem [] r = (λ m. absurd (List·Memᴰ·not-nil m), λ m. absurd (List·Memᴰ·not-nil (m .0)))
-  accepting-mem (p ∷ ps) r = go (accepts M p) refl (accepting-mem ps r)
-    where
-      go : (b : Bool) → accepts M p ≡ b → List·Memᴰ r (accepting M ps) ↔ (List·Memᴰ r ps × (accepts M r ≡ true)) → List·Memᴰ r (keptIf b p (accepting M ps)) ↔ (List·Memᴰ r (p ∷ ps) × (accepts M r ≡ true))
-      go true e I = (
-        λ m. ⊎-elim (λ u. (List·Memᴰ·head u, ap (accepts M) u ∙ e)) (λ u. (List·Memᴰ·tail (I .0 u .0), I .0 u .1)) (List·Memᴰ·cases-cons m),
-        λ m. ⊎-elim (λ u. List·Memᴰ·head u) (λ u. List·Memᴰ·tail (I .1 (u, m .1))) (List·Memᴰ·cases-cons (m .0)),
-      )
-      go false e I = (
-        λ m. (List·Memᴰ·tail (I .0 m .0), I .0 m .1),
-        λ m. ⊎-elim (λ u. absurd (let z : _≡_ {A = Bool} true false = sym (m .1) ∙ ap (accepts M) u ∙ e in let y : _≡_ {A = ℕ} 0 1 = cc in omega arith)) (λ u. I .1 (u, m .1)) (List·Memᴰ·cases-cons (m .0)),
-      )
-
-  accepting-rising : (ps : List Path) → Rising ps → Rising (accepting M ps)
-  accepting-rising [] P = tt
-  accepting-rising (p ∷ ps) P = go (accepts M p) (accepting-rising ps (P .1))
-    where
-      go : (b : Bool) → Rising (accepting M ps) → Rising (keptIf b p (accepting M ps))
-      go true I = (λ r m. P .0 r (accepting-mem ps r .0 m .0), I)
-      go false I = I
 
   -- The tour lists the accepting paths, and there is no other list of them.
   pub tour-lists : Bounded M → Lists M (accepting M (pathsIn (tour M)))
   tour-lists B =
       record {
-        rising = accepting-rising (pathsIn (tour M)) tour-rising;
+        rising = rising-keep (accepts M) (pathsIn (tour M)) tour-rising;
         members = λ p. (
-          λ m. let x = accepting-mem (pathsIn (tour M)) p .0 m in (tour-paths B p .0 (x .0), x .1),
-          λ m. accepting-mem (pathsIn (tour M)) p .1 (tour-paths B p .1 (m .0), m .1),
+          λ m. let x = keep-mem (accepts M) (pathsIn (tour M)) p m in (tour-paths B p .0 (x .0), x .1),
+          λ m. mem-keep (accepts M) (pathsIn (tour M)) p (tour-paths B p .1 (m .0)) (m .1),
         );
       }
 

@@ -1,10 +1,11 @@
 -- What a start tells: where it is ready, all that demand 3 uses; 12 exactly where there is an idle cycle; and a start can always be made.
-use Prim.Native.Nat.{ℕ, _-_, _≤_, _<_}
+use Prim.Native.Nat.{ℕ, _-_, _≤_}
 use native.Mathlib.Omega.{arith}
 use mathlib.Core.Path.{_≡_, refl, sym, ap, subst, _∙_}
 use mathlib.Core.Logic.{_↔_, ⊎-elim}
 use mathlib.Core.Bool.{Bool, true, false, cond}
-use mathlib.Core.List.{List, [], _∷_, List·Memᴰ·cases-cons, List·Memᴰ·not-nil}
+use mathlib.Core.Option.{some}
+use mathlib.Core.List.{List, []}
 use lib.ListN.{length, take, replicate, length-append, length-replicate}
 use lib.Seq.{take-append-seam}
 use Rattle.refusal.specs.declared.Refusal.{Refusal}
@@ -14,15 +15,15 @@ use Rattle.table_format.specs.Table.{Table}
 use Rattle.refusal.specs.Refusal.{numberOf}
 use Rattle.table_format.specs.Loaded.{loaded}
 use Rattle.table_format.proofs.Ruled.{Ruled, ruled}
+use Rattle.graph.proofs.Walk.{cycle-short}
 use Rattle.machine.specs.declared.StartAnswer.the-variants.{Ready, Refused}
 use Rattle.machine.specs.declared.Started.{Started}
 use Rattle.machine.specs.Query.{Task, Query}
-use Rattle.machine.specs.Idle.{IdleWalk, Through, CycleStates, hasIdleCycle}
+use Rattle.machine.specs.Idle.{idle, IdleArc, IdleWalk, CycleStates, hasIdleCycle}
 use Rattle.machine.specs.Asked.{Asked, turned, runs, asked}
 use Rattle.machine.specs.Start.{firstRun, startedWith, startedAs, started, TellsCycle, startToldBy, StartedIs, StartIs}
 use Rattle.machine.proofs.Told.{start-told-one}
-use Rattle.machine.proofs.Pigeon.{AllBelow, pigeon}
-use Rattle.machine.proofs.Idle.{cycle-there, cycle-walk, none-found}
+use Rattle.machine.proofs.Idle.{among, cycle-there, cycle-walk, none-found}
 use Rattle.machine.proofs.Asked.{asked-facts, TurnedBy, turned-by, same-asked}
 
 -- a result that tells what another tells is the same
@@ -89,15 +90,8 @@ module _ (cells : List ℕ) (task : ℕ) (upper lower : List ℕ) where
 
 -- a cycle's states are states, at most as many as there are
 module _ (t : Table) (k : Task) (U : Ruled t) where
-  through-below : (s : ℕ) (l : List ℕ) (r : ℕ) → Through t k s l r → AllBelow (t .states) (s ∷ l)
-  through-below s [] r T x m =
-      ⊎-elim (λ u. subst (λ (z : ℕ). z < t .states) (T .from ∙ sym u) (U .source-in (T .arc) (T .listed))) (λ u. absurd (List·Memᴰ·not-nil u)) (List·Memᴰ·cases-cons m)
-  through-below s (y ∷ l) r T x m =
-      ⊎-elim (λ u. subst (λ (z : ℕ). z < t .states) (T .0 .from ∙ sym u) (U .source-in (T .0 .arc) (T .0 .listed))) (through-below y l r (T .1) x) (List·Memᴰ·cases-cons m)
-
   pub cycle-length : (c : List ℕ) → CycleStates t k c → length c ≤ t .states
-  cycle-length [] C = absurd C
-  cycle-length (s ∷ l) C = pigeon (t .states) (s ∷ l) (C .1) (through-below s l s (C .0))
+  cycle-length = cycle-short (IdleArc t k) (t .states) (among t U (idle k))
 
 -- a start that is asked for a table and a query
 module _ (cells : List ℕ) (task : ℕ) (upper lower : List ℕ) (t : Table) (q : Query) (U : Ruled t) (a : asked cells task upper lower ≡ runs t q) (s : Started) (S : StartIs cells task upper lower s) where

@@ -7,8 +7,8 @@ use mathlib.Core.List.{List, [], _∷_, _++_}
 use lib.ListN.{length, getD}
 use lib.Dec.{eqb}
 use Rattle.table_format.specs.Table.{Arc, Table}
-use Rattle.table_format.specs.Rules.{any}
 use Rattle.table_format.specs.Index.{below}
+pub use Rattle.graph.specs.Lists.{member}
 use Rattle.machine.specs.Query.{Side, upperSide, lowerSide, reads, letter, Query, word}
 use Rattle.machine.specs.Machine.{Machine}
 
@@ -19,10 +19,6 @@ noArc = record { source = 0; upper = 0; lower = 0; target = 0 }
 -- "Arcs are numbered from 0 in file order"
 abbrev pub arcAt : Table → ℕ → Arc
 arcAt t n = getD (t .arcs) n noArc
-
--- a state is in a list
-abbrev pub member : ℕ → List ℕ → Bool
-member s l = any (λ x. eqb x s) l
 
 -- a count, where the letter fits
 abbrev pub somewhen : Bool → ℕ → Option ℕ

@@ -1,0 +1,11 @@
+-- Laws of the definitions.
+pub mod Lists
+pub mod Pigeon
+pub mod Walk
+pub mod Cycle
+pub mod Reached
+pub mod First
+pub mod Shown
+pub mod Search
+pub mod Cost
+pub mod Examples

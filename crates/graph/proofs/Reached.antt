@@ -1,0 +1,69 @@
+-- What is computed as reached is what is reached.
+use Prim.Native.Nat.{ℕ, zero, suc, _+_, _≤_}
+use native.Mathlib.Omega.{arith}
+use mathlib.Core.Path.{_≡_, subst}
+use mathlib.Core.Logic.{_⊎_, inl, inr, ⊎-elim, _↔_}
+use mathlib.Core.Bool.{Bool, _||_}
+use mathlib.Core.List.{List, [], _∷_, List·Memᴰ}
+use lib.ListN.{length}
+use Rattle.table_format.specs.Rules.{any}
+use Rattle.table_format.proofs.Tests.{or-cases, or-left, or-right}
+use Rattle.table_format.proofs.Any.{any-found, any-mem}
+use Rattle.graph.specs.Lists.{AllBelow, member, upTo}
+use Rattle.graph.specs.Walk.{Through, Walk, Among, Tells}
+use Rattle.graph.specs.Reached.{Reached, initial, byEdge, reachedIn, reached}
+use Rattle.graph.proofs.Lists.{same?, member-mem, mem-member, upTo-mem, mem-upTo, keep-mem, mem-keep}
+use Rattle.graph.proofs.Walk.{edge-walk, walk-then, freed, freed-short}
+
+pub reached-map : {E F : ℕ → ℕ → Type 0} → ((s r : ℕ) → E s r → F s r) → {starts : List ℕ} {s : ℕ} → Reached E starts s → Reached F starts s
+reached-map f (initial m) = initial m
+reached-map f (byEdge {s} {r} R g) = byEdge (reached-map f R) (f s r g)
+
+-- what is reached is a start, or a walk leads there from one
+pub reached-walk : (E : ℕ → ℕ → Type 0) (starts : List ℕ) {s : ℕ} → Reached E starts s → List·Memᴰ s starts ⊎ ((i : ℕ) × List·Memᴰ i starts × Walk E i s)
+reached-walk E starts (initial m) = inl m
+reached-walk E starts (byEdge {s} R g) = inr (⊎-elim (λ m. (s, m, edge-walk E g)) (λ W. (W .0, W .1, walk-then E (W .2) g)) (reached-walk E starts R))
+
+module _ (E : ℕ → ℕ → Type 0) (e : ℕ → ℕ → Bool) (n : ℕ) (starts : List ℕ) (D : Tells E e) where
+  abbrev test : List ℕ → ℕ → Bool
+  test l r = member r l || any (λ s. e s r) l
+
+  in-sound : (k s : ℕ) → List·Memᴰ s (reachedIn e n starts k) → Reached E starts s
+  in-sound zero s m = initial m
+  in-sound (suc k) s m =
+      let l = reachedIn e n starts k in
+      ⊎-elim (λ h. in-sound k s (member-mem s l h))
+      (λ h. let R = any-found (λ x. e x s) l h in byEdge (in-sound k (R .0) (R .1)) (D (R .0) s .0 (R .2)))
+      (or-cases (member s l) (any (λ x. e x s) l) (keep-mem (test l) (upTo n) s m .1))
+
+  module _ (G : Among E n) (B : AllBelow n starts) where
+    in-below : (k : ℕ) → AllBelow n (reachedIn e n starts k)
+    in-below zero s m = B s m
+    in-below (suc k) s m = mem-upTo n s (keep-mem (test (reachedIn e n starts k)) (upTo n) s m .0)
+
+    grows : (k s : ℕ) → List·Memᴰ s (reachedIn e n starts k) → List·Memᴰ s (reachedIn e n starts (suc k))
+    grows k s m = let l = reachedIn e n starts k in mem-keep (test l) (upTo n) s (upTo-mem n s (in-below k s m)) (or-left (member s l) (any (λ x. e x s) l) (mem-member s l m))
+
+    later : (k j s : ℕ) → j ≤ k → List·Memᴰ s (reachedIn e n starts j) → List·Memᴰ s (reachedIn e n starts k)
+    later zero j s h m = let z : j ≡ 0 = omega arith in subst (λ (i : ℕ). List·Memᴰ s (reachedIn e n starts i)) z m
+    later (suc k) j s h m =
+        ⊎-elim (λ z. subst (λ (i : ℕ). List·Memᴰ s (reachedIn e n starts i)) z m) (λ d. grows k s (later k j s (omega arith) m)) (same? j (suc k))
+
+    by-one : (j s r : ℕ) → List·Memᴰ s (reachedIn e n starts j) → E s r → List·Memᴰ r (reachedIn e n starts (suc j))
+    by-one j s r m g =
+        let l = reachedIn e n starts j in
+        mem-keep (test l) (upTo n) r (upTo-mem n r (G s r g .1)) (or-right (member r l) (any (λ x. e x r) l) (any-mem (λ x. e x r) l s m (D s r .1 g)))
+
+    along : (s : ℕ) (l : List ℕ) (r j k : ℕ) → List·Memᴰ s (reachedIn e n starts j) → Through E s l r → suc (length l) + j ≤ k → List·Memᴰ r (reachedIn e n starts k)
+    along s [] r j k m T h = later k (suc j) r (omega arith) (by-one j s r m T)
+    along s (x ∷ l) r j k m T h = along x l r (suc j) k (by-one j s x m (T .0)) (T .1) (omega arith)
+
+    -- freed of repeats, the walk has at most n edges
+    in-complete : (s : ℕ) → Reached E starts s → List·Memᴰ s (reachedIn e n starts n)
+    in-complete s R =
+        ⊎-elim (λ m. later n 0 s (omega arith) m)
+        (λ W. let F = freed E (W .0) (W .2 .0) s (W .2 .1) in along (W .0) (F .states) s 0 n (W .1) (F .leads) (omega (arith, freed-short E n G F)))
+        (reached-walk E starts R)
+
+    pub reached-is : (s : ℕ) → List·Memᴰ s (reached e n starts) ↔ Reached E starts s
+    reached-is s = (in-sound n s, in-complete s)
