@@ -6,11 +6,13 @@
 //     2E number                    a refusal
 //
 // Where standard input cannot be read or standard output not be written, it says so on standard error and stops.
-use session::Lined;
-use session::Opening;
-use session::Talk;
-use session::opener;
-use session::speaker;
+use session::LineResult;
+use session::STACK_CELLS;
+use session_opening::Opening;
+use session_opening::SessionState;
+use session_replies::LINE_CHARACTERS;
+use session_replies::OUTPUT_LETTERS;
+use table_format::MOST_CELLS;
 ghost use lib.ListN.{length};
 ghost use Rattle.readings.specs.Read.{Within};
 
@@ -59,25 +61,28 @@ fn write_line(line: &[u8]) -> bool {
 }
 
 // The lines of a session that is open, to the last.
-fn speak(
-    table: &[u16; 4612],
+fn write_lines(
+    table: &[u16; MOST_CELLS],
     query: &[u8; 514],
-    first: Talk,
-    stack: &mut [u32; 16384],
-    output: &mut [u8; 4096],
-    line: &mut [u8; 8203],
+    first: SessionState,
+    stack: &mut [u32; STACK_CELLS],
+    output: &mut [u8; OUTPUT_LETTERS],
+    line: &mut [u8; LINE_CHARACTERS],
 ) {
-    let mut talk = first;
+    let mut state = first;
     let mut on = true;
     while on {
-        let lined = speaker::next_line(table, query, talk, stack, output, line);
+        let result = session::next_line(table, query, state, stack, output, line);
         let text = &line[..];
-        match lined {
-            Lined::More { length, talk: next } => {
+        match result {
+            LineResult::More {
+                length,
+                state: next,
+            } => {
                 on = write_line(&text[..length]);
-                talk = next;
+                state = next;
             }
-            Lined::Last { length } => {
+            LineResult::Last { length } => {
                 write_line(&text[..length]);
                 return;
             }
@@ -86,25 +91,25 @@ fn speak(
 }
 
 fn main() {
-    let mut input = [0u8; 65537];
+    let mut input = [0u8; session_opening::MOST_INPUT + 1];
     let got = read_input(&mut input);
     let Got::Bytes(count) = got else {
         io::write_all(2, b"readings: standard input cannot be read\n");
         return;
     };
-    let mut table = [0u16; 4612];
+    let mut table = [0u16; MOST_CELLS];
     let mut query = [0u8; 514];
-    let mut line = [0u8; 8203];
-    let opening = opener::begin(&input[..count], &mut table, &mut query);
+    let mut line = [0u8; LINE_CHARACTERS];
+    let opening = session_opening::begin(&input[..count], &mut table, &mut query);
     match opening {
         Opening::Refused(refusal) => {
-            let length = speaker::refused_line(refusal, &mut line);
+            let length = session::refused_line(refusal, &mut line);
             write_line(&line[..length]);
         }
-        Opening::Ready(talk) => {
-            let mut stack = speaker::first_stack();
-            let mut output = speaker::first_output();
-            speak(&table, &query, talk, &mut stack, &mut output, &mut line);
+        Opening::Ready(state) => {
+            let mut stack = session::first_stack();
+            let mut output = session::first_output();
+            write_lines(&table, &query, state, &mut stack, &mut output, &mut line);
         }
     }
 }

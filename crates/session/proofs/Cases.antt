@@ -17,7 +17,7 @@ use Rattle.machine.specs.Reading.{outcome}
 use Rattle.machine.specs.Cases.{tableK}
 use Rattle.session_query.specs.Parts.{sizeThrough}
 use Rattle.session_query.specs.Query.{isQuery, queryOf}
-use Rattle.session.specs.Opened.{startedOn, opened}
+use Rattle.session_opening.specs.Opened.{startedOn, opened}
 use Rattle.session.specs.Session.{linesLeft, sessionLines}
 
 pub k-session : sessionLines (textOf (tableK []) ++ lineText (16 ∷ 2 ∷ 2 ∷ 1 ∷ 2 ∷ 0 ∷ []))

@@ -1,5 +1,5 @@
 -- Laws of a session, for its proofs and those of the program.
-pub mod Begun
+pub mod Told
 pub mod Next
 pub mod Given
 pub mod Headlines

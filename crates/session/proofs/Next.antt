@@ -3,13 +3,12 @@ use Prim.Native.Nat.{ℕ, zero, suc, _+_, _≤_, _<_}
 use native.Mathlib.Omega.{arith}
 use mathlib.Core.Path.{_≡_, refl, sym, ap, ap₂, subst, subst₂, _∙_}
 use mathlib.Core.Bool.{Bool, true, false, cond}
-use mathlib.Core.Option.{Option, none, some}
-use mathlib.Core.List.{List, [], _∷_}
+use mathlib.Core.Option.{none, some}
+use mathlib.Core.List.{List}
 use lib.Dec.{leb}
 use lib.ListN.{length, take, drop, length-append}
 use borrow.Author.Tests.{le-leb, lt-leb}
 use Rattle.refusal.specs.declared.Refusal.{Refusal}
-use Rattle.refusal.specs.Refusal.{numberOf}
 use Rattle.table_format.specs.Line.{lineText}
 use Rattle.machine.specs.declared.Run.{Run}
 use Rattle.machine.specs.declared.Answer.{Answer}
@@ -21,14 +20,15 @@ use Rattle.machine.specs.Transducer.{machine}
 use Rattle.machine.specs.Stack.{store}
 use Rattle.machine.specs.Reading.{heldOf, answerAs, outputAs, outcomeOf, Outcome, outcome}
 use Rattle.session_query.specs.Query.{upperIn, lowerIn}
-use Rattle.session_replies.specs.Lines.{readingLine, endLine, limitLine, refusalLine, storedLine}
-use Rattle.session.specs.declared.Talk.{Talk}
-use Rattle.session_calls.specs.declared.Said.{Said}
-use Rattle.session_calls.specs.declared.Said.the-variants as S
-use Rattle.session.specs.declared.Lined.{Lined}
-use Rattle.session.specs.declared.Lined.the-variants as L
-use Rattle.session_calls.specs.Heard.{Heard, heardBy, heard}
-use Rattle.session.specs.Next.{Spoken, bytesSaid, Fits, talkAfter, spokenOf, nextLine, linedAs, liningOf, lining, LiningIs}
+use Rattle.session_replies.specs.Lines.{readingLine, limitLine, refusalLine, storedLine, LineStored}
+use Rattle.session_opening.specs.declared.SessionState.{SessionState}
+use Rattle.session_calls.specs.declared.CallResult.{CallResult}
+use Rattle.session_calls.specs.declared.CallResult.the-variants as C
+use Rattle.session.specs.declared.LineResult.{LineResult}
+use Rattle.session.specs.declared.LineResult.the-variants as L
+use Rattle.session_calls.specs.Calls.{callSteps, CallsOutcome, callsOutcomeBy, callsOutcome, CallsOutcomeIs}
+use Rattle.session.specs.Session.{mostReadings}
+use Rattle.session.specs.Next.{NextLine, resultLine, Fits, stateAfter, nextLineOf, nextLine, LineTold, lineTold, toldOf, ResultLineIs, lineOutcomeOf, lineOutcome, LineOutcomeIs}
 
 -- A reading's letters are in the buffer.
 
@@ -50,161 +50,148 @@ module _ (cells upper lower : List ℕ) where
           let told = call (machine t q) store allowance (length buffer) (heldOf run stack) in
           reply-inside (told .reply) (told .steps) steps n buffer e
 
-  heard-fits : (calls : ℕ) (run : Run) (stack output : List ℕ) → Fits (heard cells upper lower calls run stack output .said) (heard cells upper lower calls run stack output .output)
-  unfolding heard
-  heard-fits zero run stack output = tt
-  heard-fits (suc calls) run stack output = go (o .called .answer) refl (λ r s b. heard-fits calls r s b)
+  calls-fit : (calls : ℕ) (run : Run) (stack output : List ℕ) → Fits (callsOutcome cells upper lower calls run stack output .result) (callsOutcome cells upper lower calls run stack output .output)
+  unfolding callsOutcome
+  calls-fit zero run stack output = tt
+  calls-fit (suc calls) run stack output = go (o .called .answer) refl (λ r s b. calls-fit calls r s b)
     where
       o : Outcome
-      o = outcome cells upper lower run stack 1000 output
+      o = outcome cells upper lower run stack callSteps output
 
-      go : (a : Answer) → outcome cells upper lower run stack 1000 output .called .answer ≡ a
-          → ((r : Run) (s b : List ℕ) → Fits (heard cells upper lower calls r s b .said) (heard cells upper lower calls r s b .output))
-          → Fits (heardBy a o calls (λ r s b. heard cells upper lower calls r s b) .said) (heardBy a o calls (λ r s b. heard cells upper lower calls r s b) .output)
-      go (Found steps n) e k = found-inside run stack 1000 output steps n e
+      go : (a : Answer) → outcome cells upper lower run stack callSteps output .called .answer ≡ a
+          → ((r : Run) (s b : List ℕ) → Fits (callsOutcome cells upper lower calls r s b .result) (callsOutcome cells upper lower calls r s b .output))
+          → Fits (callsOutcomeBy a o calls (λ r s b. callsOutcome cells upper lower calls r s b) .result) (callsOutcomeBy a o calls (λ r s b. callsOutcome cells upper lower calls r s b) .output)
+      go (Found steps n) e k = found-inside run stack callSteps output steps n e
       go (Paused steps) e k = k (o .called .run) (o .stack) (o .output)
       go (Ended steps) e k = tt
       go (Refused steps r) e k = tt
 
-  pub said-fits : (calls : ℕ) (run : Run) (stack output : List ℕ) (said : Said) (o : List ℕ) → said ≡ heard cells upper lower calls run stack output .said
-      → o ≡ heard cells upper lower calls run stack output .output → Fits said o
-  said-fits calls run stack output said o p q = subst₂ Fits (sym p) (sym q) (heard-fits calls run stack output)
+  pub result-fits : (calls : ℕ) (run : Run) (stack output : List ℕ) (result : CallResult) (o : List ℕ) → result ≡ callsOutcome cells upper lower calls run stack output .result
+      → o ≡ callsOutcome cells upper lower calls run stack output .output → Fits result o
+  result-fits calls run stack output result o p q = subst₂ Fits (sym p) (sym q) (calls-fit calls run stack output)
 
--- What is told of what was said.
+-- The line of what calls come to.
 
-abbrev pub TellIs : Said → ℕ → List ℕ → List ℕ → Lined → List ℕ → Type 0
-TellIs said count output line r after =
-    (r ≡ linedAs (talkAfter said count) (length (lineText (bytesSaid said count output)))) × (after ≡ storedLine (bytesSaid said count output) line)
+pub fits-reading : (output : List ℕ) {result : CallResult} {n : ℕ} {run : Run} {calls : ℕ} → result ≡ C.Reading n run calls → Fits result output → n ≤ length output
+fits-reading output e f = subst (λ (x : CallResult). Fits x output) e f
 
-module _ (said : Said) (count : ℕ) (output line : List ℕ) (size : ℕ) (after : List ℕ) where
-  pub fits-reading : (n : ℕ) (run : Run) (calls : ℕ) → said ≡ S.Reading n run calls → Fits said output → n ≤ length output
-  fits-reading n run calls e f = subst (λ (x : Said). Fits x output) e f
+module _ (result : CallResult) (count : ℕ) (output line : List ℕ) (size : ℕ) (after : List ℕ) where
+  abbrev TellsLine : CallResult → LineResult → Type 0
+  TellsLine x r = ResultLineIs x count output (lineTold r) line after
 
-  abbrev Stored : List ℕ → Type 0
-  Stored b = (size ≡ length (lineText b)) × (after ≡ storedLine b line)
+  pub line-reading : (n : ℕ) (run : Run) (calls : ℕ) → result ≡ C.Reading n run calls → LineStored (readingLine (count + 1) (take n output)) size line after
+      → TellsLine result (L.More size (record { run = run; count = count + 1; calls = calls }))
+  line-reading n run calls e w =
+      let next : SessionState = record { run = run; count = count + 1; calls = calls } in
+      subst (λ (x : CallResult). TellsLine x (L.More size next)) (sym e) (ap (λ (k : ℕ). lineTold (L.More k next)) (w .0), w .1)
 
-  pub tell-reading : (n : ℕ) (run : Run) (calls : ℕ) → said ≡ S.Reading n run calls → Stored (readingLine (count + 1) (take n output))
-      → TellIs said count output line (L.More size (record { run = run; count = count + 1; calls = calls })) after
-  tell-reading n run calls e w =
-      subst (λ (x : Said). TellIs x count output line (L.More size (record { run = run; count = count + 1; calls = calls })) after) (sym e)
-      (ap (λ (k : ℕ). L.More k (record { run = run; count = count + 1; calls = calls })) (w .0), w .1)
+  pub line-last : (x : CallResult) → result ≡ x → stateAfter x count ≡ none → LineStored (resultLine x count output) size line after → TellsLine result (L.Last size)
+  line-last x e f w =
+      subst (λ (y : CallResult). TellsLine y (L.Last size)) (sym e)
+      (ap (λ (k : ℕ). lineTold (L.Last k)) (w .0) ∙ ap (toldOf (resultLine x count output)) (sym f), w .1)
 
-  pub tell-ended : said ≡ S.Ended → Stored (endLine count) → TellIs said count output line (L.Last size) after
-  tell-ended e w = subst (λ (x : Said). TellIs x count output line (L.Last size) after) (sym e) (ap L.Last (w .0), w .1)
+-- The next line: at the limit at once, or by the calls.
 
-  pub tell-refused : (c : Refusal) (k : ℕ) → said ≡ S.Refused c → k ≡ numberOf c → Stored (46 ∷ k ∷ []) → TellIs said count output line (L.Last size) after
-  tell-refused c k e q w =
-      subst (λ (x : Said). TellIs x count output line (L.Last size) after) (sym e)
-      (subst (λ (m : ℕ). (L.Last size ≡ L.Last (length (lineText (46 ∷ m ∷ [])))) × (after ≡ storedLine (46 ∷ m ∷ []) line)) q (ap L.Last (w .0), w .1))
+module _ (cells upper lower : List ℕ) (state : SessionState) (stack output : List ℕ) where
+  pub next-limit : leb mostReadings (state .count) ≡ true
+      → nextLine cells upper lower state stack output ≡ nextLineOf (state .count) (record { result = C.Spent; stack = stack; output = output })
+  unfolding nextLine
+  next-limit e = simp e
 
-  pub tell-spent : said ≡ S.Spent → Stored (limitLine count) → TellIs said count output line (L.Last size) after
-  tell-spent e w = subst (λ (x : Said). TellIs x count output line (L.Last size) after) (sym e) (ap L.Last (w .0), w .1)
+  pub next-calls : leb mostReadings (state .count) ≡ false
+      → nextLine cells upper lower state stack output ≡ nextLineOf (state .count) (callsOutcome cells upper lower (state .calls) (state .run) stack output)
+  unfolding nextLine
+  next-calls e = simp e
 
 -- What the call leaves.
 
-module _ (cells query : List ℕ) (talk : Talk) (stack output line : List ℕ) where
-  abbrev Is : Lined → List ℕ → List ℕ → List ℕ → Type 0
-  Is r s o l = LiningIs (lining cells query talk stack output line) r s o l
+module _ (cells query : List ℕ) (state : SessionState) (stack output line : List ℕ) where
+  abbrev Is : LineTold → List ℕ → List ℕ → List ℕ → Type 0
+  Is r s o l = LineOutcomeIs (lineOutcome cells query state stack output line) r s o l
 
-  abbrev spoken : Spoken
-  spoken = nextLine cells (upperIn query) (lowerIn query) talk stack output
+  abbrev next : NextLine
+  next = nextLine cells (upperIn query) (lowerIn query) state stack output
 
-  by-spoken : (w : Spoken) (r : Lined) (s o l : List ℕ) → spoken ≡ w → LiningIs (liningOf w line) r s o l → Is r s o l
-  unfolding lining
-  by-spoken w r s o l e i = subst (λ (x : Spoken). LiningIs (liningOf x line) r s o l) (sym e) i
+  by-next : (w : NextLine) (r : LineTold) (s o l : List ℕ) → next ≡ w → LineOutcomeIs (lineOutcomeOf w line) r s o l → Is r s o l
+  unfolding lineOutcome
+  by-next w r s o l e i = subst (λ (x : NextLine). LineOutcomeIs (lineOutcomeOf x line) r s o l) (sym e) i
 
-  limit-spoken : 1000 ≤ talk .count → spoken ≡ spokenOf (talk .count) (record { said = S.Spent; stack = stack; output = output })
-  unfolding nextLine
-  limit-spoken h = simp (le-leb 1000 (talk .count) h)
+  pub outcome-limit : mostReadings ≤ state .count → (size : ℕ) (after : List ℕ) → LineStored (limitLine (state .count)) size line after
+      → Is (lineTold (L.Last size)) stack output after
+  outcome-limit h size after w =
+      by-next _ (lineTold (L.Last size)) stack output after (next-limit cells (upperIn query) (lowerIn query) state stack output (le-leb mostReadings (state .count) h)) (ap (λ (k : ℕ). lineTold (L.Last k)) (w .0), refl, refl, w .1)
 
-  abbrev listened : List ℕ → List ℕ → Heard
-  listened upper lower = heard cells upper lower (talk .calls) (talk .run) stack output
+  abbrev reached : List ℕ → List ℕ → CallsOutcome
+  reached upper lower = callsOutcome cells upper lower (state .calls) (state .run) stack output
 
-  heard-spoken : talk .count < 1000 → spoken ≡ spokenOf (talk .count) (listened (upperIn query) (lowerIn query))
-  unfolding nextLine
-  heard-spoken h = simp (lt-leb 1000 (talk .count) h)
-
-  pub lining-limit : 1000 ≤ talk .count → (size : ℕ) (after : List ℕ) → (size ≡ length (lineText (limitLine (talk .count)))) × (after ≡ storedLine (limitLine (talk .count)) line)
-      → Is (L.Last size) stack output after
-  lining-limit h size after w = by-spoken _ (L.Last size) stack output after (limit-spoken h) (ap L.Last (w .0), refl, refl, w .1)
-
-  pub lining-told : talk .count < 1000 → (upper lower : List ℕ) → upper ≡ upperIn query → lower ≡ lowerIn query → (said : Said) (s o : List ℕ)
-      → (said ≡ listened upper lower .said) × (s ≡ listened upper lower .stack) × (o ≡ listened upper lower .output)
-      → (r : Lined) (l : List ℕ) → TellIs said (talk .count) o line r l → Is r s o l
-  lining-told h upper lower u v said s o (p, q, e) r l t =
-      let t₂ : TellIs (listened upper lower .said) (talk .count) (listened upper lower .output) line r l = subst₂ (λ (x : Said) (y : List ℕ). TellIs x (talk .count) y line r l) p e t in
-      by-spoken (spokenOf (talk .count) (listened upper lower)) r s o l (heard-spoken h ∙ sym (ap₂ (λ (x y : List ℕ). spokenOf (talk .count) (listened x y)) u v)) (t₂ .0, q, e, t₂ .1)
+  pub outcome-result : state .count < mostReadings → (upper lower : List ℕ) → upper ≡ upperIn query → lower ≡ lowerIn query → (result : CallResult) (s o : List ℕ)
+      → CallsOutcomeIs (reached upper lower) result s o → (r : LineTold) (l : List ℕ) → ResultLineIs result (state .count) o r line l → Is r s o l
+  outcome-result h upper lower u v result s o (p, q, e) r l t =
+      let t₂ : ResultLineIs (reached upper lower .result) (state .count) (reached upper lower .output) r line l = subst₂ (λ (x : CallResult) (y : List ℕ). ResultLineIs x (state .count) y r line l) p e t in
+      by-next (nextLineOf (state .count) (reached upper lower)) r s o l
+      (next-calls cells (upperIn query) (lowerIn query) state stack output (lt-leb mostReadings (state .count) h) ∙ sym (ap₂ (λ (x y : List ℕ). nextLineOf (state .count) (reached x y)) u v))
+      (t₂ .0, q, e, t₂ .1)
 
 -- What an answer says of the line, and of the calls left.
 
 module _ (cells upper lower : List ℕ) where
-  heard-fewer : (calls : ℕ) (run : Run) (stack output : List ℕ) (n : ℕ) (r : Run) (k : ℕ) → heard cells upper lower calls run stack output .said ≡ S.Reading n r k → k < calls
-  unfolding heard
-  heard-fewer zero run stack output n r k e = absurd (let z : _≡_ {A = ℕ} 0 1 = cc in omega arith)
-  heard-fewer (suc calls) run stack output n r k e =
-      go (outcome cells upper lower run stack 1000 output .called .answer) (outcome cells upper lower run stack 1000 output) (λ r′ s o. heard-fewer calls r′ s o n r k) e
+  calls-fewer : (calls : ℕ) (run : Run) (stack output : List ℕ) (n : ℕ) (r : Run) (k : ℕ) → callsOutcome cells upper lower calls run stack output .result ≡ C.Reading n r k → k < calls
+  unfolding callsOutcome
+  calls-fewer zero run stack output n r k e = absurd (let z : _≡_ {A = ℕ} 0 1 = cc in omega arith)
+  calls-fewer (suc calls) run stack output n r k e =
+      go (outcome cells upper lower run stack callSteps output .called .answer) (outcome cells upper lower run stack callSteps output) (λ r′ s o. calls-fewer calls r′ s o n r k) e
     where
-      go : (a : Answer) (o : Outcome) → ((r′ : Run) (s b : List ℕ) → heard cells upper lower calls r′ s b .said ≡ S.Reading n r k → k < calls)
-          → heardBy a o calls (λ r s b. heard cells upper lower calls r s b) .said ≡ S.Reading n r k → k < suc calls
+      go : (a : Answer) (o : Outcome) → ((r′ : Run) (s b : List ℕ) → callsOutcome cells upper lower calls r′ s b .result ≡ C.Reading n r k → k < calls)
+          → callsOutcomeBy a o calls (λ r s b. callsOutcome cells upper lower calls r s b) .result ≡ C.Reading n r k → k < suc calls
       go (Found steps m) o f e = let same : calls ≡ k = cc in omega arith
       go (Paused steps) o f e = let less = f (o .called .run) (o .stack) (o .output) e in omega arith
       go (Ended steps) o f e = absurd (let z : _≡_ {A = ℕ} 0 1 = cc in omega arith)
       go (Refused steps c) o f e = absurd (let z : _≡_ {A = ℕ} 0 1 = cc in omega arith)
 
-  said-fewer : (calls : ℕ) (said : Said) (count : ℕ) (t : Talk) → ((n : ℕ) (r : Run) (k : ℕ) → said ≡ S.Reading n r k → k < calls) → talkAfter said count ≡ some t → t .calls < calls
-  said-fewer calls (S.Reading n r k) count t f e =
+  result-fewer : (calls : ℕ) (result : CallResult) (count : ℕ) (t : SessionState) → ((n : ℕ) (r : Run) (k : ℕ) → result ≡ C.Reading n r k → k < calls) → stateAfter result count ≡ some t → t .calls < calls
+  result-fewer calls (C.Reading n r k) count t f e =
       let same : record { run = r; count = count + 1; calls = k } ≡ t = cc in
-      let less = f n r k refl in omega (arith, ap (λ (x : Talk). x .calls) same)
-  said-fewer calls S.Ended count t f e = absurd (let z : _≡_ {A = ℕ} 0 1 = cc in omega arith)
-  said-fewer calls (S.Refused c) count t f e = absurd (let z : _≡_ {A = ℕ} 0 1 = cc in omega arith)
-  said-fewer calls S.Spent count t f e = absurd (let z : _≡_ {A = ℕ} 0 1 = cc in omega arith)
+      let less = f n r k refl in omega (arith, ap (λ (x : SessionState). x .calls) same)
+  result-fewer calls C.Ended count t f e = absurd (let z : _≡_ {A = ℕ} 0 1 = cc in omega arith)
+  result-fewer calls (C.Refused c) count t f e = absurd (let z : _≡_ {A = ℕ} 0 1 = cc in omega arith)
+  result-fewer calls C.Spent count t f e = absurd (let z : _≡_ {A = ℕ} 0 1 = cc in omega arith)
 
-  next-fewer : (talk : Talk) (stack output : List ℕ) (t : Talk) → nextLine cells upper lower talk stack output .after ≡ some t → t .calls < talk .calls
+  next-fewer : (state : SessionState) (stack output : List ℕ) (t : SessionState) → nextLine cells upper lower state stack output .after ≡ some t → t .calls < state .calls
   unfolding nextLine
-  next-fewer talk stack output t e = go (leb 1000 (talk .count)) e
+  next-fewer state stack output t e = go (leb mostReadings (state .count)) e
     where
-      go : (b : Bool) → cond b (spokenOf (talk .count) (record { said = S.Spent; stack = stack; output = output }))
-          (spokenOf (talk .count) (heard cells upper lower (talk .calls) (talk .run) stack output)) .after ≡ some t → t .calls < talk .calls
+      go : (b : Bool) → cond b (nextLineOf (state .count) (record { result = C.Spent; stack = stack; output = output }))
+          (nextLineOf (state .count) (callsOutcome cells upper lower (state .calls) (state .run) stack output)) .after ≡ some t → t .calls < state .calls
       go true e = absurd (let z : _≡_ {A = ℕ} 0 1 = cc in omega arith)
       go false e =
-          said-fewer (talk .calls) (heard cells upper lower (talk .calls) (talk .run) stack output .said) (talk .count) t
-          (λ n r k q. heard-fewer (talk .calls) (talk .run) stack output n r k q) e
+          result-fewer (state .calls) (callsOutcome cells upper lower (state .calls) (state .run) stack output .result) (state .count) t
+          (λ n r k q. calls-fewer (state .calls) (state .run) stack output n r k q) e
 
 stored-inside : (b line l : List ℕ) → l ≡ storedLine b line → length (lineText b) ≤ length l
 stored-inside b line l e = omega (arith, ap length e, length-append (lineText b) (drop (length (lineText b)) line))
 
-module _ (cells query : List ℕ) (talk : Talk) (stack output line : List ℕ) (r : Lined) (s o l : List ℕ)
-    (I : LiningIs (lining cells query talk stack output line) r s o l) where
-  abbrev next : Spoken
-  next = nextLine cells (upperIn query) (lowerIn query) talk stack output
+module _ (cells query : List ℕ) (state : SessionState) (stack output line : List ℕ) (r : LineResult) (s o l : List ℕ)
+    (I : LineOutcomeIs (lineOutcome cells query state stack output line) (lineTold r) s o l) where
+  abbrev given : NextLine
+  given = nextLine cells (upperIn query) (lowerIn query) state stack output
 
-  -- the line is in the buffer, and fewer calls are left
-  pub more-inside : (n : ℕ) (t : Talk) → r ≡ L.More n t → (n ≤ length l) × (t .calls < talk .calls)
-  unfolding lining
-  more-inside n t e = go (next .after) refl (sym e ∙ I .0)
-    where
-      go : (a : Option Talk) → next .after ≡ a → L.More n t ≡ linedAs a (length (lineText (next .bytes))) → (n ≤ length l) × (t .calls < talk .calls)
-      go none q p = absurd (let z : _≡_ {A = ℕ} 0 1 = cc in omega arith)
-      go (some t′) q p =
-          let size : n ≡ length (lineText (next .bytes)) = cc in
-          let same : t′ ≡ t = cc in
-          let inside = stored-inside (next .bytes) line l (I .3) in
-          (omega arith, next-fewer cells (upperIn query) (lowerIn query) talk stack output t (q ∙ ap some same))
+  -- the line is in the buffer
+  inside : (x : LineResult) → r ≡ x → (lineTold x ≡ toldOf (given .bytes) (given .after)) × (lineTold x .size ≤ length l)
+  unfolding lineOutcome
+  inside x e =
+      let told : lineTold x ≡ toldOf (given .bytes) (given .after) = sym (ap lineTold e) ∙ I .0 in
+      let fits = stored-inside (given .bytes) line l (I .3) in
+      (told, omega (arith, ap (λ (y : LineTold). y .size) told))
+
+  -- and fewer calls are left
+  pub more-inside : (n : ℕ) (t : SessionState) → r ≡ L.More n t → (n ≤ length l) × (t .calls < state .calls)
+  more-inside n t e =
+      let w = inside (L.More n t) e in
+      (w .1, next-fewer cells (upperIn query) (lowerIn query) state stack output t (sym (ap (λ (y : LineTold). y .after) (w .0))))
 
   pub last-inside : (n : ℕ) → r ≡ L.Last n → n ≤ length l
-  unfolding lining
-  last-inside n e = go (next .after) (sym e ∙ I .0)
-    where
-      go : (a : Option Talk) → L.Last n ≡ linedAs a (length (lineText (next .bytes))) → n ≤ length l
-      go none p = let size : n ≡ length (lineText (next .bytes)) = cc in let inside = stored-inside (next .bytes) line l (I .3) in omega arith
-      go (some t) p = absurd (let z : _≡_ {A = ℕ} 0 1 = cc in omega arith)
+  last-inside n e = inside (L.Last n) e .1
 
--- The line of a refusal alone.
-
-module _ (c : Refusal) (line : List ℕ) (size : ℕ) (after : List ℕ) where
-  pub refusal-told : (k : ℕ) → k ≡ numberOf c → (size ≡ length (lineText (46 ∷ k ∷ []))) × (after ≡ storedLine (46 ∷ k ∷ []) line)
-      → (size ≡ length (lineText (refusalLine c))) × (after ≡ storedLine (refusalLine c) line)
-  refusal-told k q w = subst (λ (m : ℕ). (size ≡ length (lineText (46 ∷ m ∷ []))) × (after ≡ storedLine (46 ∷ m ∷ []) line)) q w
-
-  pub refusal-inside : (size ≡ length (lineText (refusalLine c))) × (after ≡ storedLine (refusalLine c) line) → size ≤ length after
-  refusal-inside w = let inside = stored-inside (refusalLine c) line after (w .1) in omega (arith, w .0)
+-- the line of a refusal alone
+pub refusal-inside : (c : Refusal) (line : List ℕ) (size : ℕ) (after : List ℕ) → LineStored (refusalLine c) size line after → size ≤ length after
+refusal-inside c line size after w = let inside = stored-inside (refusalLine c) line after (w .1) in omega (arith, w .0)

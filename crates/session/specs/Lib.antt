@@ -1,7 +1,5 @@
--- How a session is opened and what it prints: Opened and Session. Begun and Next say what the three public calls answer, and leave in what they
--- are lent, Given which texts they give one after another.
-pub mod Opened
-pub mod Begun
+-- What a session prints: Session. Next says what the call for a line answers, and leaves in what it is lent, Given which texts the opening and
+-- the calls after it give, one after another.
 pub mod Session
 pub mod Next
 pub mod Given

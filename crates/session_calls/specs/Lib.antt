@@ -1,2 +1,2 @@
 -- What calls for a reading come to.
-pub mod Heard
+pub mod Calls

@@ -3,11 +3,16 @@ use engine::advance;
 use machine::Answer;
 use machine::Run;
 use refusal::Refusal;
-ghost use mathlib.Core.Path.{_≡_};
-ghost use Rattle.session_calls.specs.Heard.{heard};
+ghost use Rattle.session_calls.specs.Calls.{callsOutcome, CallsOutcomeIs};
+
+// The allowance of a call.
+pub const CALL_STEPS: u32 = 1000;
+
+// The calls of a session.
+pub const MOST_CALLS: u32 = 65536;
 
 // What calls for a reading come to: a reading of so many letters with the calls left, the end, a refusal, or no call left.
-pub enum Said {
+pub enum CallResult {
     Reading { length: u32, run: Run, calls: u32 },
     Ended,
     Refused(Refusal),
@@ -15,7 +20,7 @@ pub enum Said {
 }
 
 // Calls until one is not Paused or none is left.
-pub fn ask(
+pub fn make_calls(
     table: &[u16],
     upper: &[u8],
     lower: &[u8],
@@ -23,21 +28,19 @@ pub fn ask(
     calls: u32,
     stack: &mut [u32],
     output: &mut [u8],
-) -> Said
-    ensures { λ r. ⌜ (r ≡ heard (now (table .entry)) (now (upper .entry)) (now (lower .entry)) calls run (now (stack .entry)) (now (output .entry)) .said)
-        × (now (stack .exit) ≡ heard (now (table .entry)) (now (upper .entry)) (now (lower .entry)) calls run (now (stack .entry)) (now (output .entry)) .stack)
-        × (now (output .exit) ≡ heard (now (table .entry)) (now (upper .entry)) (now (lower .entry)) calls run (now (stack .entry)) (now (output .entry)) .output) ⌝ }
+) -> CallResult
+    ensures { λ r. ⌜ CallsOutcomeIs (callsOutcome (now (table .entry)) (now (upper .entry)) (now (lower .entry)) calls run (now (stack .entry)) (now (output .entry))) r (now (stack .exit)) (now (output .exit)) ⌝ }
 {
     let mut left = calls;
     let mut at = run;
     while 0 < left {
         left -= 1;
-        let called = advance::advance(table, upper, lower, at, stack, 1000, output);
+        let called = advance::advance(table, upper, lower, at, stack, CALL_STEPS, output);
         at = called.run;
         let answer = called.answer;
         match answer {
             Answer::Found { steps: _, length } => {
-                return Said::Reading {
+                return CallResult::Reading {
                     length,
                     run: at,
                     calls: left,
@@ -45,12 +48,12 @@ pub fn ask(
             }
             Answer::Paused { steps: _ } => {}
             Answer::Ended { steps: _ } => {
-                return Said::Ended;
+                return CallResult::Ended;
             }
             Answer::Refused { steps: _, refusal } => {
-                return Said::Refused(refusal);
+                return CallResult::Refused(refusal);
             }
         }
     }
-    Said::Spent
+    CallResult::Spent
 }

@@ -8,15 +8,15 @@ use lib.Seq.{sets, sets-eq}
 use Rattle.table_format.specs.Line.{charsOf, lineText}
 use Rattle.table_format.proofs.Line.{length-chars, chars-append}
 use Rattle.table_format.proofs.Stores.{then}
-use Rattle.session_replies.specs.Lines.{storedLine}
+use Rattle.session_replies.specs.Lines.{charactersOf, LineStored}
 
 line-append : (head tail : List ℕ) → lineText (head ++ tail) ≡ charsOf head ++ lineText tail
 line-append head tail = ap (λ (l : List ℕ). l ++ (10 ∷ [])) (chars-append head tail) ∙ append-assoc (charsOf head) (charsOf tail) (10 ∷ [])
 
 -- some bytes, then the line of others
-pub line-stored : (text m n : List ℕ) (head tail : List ℕ) (r : ℕ) → 2 * (length head + length tail) + 1 ≤ length text
+pub line-stored : (text m n : List ℕ) (head tail : List ℕ) (r : ℕ) → charactersOf (length head + length tail) ≤ length text
     → m ≡ sets text 0 (charsOf head) → r ≡ 2 * length head + 2 * length tail + 1 → n ≡ sets m (2 * length head) (lineText tail)
-    → (r ≡ length (lineText (head ++ tail))) × (n ≡ storedLine (head ++ tail) text)
+    → LineStored (head ++ tail) r text n
 line-stored text m n head tail r room p e q =
     let line = lineText (head ++ tail) in
     let size : length line ≡ 2 * (length head + length tail) + 1 = simp (length-append, length-chars) (omega arith) in
@@ -27,5 +27,5 @@ line-stored text m n head tail r room p e q =
     )
 
 -- the same line by equal bytes
-pub line-as : (r : ℕ) (after text b d : List ℕ) → b ≡ d → (r ≡ length (lineText b)) × (after ≡ storedLine b text) → (r ≡ length (lineText d)) × (after ≡ storedLine d text)
-line-as r after text b d e = subst (λ (x : List ℕ). (r ≡ length (lineText x)) × (after ≡ storedLine x text)) e
+pub line-as : (r : ℕ) (after text b d : List ℕ) → b ≡ d → LineStored b r text after → LineStored d r text after
+line-as r after text b d e = subst (λ (x : List ℕ). LineStored x r text after) e

@@ -3,6 +3,7 @@ use borrow.Author.Needs.{needs}
 use mathlib.Core.Path.{sym, subst}
 use lib.ListN.{length, replicate}
 use lib.Seq.{length-take-le}
+use Rattle.session_replies.specs.Lines.{lineCharacters}
 use Rattle.session.proofs.Next.{refusal-inside}
 use Rattle.readings.specs.declared.Got.{Got}
 use Rattle.readings.specs.Read.{Within}
@@ -46,10 +47,10 @@ refused-line-requires : tie.Need-refused-line-requires
 refused-line-requires c κs = search needs
 
 array-share-prefix-line : tie.Need-array-share-prefix-line
-array-share-prefix-line c = refusal-inside (c .before .before .before .opening .given .0 .0) (replicate 8203 0) (c .refused-line .result) _ (c .refused-line .ensures)
+array-share-prefix-line c = refusal-inside (c .before .before .before .opening .given .0 .0) (replicate lineCharacters 0) (c .refused-line .result) _ (c .refused-line .ensures)
 
 slice-aggregate-write-line : tie.Need-slice-aggregate-write-line
-slice-aggregate-write-line c = sym (length-take-le _ _ (refusal-inside (c .before .before .before .before .opening .given .0 .0) (replicate 8203 0) (c .before .refused-line .result) _ (c .before .refused-line .ensures)))
+slice-aggregate-write-line c = sym (length-take-le _ _ (refusal-inside (c .before .before .before .before .opening .given .0 .0) (replicate lineCharacters 0) (c .before .refused-line .result) _ (c .before .refused-line .ensures)))
 
 write-line-requires : tie.Need-write-line-requires
 write-line-requires c κs = search needs
@@ -63,8 +64,8 @@ first-stack-requires c κs = search needs
 first-output-requires : tie.Need-first-output-requires
 first-output-requires c κs = search needs
 
-speak-requires : tie.Need-speak-requires
-speak-requires c κs = search needs
+write-lines-requires : tie.Need-write-lines-requires
+write-lines-requires c κs = search needs
 
 returns-2 : tie.Need-returns-2
 returns-2 c = search needs
@@ -94,6 +95,6 @@ main-spec =
     enum-known-opening-2
     first-stack-requires
     first-output-requires
-    speak-requires
+    write-lines-requires
     returns-2
     returns-3)

@@ -44,5 +44,8 @@ openedTable (turnedDown cause) ls = refused (Input cause)
 openedTable (accepted t) ls = openedQuery (cellsOf t) (queryOf ls)
 
 -- 3: "a session's input exceeds 65,536 bytes"
+abbrev pub mostInput : ℕ
+mostInput = 65536
+
 unfoldable pub opened : List ℕ → Opened
-opened input = cond (ltb 65536 (length input)) (refused (Input CountLimit)) (openedTable (parsed (tableText input)) (linesOf (queryText input)))
+opened input = cond (ltb mostInput (length input)) (refused (Input CountLimit)) (openedTable (parsed (tableText input)) (linesOf (queryText input)))

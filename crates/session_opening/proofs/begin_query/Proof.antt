@@ -3,10 +3,10 @@ use borrow.Author.Needs.{needs}
 use denote.Ref.{now}
 use Rattle.table_format.specs.Line.{linesOf}
 use Rattle.session_query.specs.Query.{queryOf}
-use Rattle.session.specs.Opened.{openedQuery}
-use Rattle.session.proofs.Begun.{begun-refused, query-faults, start-refused, start-ready}
-use Rattle.session.proofs.opener.begin_query.Statement.{statement}
-use Rattle.session.proofs.opener.begin_query.Tie as tie
+use Rattle.session_opening.specs.Opened.{openedQuery}
+use Rattle.session_opening.proofs.Outcome.{opening-refused, query-faults, start-refused, start-ready}
+use Rattle.session_opening.proofs.begin_query.Statement.{statement}
+use Rattle.session_opening.proofs.begin_query.Tie as tie
 
 query-requires : tie.Need-query-requires
 query-requires c κs = search needs
@@ -15,7 +15,7 @@ enum-known-asking : tie.Need-enum-known-asking
 enum-known-asking c = search needs
 
 returns : tie.Need-returns
-returns c = begun-refused (openedQuery (now (c .before .before .before .before .before .before .args .cells)) (queryOf (linesOf (now (c .before .before .before .before .before .before .args .text))))) (now (c .before .before .before .before .before .before .args .table)) (now (c .before .before .before .before .before .before .args .query)) _ (query-faults (now (c .before .before .before .before .before .before .args .cells)) (linesOf (now (c .before .before .before .before .before .before .args .text))) (c .before .before .before .query .result) _ (c .before .before .before .query .ensures) (c .before .asking .given .1))
+returns c = opening-refused (openedQuery (now (c .before .before .before .before .before .before .args .cells)) (queryOf (linesOf (now (c .before .before .before .before .before .before .args .text))))) (now (c .before .before .before .before .before .before .args .table)) (now (c .before .before .before .before .before .before .args .query)) _ (query-faults (now (c .before .before .before .before .before .before .args .cells)) (linesOf (now (c .before .before .before .before .before .before .args .text))) (c .before .before .before .query .result) _ (c .before .before .before .query .ensures) (c .before .asking .given .1))
 
 enum-told : tie.Need-enum-told
 enum-told c = search needs
@@ -47,11 +47,11 @@ enum-told-2 c = search needs
 copy-cells-requires : tie.Need-copy-cells-requires
 copy-cells-requires c κs = search needs
 
-first-talk-requires : tie.Need-first-talk-requires
-first-talk-requires c κs = search needs
+first-state-requires : tie.Need-first-state-requires
+first-state-requires c κs = search needs
 
 returns-3 : tie.Need-returns-3
-returns-3 c = start-ready (now (c .before .before .before .before .before .before .before .before .before .before .before .before .before .before .before .before .args .cells)) (linesOf (now (c .before .before .before .before .before .before .before .before .before .before .before .before .before .before .before .before .args .text))) (c .before .before .before .before .before .before .before .before .before .before .before .before .before .query .result) (c .before .before .before .before .before .before .before .before .before .before .before .before .before .query .ensures) (c .before .before .before .before .before .before .before .before .before .before .before .enum-told .given .1) (c .before .before .before .before .before .before .before .before .before .byte-as-count .result) (c .before .before .before .before .before .before .before .before .before .byte-as-count .ensures) _ _ (c .before .before .before .before .before .before .before .upper .ensures) (c .before .before .before .before .before .before .lower .ensures) (c .before .before .before .before .before .start .result) (c .before .before .before .before .before .start .ensures) (now (c .before .before .before .before .before .before .before .before .before .before .before .before .before .before .before .before .args .table)) (now (c .before .before .before .before .before .before .before .before .before .before .before .before .before .before .before .before .args .query)) (c .before .before .before .enum-told2 .given .1) _ _ (c .first-talk .ensures) (c .before .copy-cells .ensures)
+returns-3 c = start-ready (now (c .before .before .before .before .before .before .before .before .before .before .before .before .before .before .before .before .args .cells)) (linesOf (now (c .before .before .before .before .before .before .before .before .before .before .before .before .before .before .before .before .args .text))) (c .before .before .before .before .before .before .before .before .before .before .before .before .before .query .result) (c .before .before .before .before .before .before .before .before .before .before .before .before .before .query .ensures) (c .before .before .before .before .before .before .before .before .before .before .before .enum-told .given .1) (c .before .before .before .before .before .before .before .before .before .byte-as-count .result) (c .before .before .before .before .before .before .before .before .before .byte-as-count .ensures) _ _ (c .before .before .before .before .before .before .before .upper .ensures) (c .before .before .before .before .before .before .lower .ensures) (c .before .before .before .before .before .start .result) (c .before .before .before .before .before .start .ensures) (now (c .before .before .before .before .before .before .before .before .before .before .before .before .before .before .before .before .args .table)) (now (c .before .before .before .before .before .before .before .before .before .before .before .before .before .before .before .before .args .query)) (c .before .before .before .enum-told2 .given .1) _ _ (c .first-state .ensures) (c .before .copy-cells .ensures)
 
 pub begin-query-spec : {M : Type 1} → statement M
 begin-query-spec =
@@ -70,5 +70,5 @@ begin-query-spec =
     returns-2
     enum-told-2
     copy-cells-requires
-    first-talk-requires
+    first-state-requires
     returns-3)

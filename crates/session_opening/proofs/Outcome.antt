@@ -13,7 +13,7 @@ use Rattle.refusal.specs.declared.Refusal.{Refusal}
 use Rattle.refusal.specs.declared.Refusal.the-variants.{Input}
 use Rattle.destination.specs.declared.Answer.the-variants as A
 use Rattle.table_format.specs.Table.{Table}
-use Rattle.table_format.specs.Loaded.{cellsOf}
+use Rattle.table_format.specs.Loaded.{mostCells, cellsOf}
 use Rattle.table_format.specs.Line.{Line, linesOf}
 use Rattle.table_format.specs.Parse.{Parsed, accepted, turnedDown, parsed}
 use Rattle.table.specs.Calls.{readAs, readAnswer, readCells}
@@ -35,19 +35,18 @@ use Rattle.session_query.specs.Query.{taskIn, upperIn, lowerIn, queryOf}
 use Rattle.session_query.specs.Asking.{questionOf}
 use Rattle.session_query.proofs.Parts.{size-inside}
 use Rattle.session_query.proofs.Query.{fault-is, Asks, asks-is}
-use Rattle.session.specs.declared.Talk.{Talk}
-use Rattle.session.specs.declared.Opening.{Opening}
-use Rattle.session.specs.declared.Opening.the-variants.{Ready, Refused}
-use Rattle.session.specs.Opened.{Opened, refused, ready, openedAs, startedOn, openedQuery, openedTable, opened}
-use Rattle.session.specs.Begun.{Begun, firstTalk, begun, BegunIs}
+use Rattle.session_opening.specs.declared.SessionState.{SessionState}
+use Rattle.session_opening.specs.declared.Opening.the-variants.{Ready, Refused}
+use Rattle.session_opening.specs.Opened.{mostInput, Opened, refused, ready, openedAs, startedOn, openedQuery, openedTable, opened}
+use Rattle.session_opening.specs.Outcome.{OpeningTold, openingTold, OpeningOutcome, firstState, openingOutcome, OpeningOutcomeIs}
 
 -- What is answered and left, by what an input gives.
 
-pub begun-same : (x y : Begun) (r : Opening) (t q : List ℕ) → x ≡ y → BegunIs x r t q → BegunIs y r t q
-begun-same x y r t q e i = subst (λ (z : Begun). BegunIs z r t q) e i
+pub opening-same : (x y : OpeningOutcome) (r : OpeningTold) (t q : List ℕ) → x ≡ y → OpeningOutcomeIs x r t q → OpeningOutcomeIs y r t q
+opening-same x y r t q e i = subst (λ (z : OpeningOutcome). OpeningOutcomeIs z r t q) e i
 
-pub begun-refused : (o : Opened) (table query : List ℕ) (r : Refusal) → o ≡ refused r → BegunIs (begun o table query) (Refused r) table query
-begun-refused o table query r e = subst (λ (x : Opened). BegunIs (begun x table query) (Refused r) table query) (sym e) (refl, refl, refl)
+pub opening-refused : (o : Opened) (table query : List ℕ) (r : Refusal) → o ≡ refused r → OpeningOutcomeIs (openingOutcome o table query) (openingTold (Refused r)) table query
+opening-refused o table query r e = subst (λ (x : Opened). OpeningOutcomeIs (openingOutcome x table query) (openingTold (Refused r)) table query) (sym e) (refl, refl, refl)
 
 -- The start.
 
@@ -100,34 +99,34 @@ module _ (cells : List ℕ) (ls : List Line) (x : Question) (e : x ≡ questionO
       ap (openedQuery cells) (asks .is)
       ∙ ap₂ (openedAs cells (asks .query)) (sym (same .0 ∙ (λ i. started cells (t i) (u i) (l i) [] .answer))) (sym (same .1 ∙ (λ i. started cells (t i) (u i) (l i) [] .run)))
 
-  pub start-refused : (table query : List ℕ) (r : Refusal) → s .answer ≡ T.Refused r → BegunIs (begun (openedQuery cells (queryOf ls)) table query) (Refused r) table query
+  pub start-refused : (table query : List ℕ) (r : Refusal) → s .answer ≡ T.Refused r → OpeningOutcomeIs (openingOutcome (openedQuery cells (queryOf ls)) table query) (openingTold (Refused r)) table query
   start-refused table query r g =
-      begun-refused (openedQuery cells (queryOf ls)) table query r (opened-start ∙ ap (λ (a : StartAnswer). openedAs cells (asks .query) a (s .run)) g)
+      opening-refused (openedQuery cells (queryOf ls)) table query r (opened-start ∙ ap (λ (a : StartAnswer). openedAs cells (asks .query) a (s .run)) g)
 
-  pub start-ready : (table query : List ℕ) → s .answer ≡ T.Ready → (talk : Talk) (t : List ℕ) → talk ≡ firstTalk (s .run) → t ≡ cells ++ drop (length cells) table
-      → BegunIs (begun (openedQuery cells (queryOf ls)) table query) (Ready talk) t (x .bytes)
-  start-ready table query g talk t k i =
-      begun-same (begun (ready cells (asks .query) (s .run)) table query) (begun (openedQuery cells (queryOf ls)) table query) (Ready talk) t (x .bytes)
-      (sym (ap (λ (o : Opened). begun o table query) (opened-start ∙ ap (λ (a : StartAnswer). openedAs cells (asks .query) a (s .run)) g)))
-      (ap Ready k, i, asks .bytes-are)
+  pub start-ready : (table query : List ℕ) → s .answer ≡ T.Ready → (state : SessionState) (t : List ℕ) → state ≡ firstState (s .run) → t ≡ cells ++ drop (length cells) table
+      → OpeningOutcomeIs (openingOutcome (openedQuery cells (queryOf ls)) table query) (openingTold (Ready state)) t (x .bytes)
+  start-ready table query g state t k i =
+      opening-same (openingOutcome (ready cells (asks .query) (s .run)) table query) (openingOutcome (openedQuery cells (queryOf ls)) table query) (openingTold (Ready state)) t (x .bytes)
+      (sym (ap (λ (o : Opened). openingOutcome o table query) (opened-start ∙ ap (λ (a : StartAnswer). openedAs cells (asks .query) a (s .run)) g)))
+      (ap (λ (s : SessionState). openingTold (Ready s)) k, i, asks .bytes-are)
 
 -- The input.
 
-pub opened-long : (input : List ℕ) → 65536 < length input → opened input ≡ refused (Input CountLimit)
+pub opened-long : (input : List ℕ) → mostInput < length input → opened input ≡ refused (Input CountLimit)
 unfolding opened
-opened-long input h = ap (λ (b : Bool). cond b (refused (Input CountLimit)) (openedTable (parsed (tableText input)) (linesOf (queryText input)))) (lt-ltb 65536 (length input) h)
+opened-long input h = ap (λ (b : Bool). cond b (refused (Input CountLimit)) (openedTable (parsed (tableText input)) (linesOf (queryText input)))) (lt-ltb mostInput (length input) h)
 
-opened-by : (input : List ℕ) → length input ≤ 65536 → opened input ≡ openedTable (parsed (tableText input)) (linesOf (queryText input))
+opened-by : (input : List ℕ) → length input ≤ mostInput → opened input ≡ openedTable (parsed (tableText input)) (linesOf (queryText input))
 unfolding opened
-opened-by input h = ap (λ (b : Bool). cond b (refused (Input CountLimit)) (openedTable (parsed (tableText input)) (linesOf (queryText input)))) (le-ltb 65536 (length input) h)
+opened-by input h = ap (λ (b : Bool). cond b (refused (Input CountLimit)) (openedTable (parsed (tableText input)) (linesOf (queryText input)))) (le-ltb mostInput (length input) h)
 
--- a table that is read has at most 4,612 cells
-pub cells-most : (text : List ℕ) (t : Table) → parsed text ≡ accepted t → length (cellsOf t) ≤ 4612
+-- a table that is read has no more cells than the largest
+pub cells-most : (text : List ℕ) (t : Table) → parsed text ≡ accepted t → length (cellsOf t) ≤ mostCells
 cells-most text t e =
     let b = table-bounded t (read-text text t e .0) in
     omega (arith, length-cells t, b .states, b .initials, b .terminals, b .arcs)
 
-module _ (input : List ℕ) (end : ℕ) (end-is : end ≡ tableSize input) (few : length input ≤ 65536) (zeros : List ℕ) (room : length zeros ≡ 4612) where
+module _ (input : List ℕ) (end : ℕ) (end-is : end ≡ tableSize input) (few : length input ≤ mostInput) (zeros : List ℕ) (room : length zeros ≡ mostCells) where
   text-is : take end input ≡ tableText input
   text-is = ap (λ (n : ℕ). take n input) end-is
 
