@@ -63,7 +63,7 @@ fn write_line(line: &[u8]) -> bool {
 // The lines of a session that is open, to the last.
 fn write_lines(
     table: &[u16; MOST_CELLS],
-    query: &[u8; 514],
+    query: &[u8; session_query::QUERY_BYTES],
     first: SessionState,
     stack: &mut [u32; STACK_CELLS],
     output: &mut [u8; OUTPUT_LETTERS],
@@ -98,7 +98,7 @@ fn main() {
         return;
     };
     let mut table = [0u16; MOST_CELLS];
-    let mut query = [0u8; 514];
+    let mut query = [0u8; session_query::QUERY_BYTES];
     let mut line = [0u8; LINE_CHARACTERS];
     let opening = session_opening::begin(&input[..count], &mut table, &mut query);
     match opening {

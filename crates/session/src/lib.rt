@@ -81,7 +81,7 @@ fn result_line(
 // The next line of a session, from the front of `line`.
 pub fn next_line(
     table: &[u16; table_format::MOST_CELLS],
-    query: &[u8; 514],
+    query: &[u8; session_query::QUERY_BYTES],
     state: SessionState,
     stack: &mut [u32; STACK_CELLS],
     output: &mut [u8; OUTPUT_LETTERS],

@@ -51,7 +51,7 @@ fn begin_query(
     text: &[u8],
     cells: &[u16],
     table: &mut [u16; table_format::MOST_CELLS],
-    query: &mut [u8; 514],
+    query: &mut [u8; session_query::QUERY_BYTES],
 ) -> Opening
     requires { ⌜ length (now cells) ≤ mostCells ⌝ }
     ensures { λ r. ⌜ OpeningOutcomeIs (openingOutcome (openedQuery (now (cells .entry)) (queryOf (linesOf (now (text .entry))))) (now (table .entry)) (now (query .entry))) (openingTold r) (now (table .exit)) (now (query .exit)) ⌝ }
@@ -78,7 +78,7 @@ fn begin_query(
 pub fn begin(
     input: &[u8],
     table: &mut [u16; table_format::MOST_CELLS],
-    query: &mut [u8; 514],
+    query: &mut [u8; session_query::QUERY_BYTES],
 ) -> Opening
     ensures { λ r. ⌜ OpeningOutcomeIs (openingOutcome (opened (now (input .entry))) (now (table .entry)) (now (query .entry))) (openingTold r) (now (table .exit)) (now (query .exit)) ⌝ }
 {

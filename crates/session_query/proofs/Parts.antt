@@ -10,91 +10,37 @@ use lib.ListN.{length, getD, drop, length-drop, drop-of-length-le, List·getD-eq
 use lib.Seq.{drop-cons, drop-drop, getD-drop}
 use borrow.Author.Tests.{eqb-true, ne-eqb}
 use Rattle.table_format.specs.Line.{Line, withChar, linesOf}
+use Rattle.table_scanner.specs.Scan.{firstLine, sizeOf}
 use Rattle.table_format.proofs.Line.{lines-char}
-use Rattle.session_query.specs.Parts.{sizeOf, firstSize, begins05, sizeThrough, tableSize}
-
--- The first line.
-
-firstChars : List Line → List ℕ
-firstChars [] = []
-firstChars (l ∷ ls) = l .chars
-
-chars-with : (c : ℕ) (ls : List Line) → firstChars (withChar c ls) ≡ c ∷ firstChars ls
-unfolding firstChars
-chars-with c [] = refl
-chars-with c (l ∷ ls) = refl
-
-size-with : (c : ℕ) (ls : List Line) → firstSize (withChar c ls) ≡ suc (firstSize ls)
-size-with c [] = refl
-size-with c (l ∷ ls) = omega arith
-
-lines-fed : (c : ℕ) (cs : List ℕ) → eqb c 10 ≡ true → linesOf (c ∷ cs) ≡ record { chars = []; fed = true } ∷ linesOf cs
-unfolding linesOf
-lines-fed c cs h = ap (λ (b : Bool). cond b (record { chars = []; fed = true } ∷ linesOf cs) (withChar c (linesOf cs))) h
-
-pub size-fed : (c : ℕ) (cs : List ℕ) → eqb c 10 ≡ true → firstSize (linesOf (c ∷ cs)) ≡ 1
-size-fed c cs h = ap firstSize (lines-fed c cs h)
-
-pub size-char : (c : ℕ) (cs : List ℕ) → eqb c 10 ≡ false → firstSize (linesOf (c ∷ cs)) ≡ suc (firstSize (linesOf cs))
-size-char c cs h = ap firstSize (lines-char c cs h) ∙ size-with c (linesOf cs)
-
-pub size-some : (s : List ℕ) → 0 < length s → 0 < firstSize (linesOf s)
-size-some [] h = absurd (omega arith)
-size-some (c ∷ cs) h = go (eqb c 10) refl
-  where
-    go : (b : Bool) → eqb c 10 ≡ b → 0 < firstSize (linesOf (c ∷ cs))
-    go true e = omega (arith, size-fed c cs e)
-    go false e = omega (arith, size-char c cs e)
-
--- the first line, and the lines after it
-lines-first : (c : ℕ) (cs : List ℕ) → (l : Line) × (linesOf (c ∷ cs) ≡ l ∷ linesOf (drop (sizeOf l) (c ∷ cs)))
-unfolding linesOf
-lines-first c [] = go (eqb c 10)
-  where
-    go : (b : Bool) → (l : Line) × (cond b (record { chars = []; fed = true } ∷ []) (withChar c []) ≡ l ∷ linesOf (drop (sizeOf l) (c ∷ [])))
-    go true = (record { chars = []; fed = true }, refl)
-    go false = (record { chars = c ∷ []; fed = false }, refl)
-lines-first c (d ∷ cs) = go (eqb c 10) (lines-first d cs)
-  where
-    go : (b : Bool) → (l : Line) × (linesOf (d ∷ cs) ≡ l ∷ linesOf (drop (sizeOf l) (d ∷ cs)))
-        → (l : Line) × (cond b (record { chars = []; fed = true } ∷ linesOf (d ∷ cs)) (withChar c (linesOf (d ∷ cs))) ≡ l ∷ linesOf (drop (sizeOf l) (c ∷ d ∷ cs)))
-    go true w = (record { chars = []; fed = true }, refl)
-    go false w =
-        let more : suc (length (w .0 .chars)) + cond (w .0 .fed) 1 0 ≡ suc (sizeOf (w .0)) = omega arith in
-        (record { chars = c ∷ w .0 .chars; fed = w .0 .fed }, ap (withChar c) (w .1) ∙ ap (λ (n : ℕ). record { chars = c ∷ w .0 .chars; fed = w .0 .fed } ∷ linesOf (drop n (c ∷ d ∷ cs))) (sym more))
+use Rattle.table_scanner.proofs.FirstLine.{lines-fed, first-none, first-feed, first-char, size-feed, size-char, first-inside, first-some, lines-first}
+use Rattle.session_query.specs.Parts.{begins05, sizeThrough, tableSize}
 
 -- The characters 05.
 
-second-is : (s : List ℕ) → eqb (getD (firstChars (linesOf s)) 0 0) 53 ≡ eqb (getD s 0 0) 53
-unfolding linesOf firstChars
-second-is [] = refl
+second-is : (s : List ℕ) → eqb (getD (firstLine s .chars) 0 0) 53 ≡ eqb (getD s 0 0) 53
+second-is [] = ap (λ (l : Line). eqb (getD (l .chars) 0 0) 53) first-none
 second-is (d ∷ s) = go (eqb d 10) refl
   where
-    go : (b : Bool) → eqb d 10 ≡ b → eqb (getD (firstChars (linesOf (d ∷ s))) 0 0) 53 ≡ eqb d 53
-    go true e = ap (λ (ls : List Line). eqb (getD (firstChars ls) 0 0) 53) (lines-fed d s e) ∙ ap (λ (n : ℕ). eqb n 53) (sym (eqb-true d 10 e))
-    go false e = ap (λ (cs : List ℕ). eqb (getD cs 0 0) 53) (ap firstChars (lines-char d s e) ∙ chars-with d (linesOf s))
+    go : (b : Bool) → eqb d 10 ≡ b → eqb (getD (firstLine (d ∷ s) .chars) 0 0) 53 ≡ eqb d 53
+    go true e = ap (λ (l : Line). eqb (getD (l .chars) 0 0) 53) (first-feed d s e) ∙ ap (λ (n : ℕ). eqb n 53) (sym (eqb-true d 10 e))
+    go false e = ap (λ (l : Line). eqb (getD (l .chars) 0 0) 53) (first-char d s e)
 
-begins-first : (s : List ℕ) → begins05 (firstChars (linesOf s)) ≡ begins05 s
-unfolding linesOf firstChars
-begins-first [] = refl
+begins-first : (s : List ℕ) → begins05 (firstLine s .chars) ≡ begins05 s
+begins-first [] = ap (λ (l : Line). begins05 (l .chars)) first-none
 begins-first (c ∷ s) = go (eqb c 10) refl
   where
-    go : (b : Bool) → eqb c 10 ≡ b → begins05 (firstChars (linesOf (c ∷ s))) ≡ begins05 (c ∷ s)
-    go true e = ap (λ (ls : List Line). begins05 (firstChars ls)) (lines-fed c s e) ∙ ap (λ (n : ℕ). eqb n 48 && eqb (getD s 0 0) 53) (sym (eqb-true c 10 e))
-    go false e = ap begins05 (ap firstChars (lines-char c s e) ∙ chars-with c (linesOf s)) ∙ ap (λ (b : Bool). eqb c 48 && b) (second-is s)
+    go : (b : Bool) → eqb c 10 ≡ b → begins05 (firstLine (c ∷ s) .chars) ≡ begins05 (c ∷ s)
+    go true e = ap (λ (l : Line). begins05 (l .chars)) (first-feed c s e) ∙ ap (λ (n : ℕ). eqb n 48 && eqb (getD s 0 0) 53) (sym (eqb-true c 10 e))
+    go false e = ap (λ (l : Line). begins05 (l .chars)) (first-char c s e) ∙ ap (λ (b : Bool). eqb c 48 && b) (second-is s)
 
 -- Through the first line that begins with 05.
 
 abbrev throughBy : List ℕ → ℕ → Bool → ℕ
 throughBy s n b = n + cond b 0 (sizeThrough (linesOf (drop n s)))
 
-through : (s : List ℕ) → 0 < length s → sizeThrough (linesOf s) ≡ throughBy s (firstSize (linesOf s)) (begins05 s)
-unfolding sizeThrough firstChars
-through [] h = absurd (omega arith)
-through (c ∷ cs) h =
-    let w = lines-first c cs in
-    ap sizeThrough (w .1)
-    ∙ ap₂ (throughBy (c ∷ cs)) (sym (ap firstSize (w .1))) (sym (ap (λ (ls : List Line). begins05 (firstChars ls)) (w .1)) ∙ begins-first (c ∷ cs))
+through : (s : List ℕ) → 0 < length s → sizeThrough (linesOf s) ≡ throughBy s (sizeOf (firstLine s)) (begins05 s)
+unfolding sizeThrough
+through s h = ap sizeThrough (lines-first s h) ∙ ap (throughBy s (sizeOf (firstLine s))) (begins-first s)
 
 total : List Line → ℕ
 total [] = 0
@@ -126,14 +72,6 @@ through-total (l ∷ ls) = go (begins05 (l .chars)) (through-total ls)
 pub size-inside : (input : List ℕ) → tableSize input ≤ length input
 size-inside input = omega (arith, through-total (linesOf input), total-lines input)
 
-first-total : (ls : List Line) → firstSize ls ≤ total ls
-unfolding total
-first-total [] = omega arith
-first-total (l ∷ ls) = omega arith
-
-first-inside : (s : List ℕ) → firstSize (linesOf s) ≤ length s
-first-inside s = omega (arith, first-total (linesOf s), total-lines s)
-
 -- The loops: what is left of the text at a place.
 
 module _ (text : List ℕ) where
@@ -142,19 +80,18 @@ module _ (text : List ℕ) where
 
   -- where the line that is left at a place ends
   abbrev pub endAt : ℕ → ℕ
-  endAt at = at + firstSize (linesOf (drop at text))
+  endAt at = at + sizeOf (firstLine (drop at text))
 
   pub end-fed : (at : ℕ) → at < length text → getD text at 0 ≡ 10 → endAt at ≡ at + 1
-  end-fed at h e = ap (λ (n : ℕ). at + n) (ap (λ (s : List ℕ). firstSize (linesOf s)) (here at h) ∙ size-fed (getD text at 0) (drop (at + 1) text) (ap (λ (n : ℕ). eqb n 10) e))
+  end-fed at h e = ap (λ (n : ℕ). at + n) (ap (λ (s : List ℕ). sizeOf (firstLine s)) (here at h) ∙ size-feed (getD text at 0) (drop (at + 1) text) (ap (λ (n : ℕ). eqb n 10) e))
 
   pub end-char : (at : ℕ) → at < length text → (getD text at 0 ≡ 10 → ⊥) → endAt (at + 1) ≡ endAt at
   end-char at h n =
-      let e : firstSize (linesOf (drop at text)) ≡ suc (firstSize (linesOf (drop (at + 1) text))) = ap (λ (s : List ℕ). firstSize (linesOf s)) (here at h) ∙ size-char (getD text at 0) (drop (at + 1) text) (ne-eqb (getD text at 0) 10 n) in
+      let e : sizeOf (firstLine (drop at text)) ≡ suc (sizeOf (firstLine (drop (at + 1) text))) = ap (λ (s : List ℕ). sizeOf (firstLine s)) (here at h) ∙ size-char (getD text at 0) (drop (at + 1) text) (ne-eqb (getD text at 0) 10 n) in
       omega arith
 
   pub end-none : (at : ℕ) → length text ≤ at → endAt at ≡ at
-  unfolding linesOf
-  end-none at h = ap (λ (s : List ℕ). at + firstSize (linesOf s)) (drop-of-length-le text h) ∙ omega arith
+  end-none at h = ap (λ (s : List ℕ). at + sizeOf (firstLine s)) (drop-of-length-le text h) ∙ ap (λ (l : Line). at + sizeOf l) first-none ∙ omega arith
 
   -- the characters at a place
   begins-at : (at : ℕ) → begins05 (drop at text) ≡ (eqb (getD text at 0) 48 && eqb (getD text (at + 1) 0) 53)
@@ -186,9 +123,9 @@ module _ (text : List ℕ) where
   left : (at : ℕ) → at < length text → 0 < length (drop at text)
   left at h = omega (arith, length-drop at text)
 
-  counted-by : (at : ℕ) (b : Bool) → at < length text → Counted at → begins05 (drop at text) ≡ b → at + throughBy (drop at text) (firstSize (linesOf (drop at text))) b ≡ tableSize text
+  counted-by : (at : ℕ) (b : Bool) → at < length text → Counted at → begins05 (drop at text) ≡ b → at + throughBy (drop at text) (sizeOf (firstLine (drop at text))) b ≡ tableSize text
   counted-by at b h C e =
-      ap (λ (c : Bool). at + throughBy (drop at text) (firstSize (linesOf (drop at text))) c) (sym e)
+      ap (λ (c : Bool). at + throughBy (drop at text) (sizeOf (firstLine (drop at text))) c) (sym e)
       ∙ ap (λ (n : ℕ). at + n) (sym (through (drop at text) (left at h))) ∙ C .sum
 
   pub counted-stop : (at : ℕ) → at < length text → Counted at → begins05 (drop at text) ≡ true → endAt at ≡ tableSize text
@@ -198,8 +135,8 @@ module _ (text : List ℕ) where
   counted-more at next h C e k =
       let f = first-inside (drop at text) in
       let l = length-drop at text in
-      let p = size-some (drop at text) (left at h) in
-      let s : linesOf (drop (firstSize (linesOf (drop at text))) (drop at text)) ≡ linesOf (drop next text) = ap linesOf (drop-drop (firstSize (linesOf (drop at text))) at text ∙ ap (λ (n : ℕ). drop n text) (sym k)) in
+      let p = first-some (drop at text) (left at h) in
+      let s : linesOf (drop (sizeOf (firstLine (drop at text))) (drop at text)) ≡ linesOf (drop next text) = ap linesOf (drop-drop (sizeOf (firstLine (drop at text))) at text ∙ ap (λ (n : ℕ). drop n text) (sym k)) in
       let z = ap sizeThrough s in
       let q = counted-by at false h C e in
       (record { inside = omega arith; sum = omega arith }, omega arith)

@@ -3,17 +3,9 @@ use Prim.Native.Nat.{ℕ, _+_}
 use mathlib.Core.Bool.{Bool, cond, _&&_}
 use mathlib.Core.List.{List, [], _∷_}
 use lib.Dec.{eqb}
-use lib.ListN.{length, getD, take, drop}
+use lib.ListN.{getD, take, drop}
 use Rattle.table_format.specs.Line.{Line, linesOf}
-
--- how many characters a line has, with its line feed if that is there
-abbrev pub sizeOf : Line → ℕ
-sizeOf l = length (l .chars) + cond (l .fed) 1 0
-
--- the first of some lines, if there is one
-abbrev pub firstSize : List Line → ℕ
-firstSize [] = 0
-firstSize (l ∷ ls) = sizeOf l
+use Rattle.table_scanner.specs.Scan.{sizeOf}
 
 -- "begins with 05": characters 48 and 53
 abbrev pub begins05 : List ℕ → Bool

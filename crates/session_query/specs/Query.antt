@@ -9,6 +9,10 @@ use Rattle.refusal.specs.declared.InputCause.the-variants.{Malformed, Misplaced
 use Rattle.table_format.specs.Rules.{isEmpty}
 use Rattle.table_format.specs.Line.{Line, malformed, bytesOf}
 
+-- the most bytes of a query: kind, task and a length, 255 letters, a length, 255 letters
+abbrev pub queryBytes : ℕ
+queryBytes = 3 + 255 + 1 + 255
+
 -- the parts of a query's bytes
 abbrev pub taskIn : List ℕ → ℕ
 taskIn b = getD b 1 0
@@ -19,11 +23,15 @@ upperLength b = getD b 2 0
 abbrev pub lowerLength : List ℕ → ℕ
 lowerLength b = getD b (3 + upperLength b) 0
 
+-- the word whose length stands at a place
+abbrev pub wordAt : List ℕ → ℕ → List ℕ
+wordAt b at = take (getD b at 0) (drop (at + 1) b)
+
 abbrev pub upperIn : List ℕ → List ℕ
-upperIn b = take (upperLength b) (drop 3 b)
+upperIn b = wordAt b 2
 
 abbrev pub lowerIn : List ℕ → List ℕ
-lowerIn b = take (lowerLength b) (drop (4 + upperLength b) b)
+lowerIn b = wordAt b (3 + upperLength b)
 
 -- the kind (10 in base sixteen), and as many bytes as the parts have
 unfoldable pub isQuery : List ℕ → Bool
@@ -34,9 +42,9 @@ pub data Asked : Type 0 where
   fault : InputCause → Asked
   says : List ℕ → Asked
 
--- bytes from the front of an array of 514, which holds every query (3 + 255 + 1 + 255); the others are 0
+-- bytes from the front of an array that holds every query; the others are 0
 unfoldable pub filled : List ℕ → List ℕ
-filled b = b ++ drop (length b) (replicate 514 0)
+filled b = b ++ drop (length b) (replicate queryBytes 0)
 
 -- "a query missing, of wrong kind or length, or followed by text gives 2"; a line that is malformed gives 1
 unfoldable pub queryOf : List Line → Asked

@@ -4,14 +4,9 @@ pub mod splitter;
 pub mod words;
 
 use refusal::InputCause;
-ghost use mathlib.Core.Path.{_≡_};
-ghost use Prim.Native.Nat.{_<_};
 
-// What the first line of a text says: that it is malformed, or how many bytes, and whether no other line follows.
-pub enum FirstLine {
-    Bad,
-    Says { count: usize, alone: bool },
-}
+// The most bytes of a query: 3 + 255 + 1 + 255.
+pub const QUERY_BYTES: usize = 514;
 
 // What a text asks: nothing, for a cause, or a query.
 pub enum Asking {
@@ -22,5 +17,5 @@ pub enum Asking {
 // What a text asks, with the query's bytes from the front of an array that holds every query; the others are 0.
 pub struct Question {
     pub asking: Asking,
-    pub bytes: [u8; 514],
+    pub bytes: [u8; QUERY_BYTES],
 }

@@ -2,12 +2,12 @@
 ghost use mathlib.Core.Path.{_≡_};
 ghost use Prim.Native.Nat.{_+_, _≤_};
 ghost use lib.ListN.{length, drop};
-ghost use Rattle.table_format.specs.Line.{linesOf};
-ghost use Rattle.session_query.specs.Parts.{begins05, firstSize, tableSize};
+ghost use Rattle.table_scanner.specs.Scan.{firstLine, sizeOf};
+ghost use Rattle.session_query.specs.Parts.{begins05, tableSize};
 
 // Where the line that begins at a place ends, its line feed included.
 fn line_end(text: &[u8], start: usize) -> usize
-    ensures { λ r. ⌜ r ≡ start + firstSize (linesOf (drop start (now (text .entry)))) ⌝ }
+    ensures { λ r. ⌜ r ≡ start + sizeOf (firstLine (drop start (now (text .entry)))) ⌝ }
 {
     let mut at = start;
     while at < text.len() {

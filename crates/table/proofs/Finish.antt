@@ -15,12 +15,13 @@ use Rattle.table_parser.specs.declared.Read.the-variants.{Cells, Fault}
 use Rattle.table_format.specs.Table.{Table}
 use Rattle.table_format.specs.Loaded.{cellsOf}
 use Rattle.table_format.specs.Parse.{Parsed, accepted, turnedDown, parsed}
-use Rattle.table_parser.specs.Draft.{filledUp, gathered}
+use Rattle.table_items.specs.Draft.{filledUp}
+use Rattle.table_parser.specs.Gathered.{gathered}
 use Rattle.table.specs.Calls.{readAs, readCellsAs, readAnswer, readCells}
 use Rattle.table_format.proofs.Rules.{table-bounded}
 use Rattle.table_format.proofs.Loaded.{length-cells}
 use Rattle.table_format.proofs.Determine.{read-text}
-use Rattle.table_parser.proofs.Filled.{length-filled, take-filled}
+use Rattle.table_items.proofs.Filled.{length-filled, take-filled}
 
 module _ (text destination : List ℕ) where
   -- the answer and the destination as the reader leaves them

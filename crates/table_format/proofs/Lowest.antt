@@ -14,7 +14,7 @@ use Rattle.table_format.specs.Table.{Table}
 use Rattle.table_format.specs.Rules.{unless, countsHold, stateHolds, letterHolds, initialIsNew, terminalRises, sourceHolds, arcIsNew, headerFaults, initialFaults, terminalFaults, arcFaults}
 use Rattle.table_format.specs.Line.{Line, malformed, bytesOf}
 use Rattle.table_format.specs.Text.{linesBefore}
-use Rattle.table_format.specs.Parse.{inPlace, isHeader, Kind, initial, terminal, arc, end, numberAt, countsFrom, arcFrom, isOf, due, Progress, opening, within, closed, itemFaults, bytesFaults, lineFaults}
+use Rattle.table_format.specs.Parse.{inPlace, isHeader, LineKind, initial, terminal, arc, end, numberAt, countsFrom, arcFrom, isOf, due, Progress, opening, within, closed, itemFaults, bytesFaults, lineFaults}
 use Rattle.table_format.proofs.Tests.{and-left, and-right}
 
 -- each refusal's number is below the next one's
@@ -51,7 +51,7 @@ four false false true false = refl
 four false false false true = refl
 four false false false false = refl
 
-item-rise : (k : Kind) (t : Table) (b : List ℕ) → numbersRise (itemFaults k t b) ≡ true
+item-rise : (k : LineKind) (t : Table) (b : List ℕ) → numbersRise (itemFaults k t b) ≡ true
 unfolding itemFaults initialFaults terminalFaults arcFaults
 item-rise initial t b = two (stateHolds (t .states) (numberAt b 1)) (initialIsNew (t .initials) (numberAt b 1))
 item-rise terminal t b = two (stateHolds (t .states) (numberAt b 1)) (terminalRises (t .terminals) (numberAt b 1))

@@ -13,7 +13,7 @@ use Rattle.table_format.specs.Table.{Arc, Table, Counts, countsOf}
 use Rattle.table_format.specs.Rules.{isEmpty, each, countsHold, headerFaults}
 use Rattle.table_format.specs.Line.{Line, malformed, bytesOf}
 use Rattle.table_format.specs.Text.{initialBytes, terminalBytes, arcBytes, linesBefore}
-use Rattle.table_format.specs.Parse.{inPlace, isHeader, Kind, initial, terminal, arc, end, numberAt, countsFrom, arcFrom, isOf, Progress, opening, within, closed, due, emptyTable, itemFaults, kindFaults, bytesFaults, lineFaults, added, onward, Parsed, accepted, decide, atEnd, parseFrom}
+use Rattle.table_format.specs.Parse.{inPlace, isHeader, LineKind, initial, terminal, arc, end, numberAt, countsFrom, arcFrom, isOf, Progress, opening, within, closed, due, emptyTable, itemFaults, kindFaults, bytesFaults, lineFaults, added, onward, Parsed, accepted, decide, atEnd, parseFrom}
 use Rattle.table_format.proofs.All.{All}
 use Rattle.table_format.proofs.Tests.{empty-nil}
 use Rattle.table_format.proofs.Rules.{clear-last, header-clear, initialPasses, terminalPasses, arcPasses}
@@ -113,19 +113,19 @@ place-clear true faults = refl
 place-clear false faults = refl
 
 -- what a line earns at a place where its kind is due, and where it leads
-module _ (c : Counts) (t : Table) (k : Kind) (here : due c t ≡ k) (b : List ℕ) where
+module _ (c : Counts) (t : Table) (k : LineKind) (here : due c t ≡ k) (b : List ℕ) where
   pub faults-due : isEmpty (bytesFaults (within c t) b) ≡ (isOf k b && isEmpty (itemFaults k t b))
   unfolding bytesFaults
-  faults-due = ap (λ (x : Kind). isEmpty (kindFaults x t b)) here ∙ place-clear (isOf k b) (itemFaults k t b)
+  faults-due = ap (λ (x : LineKind). isEmpty (kindFaults x t b)) here ∙ place-clear (isOf k b) (itemFaults k t b)
 
   pub onward-due : onward (within c t) b ≡ added k c t b
   unfolding onward
-  onward-due = ap (λ (x : Kind). added x c t b) here
+  onward-due = ap (λ (x : LineKind). added x c t b) here
 
 -- The items of one kind, in lines one after the other: a table with those so far, their bytes, what bytes say, and the test that each
 -- item passes.
 pub record Phase (c : Counts) (A : Type 0) : Type 0 where
-  pub kind : Kind
+  pub kind : LineKind
   pub count : ℕ
   pub with : List A → Table
   pub bytes : A → List ℕ

@@ -11,7 +11,7 @@ use Rattle.table_format.specs.Rules.{keepsRules}
 use Rattle.table_format.specs.Index.{tabulate}
 use Rattle.table_format.specs.Line.{lineText}
 use Rattle.table_format.specs.Text.{number, headerBytes, initialBytes, terminalBytes, arcBytes, endBytes, linesBefore, itemLines, joinLines, textOf}
-use Rattle.table_format.specs.Parse.{hasForm, isHeader, Kind, initial, terminal, arc, end, numberAt, countsFrom, arcFrom, codeOf, widthOf, isOf}
+use Rattle.table_format.specs.Parse.{hasForm, isHeader, LineKind, initial, terminal, arc, end, numberAt, countsFrom, arcFrom, codeOf, widthOf, isOf}
 use Rattle.table_format.proofs.All.{All, all-append, all-map, all-getD}
 use Rattle.table_format.proofs.Rules.{Bounded, ArcBounded, table-bounded, initials-below, terminals-below, arcs-bounded}
 use Rattle.table_format.proofs.Line.{IsByte, Bytes, length-chars}
@@ -76,7 +76,7 @@ module _ (b : List ℕ) (small : All IsByte b) where
       p .1 ∙ sym (λ i. sym (p .0) i ∷ (number-here 1 i ++ (getD b 3 0 ∷ getD b 4 0 ∷ number-here 5 i)))
 
   -- a line of one number
-  short-only : (k : Kind) → widthOf k ≡ 3 → isOf k b ≡ true → b ≡ codeOf k ∷ number (numberAt b 1)
+  short-only : (k : LineKind) → widthOf k ≡ 3 → isOf k b ≡ true → b ≡ codeOf k ∷ number (numberAt b 1)
   short-only k w e =
       let p = form-parts (codeOf k) (widthOf k) b e in
       p .1 ∙ ap (tabulate (λ i. getD b i 0) 0) w ∙ sym (λ i. sym (p .0) i ∷ number-here 1 i)

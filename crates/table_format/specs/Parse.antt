@@ -37,22 +37,22 @@ isHeader b = hasForm 1 9 b
 
 -- The kinds of the lines after the header's, each with its first byte and its length.
 
-pub data Kind : Type 0 where
-  initial terminal arc end : Kind
+pub data LineKind : Type 0 where
+  initial terminal arc end : LineKind
 
-abbrev pub codeOf : Kind → ℕ
+abbrev pub codeOf : LineKind → ℕ
 codeOf initial = 2
 codeOf terminal = 3
 codeOf arc = 4
 codeOf end = 5
 
-abbrev pub widthOf : Kind → ℕ
+abbrev pub widthOf : LineKind → ℕ
 widthOf initial = 3
 widthOf terminal = 3
 widthOf arc = 7
 widthOf end = 3
 
-abbrev pub isOf : Kind → List ℕ → Bool
+abbrev pub isOf : LineKind → List ℕ → Bool
 isOf k b = hasForm (codeOf k) (widthOf k) b
 
 -- How far a text has been read: nothing yet; the header's counts and the items so far; all, with the end line.
@@ -63,7 +63,7 @@ pub data Progress : Type 0 where
   closed : Table → Progress
 
 -- the kind of the next line
-abbrev pub due : Counts → Table → Kind
+abbrev pub due : Counts → Table → LineKind
 due c t =
     cond (ltb (length (t .initials)) (c .initials)) initial
     (cond (ltb (length (t .terminals)) (c .terminals)) terminal (cond (ltb (length (t .arcs)) (c .arcs)) arc end))
@@ -73,13 +73,13 @@ abbrev pub emptyTable : ℕ → Table
 emptyTable states = record { states = states; initials = []; terminals = []; arcs = [] }
 
 -- what a line of its kind earns: 4 to 9
-unfoldable pub itemFaults : Kind → Table → List ℕ → List InputCause
+unfoldable pub itemFaults : LineKind → Table → List ℕ → List InputCause
 itemFaults initial t b = initialFaults (t .states) (t .initials) (numberAt b 1)
 itemFaults terminal t b = terminalFaults (t .states) (t .terminals) (numberAt b 1)
 itemFaults arc t b = arcFaults (t .states) (t .arcs) (arcFrom b)
 itemFaults end t b = unless (eqb (numberAt b 1) (linesBefore t)) LineCount
 
-abbrev pub kindFaults : Kind → Table → List ℕ → List InputCause
+abbrev pub kindFaults : LineKind → Table → List ℕ → List InputCause
 kindFaults k t b = inPlace (isOf k b) (itemFaults k t b)
 
 -- what a line's bytes earn, at each place; after the end line any text is misplaced
@@ -92,7 +92,7 @@ unfoldable pub lineFaults : Progress → Line → List InputCause
 lineFaults p l = cond (malformed l) (Malformed ∷ []) (bytesFaults p (bytesOf (l .chars)))
 
 -- the progress after a line that earns none
-abbrev pub added : Kind → Counts → Table → List ℕ → Progress
+abbrev pub added : LineKind → Counts → Table → List ℕ → Progress
 added initial c t b =
     within c (record { states = t .states; initials = t .initials ++ (numberAt b 1 ∷ []); terminals = t .terminals; arcs = t .arcs })
 added terminal c t b =

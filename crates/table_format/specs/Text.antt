@@ -26,6 +26,10 @@ arcBytes a = 4 ∷ (number (a .source) ++ (a .upper ∷ a .lower ∷ number (a .
 abbrev pub endBytes : ℕ → List ℕ
 endBytes n = 5 ∷ number n
 
+-- the most bytes of a line: the header's
+abbrev pub lineBytes : ℕ
+lineBytes = 9
+
 -- how many lines stand before the end line
 abbrev pub linesBefore : Table → ℕ
 linesBefore t = 1 + length (t .initials) + length (t .terminals) + length (t .arcs)

@@ -12,6 +12,9 @@ pub const INITIALS_AT: usize = 4;
 // The most cells of a table: 256 initial states, 256 terminal states, 1,024 arcs.
 pub const MOST_CELLS: usize = 4612;
 
+// The most bytes of a line of a table's text: the header's.
+pub const LINE_BYTES: usize = 9;
+
 // An arc, out of its cells.
 pub struct Arc {
     pub source: u16,

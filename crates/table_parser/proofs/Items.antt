@@ -9,30 +9,33 @@ use lib.Seq.{sets}
 use Rattle.refusal.specs.declared.InputCause.{InputCause}
 use Rattle.refusal.specs.declared.InputCause.the-variants.{Malformed, Misplaced, CountLimit}
 use Rattle.table_rules.specs.declared.Judged.the-variants.{Kept, Broken}
-use Rattle.table_parser.specs.declared.Scanned.{Scanned}
 use Rattle.table_parser.specs.declared.Gathered.{Gathered}
 use Rattle.table_format.specs.Table.{Table, Counts}
 use Rattle.table_format.specs.Rules.{unless, countsHold, headerFaults}
-use Rattle.table_format.specs.Loaded.{countCells, countsIn, cellsOf}
+use Rattle.table_format.specs.Loaded.{arcWidth, initialsAt, mostCells, countCells, countsIn, cellsOf}
 use Rattle.table_format.specs.Line.{linesOf, bytesOf}
 use Rattle.table_rules.specs.Judge.{judged}
-use Rattle.table_format.specs.Parse.{isHeader, inPlace, Kind, initial, terminal, arc, end, Progress, codeOf, due, countsFrom, kindFaults, bytesFaults, opening, parsed, onward, within, closed, emptyTable, Parsed, turnedDown, decide, parseFrom}
-use Rattle.table_parser.specs.Draft.{filledUp, draftCells, kindAfter, Drafted, IsItem, itemCells, itemKey, Tracks, gathered, itemsParsed}
-use Rattle.table_parser.proofs.Told.{LineRead, LineBad, parse-line, parse-bad}
+use Rattle.table_format.specs.Parse.{isHeader, inPlace, LineKind, initial, terminal, arc, end, Progress, codeOf, due, countsFrom, kindFaults, bytesFaults, opening, parsed, onward, within, closed, emptyTable, Parsed, turnedDown, decide, parseFrom}
+use Rattle.table_items.specs.Draft.{filledUp, draftCells, kindAfter, Drafted, IsItem, itemCells, itemKey, Tracks}
+use Rattle.table_parser.specs.Gathered.{gathered, itemsParsed}
+use Rattle.table_scanner.proofs.ScannedLine.{LineRead, LineBad}
+use Rattle.table_parser.proofs.ParseLine.{parse-line, parse-bad}
 use Rattle.table_format.proofs.Parse.{onward-due}
-use Rattle.table_parser.proofs.Draft.{bounded, filled-at, cells-long, counts-held, kind-due, item-due, lists-due, Lists, end-cells, extend, onward-item, tracks-more, tracks-start, misplaced, placed}
+use Rattle.table_items.proofs.LineKinds.{item-only, misplaced, placed}
+use Rattle.table_items.proofs.Draft.{bounded, filled-at, cells-long, counts-held, kind-due, lists-due, Lists, end-cells}
+use Rattle.table_items.proofs.More.{extend, onward-item, tracks-more, tracks-start}
 use Rattle.table_format.proofs.Rules.{Bounded}
 
 -- what a line's refusals decide
-pub decide-broken : (fs : List InputCause) (f : InputCause) (p : Parsed) → judged fs ≡ Broken f → decide fs p ≡ turnedDown f
+decide-broken : (fs : List InputCause) (f : InputCause) (p : Parsed) → judged fs ≡ Broken f → decide fs p ≡ turnedDown f
 decide-broken [] f p e = cc
 decide-broken (g ∷ fs) f p e = cc
 
-pub decide-kept : (fs : List InputCause) (p : Parsed) → judged fs ≡ Kept → decide fs p ≡ p
+decide-kept : (fs : List InputCause) (p : Parsed) → judged fs ≡ Kept → decide fs p ≡ p
 decide-kept [] p e = refl
 decide-kept (g ∷ fs) p e = cc
 
-not-end : (k : Kind) → IsItem k → codeOf k ≡ 5 → ⊥
+not-end : (k : LineKind) → IsItem k → codeOf k ≡ 5 → ⊥
 not-end initial i e = omega arith
 not-end terminal i e = omega arith
 not-end arc i e = omega arith
@@ -48,23 +51,23 @@ pub record ReadingOn (c : Counts) (text : List ℕ) (start at lines filled top :
   pub rest-is : All c text start ≡ parseFrom (within c table) (linesOf (drop at text))
 
 pub reading-start : (text : List ℕ) (start : ℕ) (cells : List ℕ) → start ≤ length text → countsHold (countsIn cells) ≡ true
-    → cells ≡ filledUp (countCells (countsIn cells)) → ReadingOn (countsIn cells) text start start 1 4 0 cells
+    → cells ≡ filledUp (countCells (countsIn cells)) → ReadingOn (countsIn cells) text start start 1 initialsAt 0 cells
 reading-start text start cells h k e =
     record { table = emptyTable (countsIn cells .states); tracks = tracks-start cells e k; inside = h; rest-is = refl }
 
 module _ {c : Counts} {text : List ℕ} {start at lines filled top : ℕ} {cells : List ℕ} (R : ReadingOn c text start at lines filled top cells) where
-  pub long : length cells ≡ 4612
-  long = cells-long c (R .table) lines filled top cells (R .tracks)
+  pub long : length cells ≡ mostCells
+  long = cells-long (R .tracks)
 
   -- the line that is due
   pub due-code : kindAfter (countsIn cells) lines ≡ codeOf (due c (R .table))
-  due-code = ap (λ (x : Counts). kindAfter x lines) (counts-held c (R .table) lines filled top cells (R .tracks)) ∙ kind-due c (R .table) lines filled top cells (R .tracks)
+  due-code = ap (λ (x : Counts). kindAfter x lines) (counts-held (R .tracks)) ∙ kind-due (R .tracks)
 
   pub drafted : {kind : ℕ} → kind ≡ codeOf (due c (R .table)) → Drafted lines filled top cells kind
   drafted e = record { counts = c; table = R .table; tracks = R .tracks; kind-is = e }
 
   pub item-is : {kind : ℕ} → kind ≡ codeOf (due c (R .table)) → (kind ≡ 5 → ⊥) → IsItem (due c (R .table))
-  item-is e n = item-due c (R .table) lines filled top cells (R .tracks) (λ z. n (e ∙ z))
+  item-is e n = item-only (due c (R .table)) (λ z. n (e ∙ z))
 
   pub out-missing : length text ≤ at → All c text start ≡ turnedDown Misplaced
   unfolding parseFrom linesOf
@@ -73,16 +76,16 @@ module _ {c : Counts} {text : List ℕ} {start at lines filled top : ℕ} {cells
   pub out-bad : LineBad text at → All c text start ≡ turnedDown Malformed
   out-bad L = R .rest-is ∙ parse-bad (within c (R .table)) text at L
 
-  pub room : (codeOf (due c (R .table)) ≡ 5 → ⊥) → filled + 4 ≤ 4612
-  room n = few (due c (R .table)) (lists-due c (R .table) lines filled top cells (R .tracks)) n
+  pub room : (codeOf (due c (R .table)) ≡ 5 → ⊥) → filled + arcWidth ≤ mostCells
+  room n = few (due c (R .table)) (lists-due (R .tracks)) n
     where
       b : Bounded c
-      b = bounded c (R .table) lines filled top cells (R .tracks)
+      b = bounded (R .tracks)
 
-      f : filled ≡ 4 + length (R .table .initials) + length (R .table .terminals) + 4 * length (R .table .arcs)
-      f = filled-at c (R .table) lines filled top cells (R .tracks)
+      f : filled ≡ initialsAt + length (R .table .initials) + length (R .table .terminals) + arcWidth * length (R .table .arcs)
+      f = filled-at (R .tracks)
 
-      few : (k : Kind) → Lists c (R .table) lines filled top cells (R .tracks) k → (codeOf k ≡ 5 → ⊥) → filled + 4 ≤ 4612
+      few : (k : LineKind) → Lists c (R .table) k → (codeOf k ≡ 5 → ⊥) → filled + arcWidth ≤ mostCells
       few initial l h = omega (arith, f, b .states, b .initials, l .0, ap length (l .1), ap length (l .2))
       few terminal l h = omega (arith, f, b .states, b .initials, b .terminals, l .0, l .1, ap length (l .2))
       few arc l h = omega (arith, f, b .states, b .initials, b .terminals, b .arcs, l .0, l .1, l .2)
@@ -90,47 +93,47 @@ module _ {c : Counts} {text : List ℕ} {start at lines filled top : ℕ} {cells
 
   pub lines-few : lines ≤ 1537
   lines-few =
-      let b = bounded c (R .table) lines filled top cells (R .tracks) in
+      let b = bounded (R .tracks) in
       omega (arith, b .states, b .initials, b .terminals, b .arcs, R .tracks .lines-is, R .tracks .initials-most, R .tracks .terminals-most, R .tracks .arcs-most)
 
-  module _ {r : Scanned} (L : LineRead text at r) where
+  module _ {count next : ℕ} {before bytes : List ℕ} (L : LineRead text at count next before bytes) where
     abbrev said : List ℕ
     said = bytesOf (L .line .chars)
 
     -- what the line decides
-    decided : All c text start ≡ decide (kindFaults (due c (R .table)) (R .table) said) (parseFrom (onward (within c (R .table)) said) (linesOf (drop (r .next) text)))
+    decided : All c text start ≡ decide (kindFaults (due c (R .table)) (R .table) said) (parseFrom (onward (within c (R .table)) said) (linesOf (drop next text)))
     unfolding bytesFaults
-    decided = R .rest-is ∙ parse-line (within c (R .table)) text at r L
+    decided = R .rest-is ∙ parse-line (within c (R .table)) text at L
 
     pub out-broken : (f : InputCause) → judged (kindFaults (due c (R .table)) (R .table) said) ≡ Broken f → All c text start ≡ turnedDown f
     out-broken f e = decided ∙ decide-broken (kindFaults (due c (R .table)) (R .table) said) f _ e
 
     module _ (kept : judged (kindFaults (due c (R .table)) (R .table) said) ≡ Kept) where
-      onto : All c text start ≡ parseFrom (onward (within c (R .table)) said) (linesOf (drop (r .next) text))
+      onto : All c text start ≡ parseFrom (onward (within c (R .table)) said) (linesOf (drop next text))
       onto = decided ∙ decide-kept (kindFaults (due c (R .table)) (R .table) said) _ kept
 
       -- the end line
       pub out-end : (x : Gathered) → due c (R .table) ≡ end
-          → ((t : Table) → filled ≡ length (cellsOf t) → cells ≡ filledUp (cellsOf t) → x ≡ gathered (parseFrom (closed t) (linesOf (drop (r .next) text))))
+          → ((t : Table) → filled ≡ length (cellsOf t) → cells ≡ filledUp (cellsOf t) → x ≡ gathered (parseFrom (closed t) (linesOf (drop next text))))
           → x ≡ gathered (All c text start)
       out-end x d f =
-          let q : draftCells c (R .table) ≡ cellsOf (R .table) = end-cells c (R .table) lines filled top cells (R .tracks) d in
+          let q : draftCells c (R .table) ≡ cellsOf (R .table) = end-cells (R .tracks) d in
           f (R .table) (R .tracks .filled-is ∙ ap length q) (R .tracks .cells-are ∙ ap filledUp q)
-          ∙ ap gathered (sym (onto ∙ ap (λ (p : Progress). parseFrom p (linesOf (drop (r .next) text))) (onward-due c (R .table) end d said)))
+          ∙ ap gathered (sym (onto ∙ ap (λ (p : Progress). parseFrom p (linesOf (drop next text))) (onward-due c (R .table) end d said)))
 
       -- one item more
       pub reading-more : (filled′ top′ : ℕ) (cells′ : List ℕ) → IsItem (due c (R .table)) → top ≤ top′ → itemKey (due c (R .table)) said ≤ top′
           → (filled′ ≡ filled + length (itemCells (due c (R .table)) said)) × (cells′ ≡ sets cells filled (itemCells (due c (R .table)) said))
-          → ReadingOn c text start (r .next) (lines + 1) filled′ top′ cells′
+          → ReadingOn c text start next (lines + 1) filled′ top′ cells′
       reading-more filled′ top′ cells′ i h k p =
           record {
             table = extend (due c (R .table)) (R .table) said;
             tracks =
                 subst (λ (n : ℕ). Tracks c (extend (due c (R .table)) (R .table) said) (lines + 1) n top′ cells′) (sym (p .0))
                 (subst (Tracks c (extend (due c (R .table)) (R .table) said) (lines + 1) _ top′) (sym (p .1))
-                (tracks-more c (R .table) lines filled top cells (R .tracks) said top′ h (room (not-end (due c (R .table)) i)) (due c (R .table)) refl i kept k));
+                (tracks-more (R .tracks) said h (room (not-end (due c (R .table)) i)) (due c (R .table)) refl i kept k));
             inside = L .next-inside;
-            rest-is = onto ∙ ap (λ (p : Progress). parseFrom p (linesOf (drop (r .next) text))) (onward-item c (R .table) (due c (R .table)) said refl i);
+            rest-is = onto ∙ ap (λ (p : Progress). parseFrom p (linesOf (drop next text))) (onward-item c (R .table) (due c (R .table)) said refl i);
           }
 
 -- The header line.
@@ -144,7 +147,7 @@ pub header-bad : (text : List ℕ) → LineBad text 0 → parsed text ≡ turned
 unfolding parsed
 header-bad text L = parse-bad opening text 0 L
 
-module _ {text : List ℕ} {r : Scanned} (L : LineRead text 0 r) where
+module _ {text : List ℕ} {count next : ℕ} {before bytes : List ℕ} (L : LineRead text 0 count next before bytes) where
   abbrev first : List ℕ
   first = bytesOf (L .line .chars)
 
@@ -152,9 +155,9 @@ module _ {text : List ℕ} {r : Scanned} (L : LineRead text 0 r) where
   abbrev earned : List InputCause
   earned = inPlace (isHeader first) (headerFaults (countsFrom first))
 
-  header-decided : parsed text ≡ decide earned (parseFrom (onward opening first) (linesOf (drop (r .next) text)))
+  header-decided : parsed text ≡ decide earned (parseFrom (onward opening first) (linesOf (drop next text)))
   unfolding parsed bytesFaults
-  header-decided = parse-line opening text 0 r L
+  header-decided = parse-line opening text 0 L
 
   pub header-misplaced : isHeader first ≡ false → parsed text ≡ turnedDown Misplaced
   header-misplaced e = header-decided ∙ decide-broken earned Misplaced _ (misplaced (headerFaults (countsFrom first)) e)
@@ -167,6 +170,6 @@ module _ {text : List ℕ} {r : Scanned} (L : LineRead text 0 r) where
     pub header-limit : countsHold (countsFrom first) ≡ false → parsed text ≡ turnedDown CountLimit
     header-limit e = header-decided ∙ decide-broken earned CountLimit _ (header-judged false e)
 
-    pub header-on : countsHold (countsFrom first) ≡ true → parsed text ≡ itemsParsed (countsFrom first) (drop (r .next) text)
+    pub header-on : countsHold (countsFrom first) ≡ true → parsed text ≡ itemsParsed (countsFrom first) (drop next text)
     unfolding onward
     header-on e = header-decided ∙ decide-kept earned _ (header-judged true e)

@@ -1,6 +1,3 @@
--- Laws of lines that are scanned, of the table so far, and of reading line after line.
-pub mod Scan
-pub mod Told
-pub mod Filled
-pub mod Draft
+-- Laws of the parse from a scanned line on, and of reading line after line.
+pub mod ParseLine
 pub mod Items

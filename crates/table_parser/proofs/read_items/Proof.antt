@@ -4,16 +4,19 @@ use mathlib.Core.Path.{_≡_, sym, ap, _∙_}
 use mathlib.Core.Logic.{⊎-elim}
 use mathlib.Core.List.{List}
 use denote.Ref.{now}
-use lib.ListN.{length}
+use lib.ListN.{length, replicate}
 use borrow.Author.Needs.{needs}
 use Rattle.table_format.specs.Table.{Table}
 use Rattle.table_format.specs.Loaded.{countsIn}
 use Rattle.table_format.specs.Line.{bytesOf}
+use Rattle.table_format.specs.Text.{lineBytes}
 use Rattle.table_rules.specs.Judge.{judged}
-use Rattle.table_format.specs.Parse.{Kind, codeOf, due, kindFaults}
-use Rattle.table_parser.specs.Draft.{IsItem, itemKey, gathered}
-use Rattle.table_parser.proofs.Told.{LineRead, line-read, line-bad}
-use Rattle.table_parser.proofs.Draft.{kind-one}
+use Rattle.table_format.specs.Parse.{LineKind, codeOf, due, kindFaults}
+use Rattle.table_scanner.specs.Scan.{padded}
+use Rattle.table_items.specs.Draft.{IsItem, itemKey}
+use Rattle.table_parser.specs.Gathered.{gathered}
+use Rattle.table_scanner.proofs.ScannedLine.{LineRead, line-read, line-bad}
+use Rattle.table_items.proofs.LineKinds.{kind-one}
 use Rattle.table_parser.proofs.Items.{ReadingOn, reading-start, long, due-code, drafted, item-is, out-missing, out-bad, out-broken, out-end, room, lines-few, reading-more}
 use Rattle.table_parser.proofs.read_items.Statement.{statement}
 use Rattle.table_parser.proofs.read_items.Tie as tie
@@ -28,85 +31,107 @@ abbrev μ-loop : tie.MeasureT-loop
 abbrev table : tie.At-loop Inv-loop μ-loop → Table
 table c = c .loop .inv .table
 
-abbrev kind : tie.At-loop Inv-loop μ-loop → Kind
+abbrev kind : tie.At-loop Inv-loop μ-loop → LineKind
 kind c = due (countsIn (c .before .before .args .counted)) (table c)
 
--- the line that was scanned
-line : (c : tie.Then1 Inv-loop μ-loop) → LineRead (now (c .before .before .before .before .before .args .text)) (c .before .before .before .loop .at) (c .before .scan .result)
-line c = line-read _ _ (c .before .scan .result) (c .before .before .loop-test .taken) (c .before .scan .ensures) (c .if1 .taken)
+-- the line that was scanned, and its bytes in their array
+line : (c : tie.After-line Inv-loop μ-loop)
+    → LineRead (now (c .before .before .before .before .before .before .before .before .args .text)) (c .before .before .before .before .before .before .loop .at) (c .line .given .0 .0) (c .line .given .0 .1 .0) (replicate lineBytes 0) (c .before .before .before .scan .last .1 .1 .0)
+line c = line-read _ _ (c .before .before .before .before .before .loop-test .taken) (c .before .before .before .scan .ensures .0) (c .line .given .1) (c .before .before .before .scan .ensures .1)
 
-abbrev said : tie.Then1 Inv-loop μ-loop → List ℕ
+abbrev said : tie.After-line Inv-loop μ-loop → List ℕ
 said c = bytesOf (line c .line .chars)
 
-kind-is : (c : tie.After-kind-due Inv-loop μ-loop) → c .kind-due .result ≡ codeOf (kind (c .before .before .before .before .before .before))
-kind-is c = c .kind-due .ensures ∙ due-code (c .before .before .before .before .before .before .loop .inv)
+bytes-are : (c : tie.After-line Inv-loop μ-loop) → c .before .before .before .scan .last .1 .1 .0 ≡ padded (said c)
+unfolding padded
+bytes-are c = line c .bytes-are
+
+kind-is : (c : tie.After-kind-due Inv-loop μ-loop) → c .kind-due .result ≡ codeOf (kind (c .before .before .before .before .before .before .before .before .before))
+kind-is c = c .kind-due .ensures ∙ due-code (c .before .before .before .before .before .before .before .before .before .loop .inv)
 
 -- what it earns
 earns : (c : tie.After-item-fault Inv-loop μ-loop)
-    → judged (kindFaults (kind (c .before .before .before .before .before .before .before .before)) (table (c .before .before .before .before .before .before .before .before)) (said (c .before .before .before .before .before)))
-    ≡ c .item-fault .result
+    → judged (kindFaults (kind (c .before .before .before .before .before .before .before .before .before .before .before)) (table (c .before .before .before .before .before .before .before .before .before .before .before)) (said (c .before .before .before .before .before))) ≡ c .item-fault .result
 earns c =
-    let here = c .before .before .before .before .before .before .before .before in
+    let here = c .before .before .before .before .before .before .before .before .before .before .before in
     let L = line (c .before .before .before .before .before) in
-    sym (c .item-fault .ensures _ (table here) (said (c .before .before .before .before .before)) (here .loop .inv .tracks) (kind-is (c .before .before)) (L .bytes-are) (L .count-is))
+    sym (c .item-fault .ensures _ (table here) (said (c .before .before .before .before .before)) (here .loop .inv .tracks) (kind-is (c .before .before)) (bytes-are (c .before .before .before .before .before)) (L .count-is))
 
 loop-holds : tie.Need-loop-holds Inv-loop μ-loop
 loop-holds c = reading-start (now (c .before .args .text)) (c .before .args .start) (c .before .args .counted) (c .before .pre .0) (c .before .pre .1) (c .before .pre .2)
 
+slice-aggregate-scan : tie.Need-slice-aggregate-scan Inv-loop μ-loop
+slice-aggregate-scan c = search needs
+
 scan-requires : tie.Need-scan-requires Inv-loop μ-loop
 scan-requires c κs = search needs
 
-slice-aggregate-kind-due : tie.Need-slice-aggregate-kind-due Inv-loop μ-loop
-slice-aggregate-kind-due c = sym (long (c .before .before .before .before .before .loop .inv))
+enum-known-line : tie.Need-enum-known-line Inv-loop μ-loop
+enum-known-line c = search needs
 
-kind-due-requires : tie.Need-kind-due-requires Inv-loop μ-loop
-kind-due-requires c κs = omega (arith, long (c .before .before .before .before .before .loop .inv))
-
-slice-aggregate-item-fault : tie.Need-slice-aggregate-item-fault Inv-loop μ-loop
-slice-aggregate-item-fault c = sym (long (c .before .before .before .before .before .before .before .loop .inv))
-
-item-fault-requires : tie.Need-item-fault-requires Inv-loop μ-loop
-item-fault-requires c κs = drafted (c .before .before .before .before .before .before .before .loop .inv) (kind-is (c .before))
-
-enum-known-judged : tie.Need-enum-known-judged Inv-loop μ-loop
-enum-known-judged c = search needs
+enum-told : tie.Need-enum-told Inv-loop μ-loop
+enum-told c = search needs
 
 refused-requires : tie.Need-refused-requires Inv-loop μ-loop
 refused-requires c κs = search needs
 
 returns : tie.Need-returns Inv-loop μ-loop
 returns c =
-    let fault = c .before .before .before .before in
+    let scanned = c .before .before .before .before in
     c .refused .ensures
-    ∙ ap gathered (sym (out-broken (fault .before .before .before .before .before .before .before .before .loop .inv) (line (fault .before .before .before .before .before)) _ (earns fault ∙ c .before .before .judged .given .1)))
+    ∙ ap gathered (sym (out-bad (scanned .before .before .before .loop .inv) (line-bad _ _ (scanned .before .before .loop-test .taken) (scanned .scan .ensures .0) (c .before .enum-told .given .1))))
 
-enum-told : tie.Need-enum-told Inv-loop μ-loop
-enum-told c = search needs
+slice-aggregate-kind-due : tie.Need-slice-aggregate-kind-due Inv-loop μ-loop
+slice-aggregate-kind-due c = sym (long (c .before .before .before .before .before .before .before .before .loop .inv))
 
-read-end-requires : tie.Need-read-end-requires Inv-loop μ-loop
-read-end-requires c κs = search needs
+kind-due-requires : tie.Need-kind-due-requires Inv-loop μ-loop
+kind-due-requires c κs = omega (arith, long (c .before .before .before .before .before .before .before .before .loop .inv))
+
+slice-aggregate-item-fault : tie.Need-slice-aggregate-item-fault Inv-loop μ-loop
+slice-aggregate-item-fault c = sym (long (c .before .before .before .before .before .before .before .before .before .before .loop .inv))
+
+item-fault-requires : tie.Need-item-fault-requires Inv-loop μ-loop
+item-fault-requires c κs = drafted (c .before .before .before .before .before .before .before .before .before .before .loop .inv) (kind-is (c .before))
+
+enum-known-judged : tie.Need-enum-known-judged Inv-loop μ-loop
+enum-known-judged c = search needs
+
+refused-requires-2 : tie.Need-refused-requires-2 Inv-loop μ-loop
+refused-requires-2 c κs = search needs
 
 returns-2 : tie.Need-returns-2 Inv-loop μ-loop
 returns-2 c =
     let fault = c .before .before .before .before in
-    let here = fault .before .before .before .before .before .before .before .before in
-    out-end (here .loop .inv) (line (fault .before .before .before .before .before)) (earns fault ∙ c .before .before .enum-told .given .1) (c .read-end .result)
-    (kind-one 5 (kind here) (sym (c .before .if2 .taken) ∙ kind-is (fault .before .before))) (c .read-end .ensures)
+    c .refused2 .ensures
+    ∙ ap gathered (sym (out-broken (fault .before .before .before .before .before .before .before .before .before .before .before .loop .inv) (line (fault .before .before .before .before .before)) _ (earns fault ∙ c .before .before .judged .given .1)))
+
+enum-told-2 : tie.Need-enum-told-2 Inv-loop μ-loop
+enum-told-2 c = search needs
+
+read-end-requires : tie.Need-read-end-requires Inv-loop μ-loop
+read-end-requires c κs = search needs
+
+returns-3 : tie.Need-returns-3 Inv-loop μ-loop
+returns-3 c =
+    let fault = c .before .before .before .before in
+    let here = fault .before .before .before .before .before .before .before .before .before .before .before in
+    out-end (here .loop .inv) (line (fault .before .before .before .before .before)) (earns fault ∙ c .before .before .enum-told2 .given .1) (c .read-end .result)
+    (kind-one 5 (kind here) (sym (c .before .if1 .taken) ∙ kind-is (fault .before .before))) (c .read-end .ensures)
 
 item-key-requires : tie.Need-item-key-requires Inv-loop μ-loop
 item-key-requires c κs = search needs
 
 slice-aggregate-append : tie.Need-slice-aggregate-append Inv-loop μ-loop
-slice-aggregate-append c = sym (long (c .before .before .before .before .before .before .before .before .before .before .before .before .before .before .loop .inv))
+slice-aggregate-append c = sym (long (c .before .before .before .before .before .before .before .before .before .before .before .before .before .before .before .before .before .loop .inv))
 
 append-requires : tie.Need-append-requires Inv-loop μ-loop
 append-requires c κs =
     let fault = c .before .before .before .before .before .before in
-    let inv = fault .before .before .before .before .before .before .before .before .loop .inv in
-    omega (arith, long inv, room inv (λ z. c .before .before .before .if2 .left (kind-is (fault .before .before) ∙ z)))
+    let inv = fault .before .before .before .before .before .before .before .before .before .before .before .loop .inv in
+    omega (arith, long inv, room inv (λ z. c .before .before .before .if1 .left (kind-is (fault .before .before) ∙ z)))
 
 add-lines : tie.Need-add-lines Inv-loop μ-loop
-add-lines c = omega (arith, lines-few (c .before .before .before .before .before .before .before .before .before .before .before .before .before .before .before .before .loop .inv))
+add-lines c = omega (arith, lines-few (c .before .before .before .before .before .before .before .before .before .before .before .before .before .before .before .before .before .before .before .loop .inv))
 
 loop-less : tie.Need-loop-less Inv-loop μ-loop
 loop-less c =
@@ -116,24 +141,16 @@ loop-less c =
 loop-again : tie.Need-loop-again Inv-loop μ-loop
 loop-again c =
     let fault = c .before .before .before .before .before .before .before .before in
-    let here = fault .before .before .before .before .before .before .before .before in
+    let here = fault .before .before .before .before .before .before .before .before .before .before .before in
     let L = line (fault .before .before .before .before .before) in
     let b = said (fault .before .before .before .before .before) in
     let k = kind-is (fault .before .before) in
-    let i : IsItem (kind here) = item-is (here .loop .inv) k (c .before .before .before .before .before .if2 .left) in
-    let new = c .before .before .before .before .item-key .ensures (kind here) b k i (L .bytes-are) in
-    let low : here .loop .top ≤ c .before .before .before .if3 .top = ⊎-elim (λ w. omega arith) (λ w. omega arith) (c .before .before .before .if3 .came) in
-    let key : itemKey (kind here) b ≤ c .before .before .before .if3 .top = ⊎-elim (λ w. omega (arith, new)) (λ w. omega (arith, new)) (c .before .before .before .if3 .came) in
-    reading-more (here .loop .inv) L (earns fault ∙ c .before .before .before .before .before .before .enum-told .given .1) _ _ _ i low key (c .before .append .ensures (kind here) b k i (L .bytes-are))
-
-refused-requires-2 : tie.Need-refused-requires-2 Inv-loop μ-loop
-refused-requires-2 c κs = search needs
-
-returns-3 : tie.Need-returns-3 Inv-loop μ-loop
-returns-3 c =
-    let scanned = c .before .before in
-    c .refused2 .ensures
-    ∙ ap gathered (sym (out-bad (scanned .before .before .loop .inv) (line-bad _ _ (scanned .scan .result) (scanned .before .loop-test .taken) (scanned .scan .ensures) (c .before .if1 .left))))
+    let e = bytes-are (fault .before .before .before .before .before) in
+    let i : IsItem (kind here) = item-is (here .loop .inv) k (c .before .before .before .before .before .if1 .left) in
+    let new = c .before .before .before .before .item-key .ensures (kind here) b k i e in
+    let low : here .loop .top ≤ c .before .before .before .if2 .top = ⊎-elim (λ w. omega arith) (λ w. omega arith) (c .before .before .before .if2 .came) in
+    let key : itemKey (kind here) b ≤ c .before .before .before .if2 .top = ⊎-elim (λ w. omega (arith, new)) (λ w. omega (arith, new)) (c .before .before .before .if2 .came) in
+    reading-more (here .loop .inv) L (earns fault ∙ c .before .before .before .before .before .before .enum-told2 .given .1) _ _ _ i low key (c .before .append .ensures (kind here) b k i e)
 
 refused-requires-3 : tie.Need-refused-requires-3 Inv-loop μ-loop
 refused-requires-3 c κs = search needs
@@ -148,24 +165,27 @@ read-items-spec =
     Inv-loop
     μ-loop
     loop-holds
+    slice-aggregate-scan
     scan-requires
+    enum-known-line
+    enum-told
+    refused-requires
+    returns
     slice-aggregate-kind-due
     kind-due-requires
     slice-aggregate-item-fault
     item-fault-requires
     enum-known-judged
-    refused-requires
-    returns
-    enum-told
-    read-end-requires
+    refused-requires-2
     returns-2
+    enum-told-2
+    read-end-requires
+    returns-3
     item-key-requires
     slice-aggregate-append
     append-requires
     add-lines
     loop-less
     loop-again
-    refused-requires-2
-    returns-3
     refused-requires-3
     returns-4)

@@ -1,0 +1,117 @@
+use native.Mathlib.Omega.{arith}
+use mathlib.Core.Path.{_≡_, sym, ap, _∙_}
+use mathlib.Core.List.{[], _∷_}
+use denote.Ref.{now}
+use lib.ListN.{length, length-set}
+use borrow.Author.Needs.{needs}
+use lib.Seq.{sets}
+use Rattle.table_format.specs.declared.Arc.{Arc}
+use Rattle.table_format.specs.Loaded.{arcCells}
+use Rattle.table_format.specs.Parse.{arcFrom}
+use Rattle.table_items.specs.Draft.{itemCells}
+use Rattle.table_scanner.proofs.Padded.{number-as, arc-as}
+use Rattle.table_items.proofs.LineKinds.{kind-one, cells-one, put-four}
+use Rattle.table_items.proofs.append.Statement.{statement}
+use Rattle.table_items.proofs.append.Tie as tie
+
+number-at-requires : tie.Need-number-at-requires
+number-at-requires c κs = search needs
+
+mul-cells : tie.Need-mul-cells
+mul-cells c = search needs
+
+slice-write-cells : tie.Need-slice-write-cells
+slice-write-cells c = search needs
+
+add-result : tie.Need-add-result
+add-result c = search needs
+
+same-length : tie.Need-same-length
+same-length c = search needs
+
+returns : tie.Need-returns
+returns c =
+    let start = c .before .before .before in
+    λ k b e i p.
+    let one = cells-one k b (c .number-at .result) (λ z. c .before .if1 .taken (e ∙ z)) i (c .number-at .ensures ∙ number-as (start .args .bytes) b p 1 (omega arith)) in
+    (omega (arith, ap length one), ap (sets (now (start .args .cells)) (start .args .filled)) (sym one))
+
+arc-in-requires : tie.Need-arc-in-requires
+arc-in-requires c κs = search needs
+
+mul-cells-2 : tie.Need-mul-cells-2
+mul-cells-2 c = search needs
+
+slice-write-cells-2 : tie.Need-slice-write-cells-2
+slice-write-cells-2 c = search needs
+
+add-cells : tie.Need-add-cells
+add-cells c = search needs
+
+mul-cells-3 : tie.Need-mul-cells-3
+mul-cells-3 c = search needs
+
+slice-write-cells-3 : tie.Need-slice-write-cells-3
+slice-write-cells-3 c = simp length-set (omega arith)
+
+add-cells-2 : tie.Need-add-cells-2
+add-cells-2 c = search needs
+
+mul-cells-4 : tie.Need-mul-cells-4
+mul-cells-4 c = search needs
+
+slice-write-cells-4 : tie.Need-slice-write-cells-4
+slice-write-cells-4 c = simp length-set (omega arith)
+
+add-cells-3 : tie.Need-add-cells-3
+add-cells-3 c = search needs
+
+mul-cells-5 : tie.Need-mul-cells-5
+mul-cells-5 c = search needs
+
+slice-write-cells-5 : tie.Need-slice-write-cells-5
+slice-write-cells-5 c = simp length-set (omega arith)
+
+add-result-2 : tie.Need-add-result-2
+add-result-2 c = search needs
+
+same-length-2 : tie.Need-same-length-2
+same-length-2 c = simp length-set
+
+returns-2 : tie.Need-returns-2
+returns-2 c =
+    let start = c .before .before .before in
+    let arc : Arc = c .arc-in .result in
+    λ k b e i p.
+    let four : itemCells k b ≡ arcCells (arcFrom (start .args .bytes)) = ap (λ j. itemCells j b) (kind-one 4 k (sym (c .before .if1 .left) ∙ e)) ∙ ap arcCells (sym (arc-as (start .args .bytes) b p)) in
+    let told : arc .source ∷ arc .upper ∷ arc .lower ∷ arc .target ∷ [] ≡ arcCells (arcFrom (start .args .bytes)) = ap (λ (a : Arc). a .source ∷ a .upper ∷ a .lower ∷ a .target ∷ []) (c .arc-in .ensures) in (
+      omega (arith, ap length four),
+      put-four (now (start .args .cells)) (start .args .filled) (arc .source) (arc .upper) (arc .lower) (arc .target)
+          ∙ ap (sets (now (start .args .cells)) (start .args .filled)) (told ∙ sym four),
+    )
+
+pub append-spec : {M : Type 1} → statement M
+append-spec =
+    tie.close
+    (tie.spec
+    number-at-requires
+    mul-cells
+    slice-write-cells
+    add-result
+    same-length
+    returns
+    arc-in-requires
+    mul-cells-2
+    slice-write-cells-2
+    add-cells
+    mul-cells-3
+    slice-write-cells-3
+    add-cells-2
+    mul-cells-4
+    slice-write-cells-4
+    add-cells-3
+    mul-cells-5
+    slice-write-cells-5
+    add-result-2
+    same-length-2
+    returns-2)

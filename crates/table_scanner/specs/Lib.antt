@@ -1,0 +1,2 @@
+-- The first line of a text, as code scans it.
+pub mod Scan
