@@ -12,7 +12,7 @@ use Rattle.table_format.specs.Table.{Table}
 use Rattle.table_format.specs.Rules.{keepsRules}
 use Rattle.table_format.specs.Loaded.{countsIn, tableIn}
 use Rattle.table_check.specs.Check.{LaidOut, layoutOf, checkedAs, checked}
-use Rattle.table_check.proofs.Parts.{initials-part, terminals-part, arcs-part, arcs-whole, index-part, laid-out}
+use Rattle.table_check.proofs.Parts.{initials-part, terminals-part, arcs-part, index-part, laid-out}
 use Rattle.table_check.proofs.Holding.{Holding, holding}
 use Rattle.machine.specs.declared.Run.{Run}
 use Rattle.machine.specs.declared.Called.{Called}
@@ -101,7 +101,6 @@ module _ (cells upper lower first : List ℕ) (run : Run) (P : Admitted cells (r
   prepared =
       record {
         keeps = subst (λ (t : Table). keepsRules t ≡ true) (sym table-is) (H .keeps);
-        whole = arcs-whole cells l L;
         index = P .index ∙ sym (index-part cells l L);
         reads-some = ap₂ _||_ up low ∙ some-flag (P .asks);
       }

@@ -8,11 +8,12 @@ use mathlib.Core.List.{List}
 use lib.Dec.{eqb}
 use lib.ListN.{length, getD, List·getD-eq-default}
 use borrow.Author.Tests.{eq-eqb, ne-eqb}
-use Rattle.machine.specs.Transducer.{somewhen, sideFollow, sideDone, sideWritten, both}
+use Rattle.machine.specs.Query.{Side, upperSide, lowerSide}
+use Rattle.machine.specs.Transducer.{somewhen, sideFollow, sideDone, sideWritten, Passed, passed, both}
 use Rattle.engine_frames.specs.declared.Setup.{Setup}
 use Rattle.engine_frames.specs.declared.Count.the-variants.{Passes, Stops}
 use Rattle.engine_frames.specs.declared.Fit.the-variants.{Fits, Fails}
-use Rattle.engine_frames.specs.Sides.{countOf, fitOf, passedOf, writtenOf}
+use Rattle.engine_frames.specs.Sides.{countOf, fitOf, bySide, readsBy, writtenOf}
 
 module _ (w : List ℕ) (n : ℕ) where
   pub no-letter : (r : Bool) (x : ℕ) → x ≡ 0 → Passes n ≡ countOf (sideFollow r w x n)
@@ -64,33 +65,31 @@ both-pass none b u l e f = absurd (let z : _≡_ {A = ℕ} 0 1 = cc in omega ari
 both-pass (some v) none u l e f = absurd (let z : _≡_ {A = ℕ} 0 1 = cc in omega arith)
 both-pass (some v) (some x) u l e f = let p : u ≡ v = cc in let q : l ≡ x = cc in ap₂ Fits p q
 
--- The output's length, by the side that is written.
+-- The output's length is what was passed on a side that is not read.
 
-module _ (s : Setup) (u l : ℕ) (h : (s .up || s .low) ≡ true) where
-  pub upper-written : s .up ≡ false → u ≡ writtenOf s (passedOf u l)
-  upper-written e = go (s .up) (s .low) h e
+module _ (s : Setup) (d : Passed) where
+  pub side-written : (s .up || s .low) ≡ true → (side : Side) → readsBy s side ≡ false → passed d side ≡ writtenOf s d
+  side-written h side e = go (s .up) (s .low) side h e
     where
-      go : (a b : Bool) → (a || b) ≡ true → a ≡ false → u ≡ sideWritten a u + sideWritten b l
-      go true b h e = absurd (let z : _≡_ {A = ℕ} 0 1 = cc in omega arith)
-      go false true h e = omega arith
-      go false false h e = absurd (let z : _≡_ {A = ℕ} 0 1 = cc in omega arith)
+      go : (a b : Bool) (side : Side) → (a || b) ≡ true → bySide a b side ≡ false → passed d side ≡ sideWritten a (d .up) + sideWritten b (d .low)
+      go true true upperSide h e = absurd (let z : _≡_ {A = ℕ} 0 1 = cc in omega arith)
+      go true true lowerSide h e = absurd (let z : _≡_ {A = ℕ} 0 1 = cc in omega arith)
+      go true false upperSide h e = absurd (let z : _≡_ {A = ℕ} 0 1 = cc in omega arith)
+      go true false lowerSide h e = omega arith
+      go false true upperSide h e = omega arith
+      go false true lowerSide h e = absurd (let z : _≡_ {A = ℕ} 0 1 = cc in omega arith)
+      go false false side h e = absurd (let z : _≡_ {A = ℕ} 0 1 = cc in omega arith)
 
-  pub lower-written : s .up ≡ true → s .low ≡ false → l ≡ writtenOf s (passedOf u l)
-  lower-written e f = (let z : l ≡ 0 + l = omega arith in z) ∙ ap₂ (λ (a b : Bool). sideWritten a u + sideWritten b l) (sym e) (sym f)
-
-  pub none-written : s .up ≡ true → s .low ≡ true → 0 ≡ writtenOf s (passedOf u l)
-  none-written e f = ap₂ (λ (a b : Bool). sideWritten a u + sideWritten b l) (sym e) (sym f)
+  pub none-written : s .up ≡ true → s .low ≡ true → 0 ≡ writtenOf s d
+  none-written e f = ap₂ (λ (a b : Bool). sideWritten a (d .up) + sideWritten b (d .low)) (sym e) (sym f)
 
 -- Acceptance: the terminal states are looked at last.
 
-pub upper-unread : (m a b : Bool) → a ≡ false → false ≡ (m && (a && b))
-upper-unread true a b e = ap (λ (v : Bool). v && b) (sym e)
-upper-unread false a b e = refl
-
-pub lower-unread : (m a b : Bool) → b ≡ false → false ≡ (m && (a && b))
-lower-unread true true b e = sym e
-lower-unread true false b e = refl
-lower-unread false a b e = refl
+pub side-unread : (m a b : Bool) (side : Side) → bySide a b side ≡ false → false ≡ (m && (a && b))
+side-unread false a b side e = refl
+side-unread true a b upperSide e = ap (λ (v : Bool). v && b) (sym e)
+side-unread true true b lowerSide e = sym e
+side-unread true false b lowerSide e = refl
 
 pub all-read : (m a b : Bool) → a ≡ true → b ≡ true → m ≡ (m && (a && b))
 all-read true a b e f = ap₂ _&&_ (sym e) (sym f)

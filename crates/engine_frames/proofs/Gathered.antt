@@ -1,20 +1,26 @@
 -- The output gathered frame by frame.
-use Prim.Native.Nat.{ℕ, zero, suc, pred, _+_, _*_, _-_, _<_, _≤_}
+use Prim.Native.Nat.{ℕ, zero, suc, pred, _+_, _-_, _<_, _≤_}
 use native.Mathlib.Omega.{arith}
 use mathlib.Core.Path.{_≡_, refl, sym, ap, ap₂, subst, _∙_}
 use mathlib.Core.Bool.{Bool, true, false, cond, _&&_}
 use mathlib.Core.List.{List, [], _∷_, _++_, append-assoc, append-nil}
 use lib.ListN.{length, getD, set, drop, length-append, length-drop}
 use lib.Seq.{drop-cons, set-at}
+use Rattle.table_format.specs.declared.Arc as Held
+use Rattle.table_format.specs.Cells.{arcHeld, arcOf}
+use Rattle.machine.specs.Query.{Side, letter}
 use Rattle.machine.specs.Stack.{lookAt}
 use Rattle.engine_frames.specs.declared.Setup.{Setup}
+use Rattle.engine_frames.specs.declared.Frame.{Frame}
+use Rattle.engine_frames.specs.Frames.{frameOf}
+use Rattle.engine_frames.specs.Sides.{arcFrom}
 use Rattle.engine_frames.specs.Output.{letterIn, letterAt, lettersUpTo, sideBy, lettersBy}
 
 -- what the buffer holds after n letters
 abbrev pub Filled : List ℕ → List ℕ → ℕ → List ℕ → Type 0
 Filled letters buffer k out = (k ≡ length letters) × (out ≡ letters ++ drop k buffer)
 
-module _ (arcs : List ℕ) (side : ℕ) (stack buffer : List ℕ) where
+module _ (arcs : List ℕ) (side : Side) (stack buffer : List ℕ) where
   abbrev upTo : ℕ → List ℕ
   upTo i = lettersUpTo arcs side stack i
 
@@ -35,20 +41,21 @@ module _ (arcs : List ℕ) (side : ℕ) (stack buffer : List ℕ) where
   unfolding lettersUpTo
   filled-none = (refl, refl)
 
-  pub no-letter-there : (i k : ℕ) (out : List ℕ) → Filled (upTo i) buffer k out → letterAt arcs side stack i ≡ 0 → Filled (upTo (i + 1)) buffer k out
-  no-letter-there i k out F e = subst (λ (l : List ℕ). Filled l buffer k out) (sym same) F
+  pub no-letter-there : (i k m : ℕ) (out o : List ℕ) → Filled (upTo i) buffer k out → letterAt arcs side stack i ≡ 0 → m ≡ k → o ≡ out → Filled (upTo (i + 1)) buffer m o
+  no-letter-there i k m out o F e h z = (h ∙ F .0 ∙ ap length (sym same), z ∙ F .1 ∙ ap₂ (λ (l : List ℕ) (n : ℕ). l ++ drop n buffer) (sym same) (sym h))
     where
       same : upTo (i + 1) ≡ upTo i
       same = one-more i ∙ ap (λ (x : ℕ). upTo i ++ letterIn x) e ∙ append-nil (upTo i)
 
-  pub letter-there : (i k x : ℕ) (out : List ℕ) → Filled (upTo i) buffer k out → letterAt arcs side stack i ≡ x → (x ≡ 0 → ⊥) → k < length buffer → Filled (upTo (i + 1)) buffer (k + 1) (set out k x)
-  letter-there i k zero out F e h b = absurd (h refl)
-  letter-there i k (suc x) out F e h b = (
+  pub letter-there : (i k x m : ℕ) (out o : List ℕ) → Filled (upTo i) buffer k out → letterAt arcs side stack i ≡ x → (x ≡ 0 → ⊥) → k < length buffer → m ≡ k + 1 → o ≡ set out k x
+      → Filled (upTo (i + 1)) buffer m o
+  letter-there i k zero m out o F e h b y z = absurd (h refl)
+  letter-there i k (suc x) m out o F e h b y z = (
     omega (arith, ap length more, length-append (upTo i) (suc x ∷ [])),
-    ap (λ (l : List ℕ). set l k (suc x)) (F .1 ∙ ap (λ (l : List ℕ). upTo i ++ l) (drop-cons buffer k 0 b))
+    z ∙ ap (λ (l : List ℕ). set l k (suc x)) (F .1 ∙ ap (λ (l : List ℕ). upTo i ++ l) (drop-cons buffer k 0 b))
         ∙ set-at (upTo i) (getD buffer k 0) (drop (suc k) buffer) (suc x) k (sym (F .0))
         ∙ sym (append-assoc (upTo i) (suc x ∷ []) (drop (suc k) buffer))
-        ∙ ap₂ (λ (l : List ℕ) (n : ℕ). l ++ drop n buffer) (sym more) (let z : suc k ≡ k + 1 = omega arith in z),
+        ∙ ap₂ (λ (l : List ℕ) (n : ℕ). l ++ drop n buffer) (sym more) (let w : suc k ≡ m = omega arith in w),
   )
     where
       more : upTo (i + 1) ≡ upTo i ++ (suc x ∷ [])
@@ -68,9 +75,13 @@ module _ (arcs : List ℕ) (side : ℕ) (stack buffer : List ℕ) where
   room-left i n k (suc x) out h m F e z =
       omega (arith, F .0, up-to-grows (i + 1) n (omega arith), ap length (one-more i ∙ ap (λ (y : ℕ). upTo i ++ letterIn y) e), length-append (upTo i) (suc x ∷ []))
 
-  -- the letter of the frame that was looked at
-  pub letter-of : (i x : ℕ) → x ≡ lookAt stack i .next → getD arcs (4 * (x - 1) + side) 0 ≡ letterAt arcs side stack i
-  letter-of i x e = ap (λ (m : ℕ). getD arcs m 0) (let z : 4 * (x - 1) + side ≡ 4 * pred (lookAt stack i .next) + side = omega arith in z)
+  -- the letter of the frame and the arc that were looked at
+  pub letter-of : (i x : ℕ) (f : Frame) (r : Held.Arc) → f ≡ frameOf (lookAt stack i) → r ≡ arcHeld (arcOf arcs (f .next - 1)) → x ≡ letter side (arcFrom r)
+      → letterAt arcs side stack i ≡ x
+  letter-of i x f r E A h =
+      ap (λ (m : ℕ). letter side (arcOf arcs m)) (let z : pred (lookAt stack i .next) ≡ f .next - 1 = omega (arith, ap (λ (g : Frame). g .next) E) in z)
+      ∙ ap (λ (y : Held.Arc). letter side (arcFrom y)) (sym A)
+      ∙ sym h
 
 -- The output by the flags.
 

@@ -1,5 +1,6 @@
-// The frames of a stack, four cells each. Only these functions know the cells of a frame.
+// The frames of a stack. Only these functions know the cells of a frame.
 use crate::Frame;
+use machine::FRAME_WIDTH;
 ghost use mathlib.Core.Path.{_≡_};
 ghost use Prim.Native.Nat.{_<_};
 ghost use Rattle.machine.specs.Step.{triedOf};
@@ -10,7 +11,7 @@ ghost use Rattle.engine_frames.specs.Frames.{frameOf, frameAs};
 pub fn frames_in(stack: &[u32]) -> usize
     ensures { λ r. ⌜ r ≡ framesIn (now (stack .entry)) ⌝ }
 {
-    stack.len() / 4
+    stack.len() / FRAME_WIDTH
 }
 
 // The frame at i.
@@ -18,7 +19,7 @@ pub fn look(stack: &[u32], i: usize) -> Frame
     requires { ⌜ i < framesIn (now stack) ⌝ }
     ensures { λ r. ⌜ r ≡ frameOf (lookAt (now (stack .entry)) i) ⌝ }
 {
-    let at = i * 4;
+    let at = i * FRAME_WIDTH;
     Frame {
         state: stack[at],
         next: stack[at + 1],
@@ -32,7 +33,7 @@ pub fn put(stack: &mut [u32], i: usize, f: Frame)
     requires { ⌜ i < framesIn (now stack) ⌝ }
     ensures { λ _. ⌜ now (stack .exit) ≡ putAt (now (stack .entry)) i (frameAs f) ⌝ }
 {
-    let at = i * 4;
+    let at = i * FRAME_WIDTH;
     stack[at] = f.state;
     stack[at + 1] = f.next;
     stack[at + 2] = f.up;
@@ -45,6 +46,6 @@ pub fn count_tried(stack: &mut [u32], i: usize)
     requires { ⌜ lookAt (now stack) i .next < 4294967295 ⌝ }
     ensures { λ _. ⌜ now (stack .exit) ≡ putAt (now (stack .entry)) i (triedOf (lookAt (now (stack .entry)) i)) ⌝ }
 {
-    let at = i * 4 + 1;
+    let at = i * FRAME_WIDTH + 1;
     stack[at] = stack[at] + 1;
 }

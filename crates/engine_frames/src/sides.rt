@@ -2,13 +2,12 @@
 use crate::Count;
 use crate::Fit;
 use crate::Setup;
+use table_format::Arc;
 ghost use mathlib.Core.Path.{_≡_};
 ghost use mathlib.Core.Bool.{true, _&&_, _||_};
-ghost use Prim.Native.Nat.{_+_, _*_, _<_};
-ghost use lib.ListN.{length};
+ghost use Prim.Native.Nat.{_<_};
 ghost use Rattle.machine.specs.Transducer.{member, sideFollow, sideDone};
-ghost use Rattle.table_format.specs.Cells.{arcOf};
-ghost use Rattle.engine_frames.specs.Sides.{countOf, fitOf, passedOf, followBy, doneBy, writtenOf};
+ghost use Rattle.engine_frames.specs.Sides.{countOf, fitOf, arcFrom, passedOf, followBy, doneBy, writtenOf};
 
 // A letter on a side that is read (or written) after n letters.
 pub fn follow_side(read: bool, word: &[u8], letter: u16, n: u32) -> Count
@@ -30,24 +29,15 @@ pub fn follow_side(read: bool, word: &[u8], letter: u16, n: u32) -> Count
     Count::Stops
 }
 
-// The arc of number n on both sides.
-pub fn follow(
-    setup: Setup,
-    arcs: &[u16],
-    n: usize,
-    upper: &[u8],
-    lower: &[u8],
-    up: u32,
-    low: u32,
-) -> Fit
-    requires { ⌜ (4 * n + 3 < length (now arcs)) × (up < 4294967295) × (low < 4294967295) ⌝ }
-    ensures { λ r. ⌜ r ≡ fitOf (followBy setup (now (upper .entry)) (now (lower .entry)) (arcOf (now (arcs .entry)) n) (passedOf up low)) ⌝ }
+// An arc on both sides, after so many letters on each.
+pub fn follow(setup: Setup, arc: Arc, upper: &[u8], lower: &[u8], up: u32, low: u32) -> Fit
+    requires { ⌜ (up < 4294967295) × (low < 4294967295) ⌝ }
+    ensures { λ r. ⌜ r ≡ fitOf (followBy setup (now (upper .entry)) (now (lower .entry)) (arcFrom arc) (passedOf up low)) ⌝ }
 {
-    let at = 4 * n;
-    let Count::Passes(u) = follow_side(setup.up, upper, arcs[at + 1], up) else {
+    let Count::Passes(u) = follow_side(setup.up, upper, arc.upper, up) else {
         return Fit::Fails;
     };
-    let Count::Passes(l) = follow_side(setup.low, lower, arcs[at + 2], low) else {
+    let Count::Passes(l) = follow_side(setup.low, lower, arc.lower, low) else {
         return Fit::Fails;
     };
     Fit::Fits(u, l)

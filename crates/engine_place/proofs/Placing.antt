@@ -1,5 +1,5 @@
 -- Refusal 21: the tests of the code on the frames, from the bottom up, are those of the definition, from the top down.
-use Prim.Native.Nat.{ℕ, zero, suc, pred, _+_, _*_, _/_, _-_, _<_, _≤_}
+use Prim.Native.Nat.{ℕ, zero, suc, pred, _+_, _-_, _<_, _≤_}
 use native.Mathlib.Omega.{arith}
 use mathlib.Core.Path.{_≡_, refl, sym, ap, ap₂, subst, _∙_}
 use mathlib.Core.Bool.{Bool, true, false, _&&_}
@@ -11,8 +11,8 @@ use borrow.Author.Tests.{eqb-true, eq-eqb, ne-eqb, ltb-true, lt-ltb, le-ltb, le-
 use Rattle.table_format.proofs.Tests.{and-left, and-right, and-both}
 use Rattle.table_format.specs.Table.{Arc, Table}
 use Rattle.table_format.specs.Index.{below}
-use Rattle.table_format.specs.Cells.{arcsAs}
-use Rattle.table_format.proofs.Arcs.{getD-arcs, length-arcs}
+use Rattle.table_format.specs.declared.Arc as Held
+use Rattle.table_format.specs.Cells.{arcCount, arcHeld, arcOf, arcsAs}
 use Rattle.machine.specs.Query.{Query}
 use Rattle.machine.specs.Machine.{Machine, tested}
 use Rattle.machine.specs.Frames as F
@@ -26,14 +26,15 @@ use Rattle.machine.proofs.Stack.{same-is}
 use Rattle.machine.proofs.Transducer.{at-mem}
 use Rattle.engine_frames.specs.declared.Setup.{Setup}
 use Rattle.engine_frames.specs.declared.Frame.{Frame}
+use Rattle.engine_frames.specs.declared.Fit.{Fit}
 use Rattle.engine_frames.specs.declared.Fit.the-variants.{Fits, Fails}
 use Rattle.engine_frames.specs.Frames.{frameOf}
-use Rattle.table_format.specs.Cells.{arcOf}
-use Rattle.engine_frames.specs.Sides.{fitOf, passedOf, followBy}
+use Rattle.engine_frames.specs.Sides.{fitOf, arcFrom, passedOf, followBy}
 use Rattle.engine_step.specs.Setting.{queryBy, tableBy, machineBy, held, Prepared, InBounds}
 use Rattle.engine_place.specs.Place.{nextBy, bottomBy, linkBy, Linkable}
-use Rattle.engine_step.proofs.Moves.{pred-suc, follow-is}
-use Rattle.engine_step.proofs.Bounds.{rules, first-length, first-at, bounds-of}
+use Rattle.engine_push.proofs.Cells.{pred-suc}
+use Rattle.engine_step.proofs.Moves.{follow-is}
+use Rattle.engine_step.proofs.Bounds.{rules, arcs-count, arc-is, first-length, first-at, bounds-of}
 
 pub positive : (k : ℕ) → (k ≡ 0 → ⊥) → 0 < k
 positive zero h = absurd (h refl)
@@ -73,7 +74,7 @@ module _ (s : Setup) (first arcs upper lower : List ℕ) (g f : Frame) where
   tried = ltb (getD first (g .state) 0) (g .next)
 
   abbrev led : Bool
-  led = eqb (f .state) (getD arcs (4 * (g .next - 1) + 3) 0)
+  led = eqb (f .state) (arcOf arcs (g .next - 1) .target)
 
   abbrev made : Option Passed
   made = followBy s upper lower (arcOf arcs (g .next - 1)) (passedOf (g .up) (g .low))
@@ -84,34 +85,39 @@ module _ (s : Setup) (first arcs upper lower : List ℕ) (g f : Frame) where
   pub link-untried : g .next ≤ getD first (g .state) 0 → false ≡ linkBy s first arcs upper lower g f
   link-untried h = fails-first tried (led && fits) (le-ltb _ _ h)
 
-  pub link-unfit : Fails ≡ fitOf made → false ≡ linkBy s first arcs upper lower g f
-  link-unfit e = fails-second tried (led && fits) (sym (fails-second led fits (both-same made (f .up) (f .low) e)))
+  -- by the arc that was looked at
+  module _ (a : Held.Arc) (A : a ≡ arcHeld (arcOf arcs (g .next - 1))) where
+    abbrev fit : Fit
+    fit = fitOf (followBy s upper lower (arcFrom a) (passedOf (g .up) (g .low)))
 
-  pub link-elsewhere : (f .state ≡ getD arcs (4 * (g .next - 1) + 3) 0 → ⊥) → false ≡ linkBy s first arcs upper lower g f
-  link-elsewhere h = fails-second tried (led && fits) (sym (fails-first led fits (ne-eqb _ _ h)))
+    fit-is : fit ≡ fitOf made
+    fit-is = ap (λ (x : Held.Arc). fitOf (followBy s upper lower (arcFrom x) (passedOf (g .up) (g .low)))) A
 
-  pub link-up : (x y : ℕ) → Fits x y ≡ fitOf made → (x ≡ f .up → ⊥) → false ≡ linkBy s first arcs upper lower g f
-  link-up x y e h = fails-second tried (led && fits) (sym (fails-second led fits (up-differs made x y (f .up) (f .low) e h)))
+    target-is : a .target ≡ arcOf arcs (g .next - 1) .target
+    target-is = ap (λ (x : Held.Arc). x .target) A
 
-  pub link-low : (x y : ℕ) → getD first (g .state) 0 < g .next → f .state ≡ getD arcs (4 * (g .next - 1) + 3) 0 → Fits x y ≡ fitOf made → x ≡ f .up
-      → eqb y (f .low) ≡ linkBy s first arcs upper lower g f
-  link-low x y t l e h = holds-first tried (led && fits) _ (lt-ltb _ _ t) (holds-first led fits _ (eq-eqb _ _ l) (low-decides made x y (f .up) (f .low) e h))
+    pub link-unfit : Fails ≡ fit → false ≡ linkBy s first arcs upper lower g f
+    link-unfit e = fails-second tried (led && fits) (sym (fails-second led fits (both-same made (f .up) (f .low) (e ∙ fit-is))))
 
-module _ (s : Setup) (first initials terminals arcs upper lower : List ℕ) (R : Prepared s first initials terminals arcs) where
-  abbrev t : Table
-  t = tableBy s initials terminals arcs
+    pub link-elsewhere : (f .state ≡ a .target → ⊥) → false ≡ linkBy s first arcs upper lower g f
+    link-elsewhere h = fails-second tried (led && fits) (sym (fails-first led fits (ne-eqb _ _ (λ e. h (e ∙ sym target-is)))))
 
-  abbrev q : Query
-  q = queryBy s upper lower
+    pub link-up : (x y : ℕ) → Fits x y ≡ fit → (x ≡ f .up → ⊥) → false ≡ linkBy s first arcs upper lower g f
+    link-up x y e h = fails-second tried (led && fits) (sym (fails-second led fits (up-differs made x y (f .up) (f .low) (e ∙ fit-is) h)))
 
+    pub link-low : (x y : ℕ) → getD first (g .state) 0 < g .next → f .state ≡ a .target → Fits x y ≡ fit → x ≡ f .up → eqb y (f .low) ≡ linkBy s first arcs upper lower g f
+    link-low x y t l e h =
+        holds-first tried (led && fits) _ (lt-ltb _ _ t) (holds-first led fits _ (eq-eqb _ _ (l ∙ target-is)) (low-decides made x y (f .up) (f .low) (e ∙ fit-is) h))
+
+module _ {s : Setup} {first initials terminals arcs : List ℕ} (R : Prepared s first initials terminals arcs) (upper lower : List ℕ) where
   abbrev M : Machine
   M = machineBy s initials terminals arcs upper lower
 
   -- the definition's tests by the cells
   next-is : (f : F.Frame Passed) → f .state < s .states → nextHolds M f ≡ nextBy first (f .state) (f .next)
   next-is f h =
-      let a = first-at s first initials terminals arcs upper lower R (f .state) (omega arith) in
-      let b = first-at s first initials terminals arcs upper lower R (f .state + 1) (omega arith) in
+      let a = first-at R (f .state) (omega arith) in
+      let b = first-at R (f .state + 1) (omega arith) in
       let e : below (f .state + 1) (arcsAs arcs) ≡ below (suc (f .state)) (arcsAs arcs) = ap (λ (k : ℕ). below k (arcsAs arcs)) (let z : f .state + 1 ≡ suc (f .state) = omega arith in z) in
       let r = below-rises (f .state) (arcsAs arcs) in
       ap₂ (λ (x y : ℕ). leb x (f .next) && leb (f .next) y) (sym a)
@@ -133,17 +139,17 @@ module _ (s : Setup) (first initials terminals arcs upper lower : List ℕ) (R :
       rest = eqb (f .state) (M .target (pred (g .next))) && same (M .follow (pred (g .next)) (g .datum))
 
       told : Bool
-      told = eqb (f .state) (getD arcs (4 * (g .next - 1) + 3) 0) && same (followBy s upper lower (arcOf arcs (g .next - 1)) (g .datum))
+      told = eqb (f .state) (arcOf arcs (g .next - 1) .target) && same (followBy s upper lower (arcOf arcs (g .next - 1)) (g .datum))
 
-      arc-is : 0 < g .next → getD (arcsAs arcs) (pred (g .next)) noArc ≡ arcOf arcs (g .next - 1)
-      arc-is h = getD-arcs (length arcs / 4) arcs (pred (g .next)) noArc (omega (arith, B .next-whole)) ∙ ap (arcOf arcs) (let z : pred (g .next) ≡ g .next - 1 = omega arith in z)
+      arc-was : 0 < g .next → getD (arcsAs arcs) (pred (g .next)) noArc ≡ arcOf arcs (g .next - 1)
+      arc-was h = arc-is R (pred (g .next)) (omega (arith, B .next-most)) ∙ ap (arcOf arcs) (let z : pred (g .next) ≡ g .next - 1 = omega arith in z)
 
       go : (b : Bool) → ltb (getD first (g .state) 0) (g .next) ≡ b → (b && rest) ≡ (b && told)
       go false e = refl
       go true e =
           let h : 0 < g .next = omega (arith, ltb-true (getD first (g .state) 0) (g .next) e) in
-          ap (λ (a : Arc). eqb (f .state) (a .target) && same (followArc q a (g .datum))) (arc-is h)
-          ∙ ap (λ (o : Option Passed). eqb (f .state) (getD arcs (4 * (g .next - 1) + 3) 0) && same o) (follow-is s (R .reads-some) upper lower (arcOf arcs (g .next - 1)) (g .datum))
+          ap (λ (a : Arc). eqb (f .state) (a .target) && same (followArc (queryBy s upper lower) a (g .datum))) (arc-was h)
+          ∙ ap (λ (o : Option Passed). eqb (f .state) (arcOf arcs (g .next - 1) .target) && same o) (follow-is s (R .reads-some) upper lower (arcOf arcs (g .next - 1)) (g .datum))
 
   module _ (n : ℕ) (c : List ℕ) (some-started : 0 < n) (few-started : n ≤ length initials) where
     -- the lowest i + 1 frames hold
@@ -166,10 +172,10 @@ module _ (s : Setup) (first initials terminals arcs upper lower : List ℕ) (R :
 
     placed-at : (i : ℕ) → i < roomIn c → chain i ≡ true → Placed M n (framesOf store c (suc i))
     unfolding placeHolds
-    placed-at i h e = place-placed M (same-is t q) store (held n (suc i) c) (and-both (le-leb n (length initials) few-started) (and-both (le-leb (suc i) (roomIn c) h) (and-both (lt-ltb 0 n some-started) e))) .1
+    placed-at i h e = place-placed M (same-is (tableBy s initials terminals arcs) (queryBy s upper lower)) store (held n (suc i) c) (and-both (le-leb n (length initials) few-started) (and-both (le-leb (suc i) (roomIn c) h) (and-both (lt-ltb 0 n some-started) e))) .1
 
     pub bounds-at : (i : ℕ) → i < roomIn c → chain i ≡ true → InBounds first arcs c i
-    bounds-at i h e = bounds-of s first initials terminals arcs upper lower R n c i (omega arith) (placed-at i h e)
+    bounds-at i h e = bounds-of R upper lower n c i (omega arith) (placed-at i h e)
 
     -- the bottom frame
     module _ (b : Frame) (E : b ≡ frameOf (lookAt c 0)) where
@@ -183,10 +189,10 @@ module _ (s : Setup) (first initials terminals arcs upper lower : List ℕ) (R :
         bottom-state : b .state < s .states
         bottom-state =
             let z : b .state ≡ getD initials (n - 1) 0 = eqb-true (b .state) (getD initials (n - 1) 0) (and-left (eqb (b .state) (getD initials (n - 1) 0)) (eqb 0 (b .up) && eqb 0 (b .low)) e) in
-            subst (λ (k : ℕ). k < s .states) (sym z) (rules s first initials terminals arcs upper lower R .initial-in _ (at-mem initials (n - 1) 0 (omega arith)))
+            subst (λ (k : ℕ). k < s .states) (sym z) (rules R .initial-in _ (at-mem initials (n - 1) 0 (omega arith)))
 
         pub bottom-indexed : b .state + 1 < length first
-        bottom-indexed = omega (arith, bottom-state, first-length s first initials terminals arcs upper lower R, rules s first initials terminals arcs upper lower R .few-states)
+        bottom-indexed = omega (arith, bottom-state, first-length R, rules R .few-states)
 
         bottom-next : nextHolds M (lookAt c 0) ≡ nextBy first (b .state) (b .next)
         bottom-next =
@@ -217,7 +223,7 @@ module _ (s : Setup) (first initials terminals arcs upper lower : List ℕ) (R :
 
       pub linkable : Linkable first arcs g
       linkable =
-          let x : Linkable first arcs (frameOf (lookAt c j)) = record { indexed = omega (arith, B .indexed); next-whole = B .next-whole; up-small = B .up-small; low-small = B .low-small } in
+          let x : Linkable first arcs (frameOf (lookAt c j)) = record { indexed = omega (arith, B .indexed); next-most = B .next-most; counts-small = B .counts-small } in
           subst (Linkable first arcs) (sym Eg) x
 
       link-as : linkHolds M (lookAt c j) (lookAt c (suc j)) ≡ linkBy s first arcs upper lower g f
@@ -232,17 +238,17 @@ module _ (s : Setup) (first initials terminals arcs upper lower : List ℕ) (R :
         up-state : f .state < s .states
         up-state =
             let a = ltb (getD first (g .state) 0) (g .next) in
-            let b = eqb (f .state) (getD arcs (4 * (g .next - 1) + 3) 0) in
+            let b = eqb (f .state) (arcOf arcs (g .next - 1) .target) in
             let d = tested (followBy s upper lower (arcOf arcs (g .next - 1)) (passedOf (g .up) (g .low))) (λ x. eqb (x .up) (f .up) && eqb (x .low) (f .low)) in
             let h : getD first (g .state) 0 < g .next = ltb-true (getD first (g .state) 0) (g .next) (and-left a (b && d) e) in
-            let z : f .state ≡ getD arcs (4 * (g .next - 1) + 3) 0 = eqb-true (f .state) _ (and-left b d (and-right a (b && d) e)) in
-            let w = linkable .next-whole in
-            let m : g .next - 1 < length (arcsAs arcs) = omega (arith, length-arcs (length arcs / 4) arcs) in
-            let k : getD (arcsAs arcs) (g .next - 1) noArc ≡ arcOf arcs (g .next - 1) = getD-arcs (length arcs / 4) arcs (g .next - 1) noArc (omega arith) in
-            subst (λ (y : ℕ). y < s .states) (sym z) (subst (λ (y : Arc). y .target < s .states) k (rules s first initials terminals arcs upper lower R .target-in _ (at-mem (arcsAs arcs) (g .next - 1) noArc m)))
+            let z : f .state ≡ arcOf arcs (g .next - 1) .target = eqb-true (f .state) _ (and-left b d (and-right a (b && d) e)) in
+            let w = linkable .next-most in
+            let m : g .next - 1 < arcCount arcs = omega arith in
+            subst (λ (y : ℕ). y < s .states) (sym z)
+            (subst (λ (y : Arc). y .target < s .states) (arc-is R (g .next - 1) m) (rules R .target-in _ (at-mem (arcsAs arcs) (g .next - 1) noArc (omega (arith, arcs-count R)))))
 
         pub up-indexed : f .state + 1 < length first
-        up-indexed = omega (arith, up-state, first-length s first initials terminals arcs upper lower R, rules s first initials terminals arcs upper lower R .few-states)
+        up-indexed = omega (arith, up-state, first-length R, rules R .few-states)
 
         up-next : nextHolds M (lookAt c (suc j)) ≡ nextBy first (f .state) (f .next)
         up-next =

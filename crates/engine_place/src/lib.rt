@@ -10,7 +10,7 @@ ghost use mathlib.Core.List.{List, []};
 ghost use Prim.Native.Nat.{ℕ, _+_, _-_, _<_, _≤_};
 ghost use lib.ListN.{length};
 ghost use Rattle.machine.specs.Frames.{framesOf, chainHolds, placeHolds};
-ghost use Rattle.machine.specs.Stack.{framesIn, lookAt, store};
+ghost use Rattle.machine.specs.Stack.{mostFrames, framesIn, lookAt, store};
 ghost use Rattle.machine.specs.Reading.{heldOf};
 ghost use Rattle.engine_frames.specs.Frames.{frameOf};
 ghost use Rattle.engine_step.specs.Setting.{machineBy, Prepared};
@@ -64,12 +64,12 @@ fn link_holds(
     if next <= widen::cell_as_count(first[state]) {
         return false;
     }
-    let n = next as usize - 1;
-    match sides::follow(setup, arcs, n, upper, lower, g.up, g.low) {
+    let arc = table_format::arc_at(arcs, next as usize - 1);
+    match sides::follow(setup, arc, upper, lower, g.up, g.low) {
         Fit::Fails => false,
         Fit::Fits(up, low) => {
             let f = cells::look(stack, i);
-            if f.state != widen::cell_as_count(arcs[4 * n + 3]) {
+            if f.state != widen::cell_as_count(arc.target) {
                 return false;
             }
             if up != f.up {
@@ -86,15 +86,15 @@ fn frames_hold(
     first: &[u16],
     initials: &[u16],
     arcs: &[u16],
-    upper: &[u8],
-    lower: &[u8],
     started: u32,
     depth: usize,
     stack: &[u32],
+    upper: &[u8],
+    lower: &[u8],
 ) -> bool
     requires { ⌜ ((terminals : List ℕ) × Prepared setup (now first) (now initials) terminals (now arcs)) ⌝ }
     requires { ⌜ (0 < started) × (started ≤ length (now initials)) ⌝ }
-    requires { ⌜ (0 < depth) × (depth ≤ framesIn (now stack)) × (depth ≤ 33024) ⌝ }
+    requires { ⌜ (0 < depth) × (depth ≤ framesIn (now stack)) × (depth ≤ mostFrames) ⌝ }
     ensures { λ r. ⌜ r ≡ chainHolds (machineBy setup (now (initials .entry)) [] (now (arcs .entry)) (now (upper .entry)) (now (lower .entry))) started (framesOf store (now (stack .entry)) (depth - 1)) (lookAt (now (stack .entry)) (depth - 1)) ⌝ }
 {
     let b = cells::look(stack, 0);
@@ -152,5 +152,5 @@ pub fn place_holds(
         return false;
     }
     let used = depth as usize;
-    frames_hold(setup, first, initials, arcs, upper, lower, n, used, stack)
+    frames_hold(setup, first, initials, arcs, n, used, stack, upper, lower)
 }

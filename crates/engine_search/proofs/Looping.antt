@@ -29,7 +29,8 @@ use Rattle.machine.specs.Place.{Good}
 use Rattle.machine.proofs.Turn.{plus, plus-none, ended-turn, paused-turn, moved-turn, found-turn, refused-turn}
 use Rattle.machine.proofs.Stack.{store-laws}
 use Rattle.engine_step.specs.declared.Turn.{Turn}
-use Rattle.engine_step.specs.declared.Turn.the-variants.{Moved, Finds, Stopped}
+use Rattle.engine_step.specs.declared.Turn.the-variants as Turned
+use Rattle.engine_step.specs.declared.Turn.the-variants.{Moved, Finds}
 use Rattle.machine.specs.Reading.{heldOf}
 use Rattle.engine_step.specs.Stepping.{runBy, TurnIs}
 use Rattle.engine_search.specs.Searching.{calledWith, SearchIs}
@@ -60,12 +61,12 @@ module _ (k : ℕ) (c b : List ℕ) (r : Turn) (e o : List ℕ) where
   turn-finds (refuses (Input cause)) v n T z = absurd (T .0)
   turn-finds (refuses (State cause)) v n T z = absurd (let y : _≡_ {A = ℕ} 0 1 = cc (T .0) in omega arith)
 
-  pub turn-stopped : (x : Stepped (List ℕ)) (cause : StateCause) → TurnIs k x c b r e o → r ≡ Stopped cause → (x ≡ refuses (State cause)) × (e ≡ c) × (o ≡ b)
-  turn-stopped ends cause T z = absurd T
-  turn-stopped (moves h) cause T z = absurd (let y : _≡_ {A = ℕ} 0 1 = cc (T .0) in omega arith)
-  turn-stopped (finds h w) cause T z = absurd (let y : _≡_ {A = ℕ} 0 1 = cc (T .0) in omega arith)
-  turn-stopped (refuses (Input x)) cause T z = absurd (T .0)
-  turn-stopped (refuses (State x)) cause T z = let y : x ≡ cause = cc (T .0) in (ap (λ (v : StateCause). refuses (State v)) y, T .1, T .2)
+  pub turn-refused : (x : Stepped (List ℕ)) (cause : StateCause) → TurnIs k x c b r e o → r ≡ Turned.Refused cause → (x ≡ refuses (State cause)) × (e ≡ c) × (o ≡ b)
+  turn-refused ends cause T z = absurd T
+  turn-refused (moves h) cause T z = absurd (let y : _≡_ {A = ℕ} 0 1 = cc (T .0) in omega arith)
+  turn-refused (finds h w) cause T z = absurd (let y : _≡_ {A = ℕ} 0 1 = cc (T .0) in omega arith)
+  turn-refused (refuses (Input x)) cause T z = absurd (T .0)
+  turn-refused (refuses (State x)) cause T z = let y : x ≡ cause = cc (T .0) in (ap (λ (v : StateCause). refuses (State v)) y, T .1, T .2)
 
 -- The end.
 
@@ -175,9 +176,9 @@ module _ (t : Table) (q : Query) (task : ℕ) (b : List ℕ) (allowance : ℕ) (
             (again _ (found-turn M store (length b) h (allowance - (k + 1)) (heldOf v e) (w .0) (w .1))) (w .4) y
             (ap (λ (m : ℕ). calledWith (Found (k + 1) m) (runOf v)) (w .2), refl, w .3)
 
-        pub stopped-answer : (cause : StateCause) → r ≡ Stopped cause → (d : Called) → d ≡ calledWith (Refused k (State cause)) at → SearchIs task b total d e x
-        stopped-answer cause z d y =
-            let w = turn-stopped task c b r e x (step M store (length b) h) cause T z in
+        pub refused-answer : (cause : StateCause) → r ≡ Turned.Refused cause → (d : Called) → d ≡ calledWith (Refused k (State cause)) at → SearchIs task b total d e x
+        refused-answer cause z d y =
+            let w = turn-refused task c b r e x (step M store (length b) h) cause T z in
             search-by (plus k (still (R.refused (State cause)) h)) at (Refused k (State cause)) d _ _
             (again _ (refused-turn M store (length b) h (allowance - (k + 1)) (State cause) (w .0))) (I .same-task) y
             (ap (λ (j : ℕ). calledWith (Refused j (State cause)) (runOf at)) (let m : k ≡ k + 0 = omega arith in m), w .1, w .2)

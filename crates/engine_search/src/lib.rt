@@ -79,10 +79,10 @@ fn take_steps(
             initials,
             terminals,
             arcs,
-            upper,
-            lower,
             at,
             stack,
+            upper,
+            lower,
             output,
         ) {
             Turn::Moved(next) => {
@@ -91,7 +91,7 @@ fn take_steps(
             Turn::Finds(next, length) => {
                 return found(steps + 1, length, next);
             }
-            Turn::Stopped(cause) => {
+            Turn::Refused(cause) => {
                 return refused(steps, Refusal::State(cause), at);
             }
         }

@@ -3,4 +3,3 @@ pub mod Moves
 pub mod Steps
 pub mod Bounds
 pub mod Turns
-pub mod Pushes

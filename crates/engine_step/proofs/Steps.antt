@@ -18,17 +18,18 @@ use Rattle.machine.specs.Frames as F
 use Rattle.machine.specs.Frames.{Held, framesOf, pathOf, entering, untried}
 use Rattle.machine.specs.Step as S
 use Rattle.machine.specs.Step.{Stepped, moves, finds, refuses, triedOf, tryArc, moveTop, moveStart, moveBy, move, effect, arrived, offered, pushed, made, step}
-use Rattle.machine.specs.Transducer.{Passed, machine}
+use Rattle.machine.specs.Transducer.{Passed, nothingPassed, machine}
 use Rattle.machine.specs.Stack.{roomIn, lookAt, putAt, store}
 use Rattle.machine.proofs.Held.{RoomFor, move-good}
 use Rattle.machine.specs.Place.{Good}
 use Rattle.machine.proofs.Stack.{store-laws}
 use Rattle.engine_step.specs.declared.Move.{Move}
 use Rattle.engine_step.specs.declared.Move.the-variants.{Drops, Skips, Pushes}
-use Rattle.engine_step.specs.declared.Verdict.the-variants.{Turned, Enters, Accepts}
-use Rattle.engine_frames.specs.Sides.{passedOf}
+use Rattle.engine_push.specs.declared.Entry.{Entry}
+use Rattle.engine_push.specs.declared.Verdict.the-variants.{Refused, Enters, Accepts}
+use Rattle.engine_push.specs.Pushing.{verdictOf}
 use Rattle.engine_step.specs.Setting.{held}
-use Rattle.engine_step.specs.Stepping.{moveAs, verdictOf, afterPush}
+use Rattle.engine_step.specs.Stepping.{moveAs, afterPush}
 
 -- The run after a move, and the step, by the move that the code tells.
 
@@ -36,12 +37,12 @@ module _ (t : Table) (q : Query) where
   abbrev pub effectAs : ℕ → ℕ → List ℕ → Move → Held (List ℕ)
   effectAs n d c Drops = held n (pred d) c
   effectAs n d c Skips = held n d (putAt c (pred d) (triedOf (lookAt c (pred d))))
-  effectAs n d c (Pushes m k s u l) = afterPush t q m d c s (passedOf u l)
+  effectAs n d c (Pushes e) = afterPush t q d c e
 
   abbrev pub madeAs : ℕ → ℕ → List ℕ → Move → Held (List ℕ) → Stepped (List ℕ)
   madeAs l d c Drops e = moves e
   madeAs l d c Skips e = moves e
-  madeAs l d c (Pushes m k s u x) e = pushed (machine t q) store (ltb d (roomIn c)) l e
+  madeAs l d c (Pushes x) e = pushed (machine t q) store (ltb d (roomIn c)) l e
 
   module _ (n : ℕ) (c : List ℕ) where
     abbrev by : ℕ → S.Move (F.Frame Passed)
@@ -49,7 +50,7 @@ module _ (t : Table) (q : Query) where
 
     effect-start : (k : ℕ) → 0 < k → effect (machine t q) store (moveStart (machine t q) n k) (held n 0 c) ≡ effectAs n 0 c (moveAs n 0 (moveStart (machine t q) n k))
     effect-start zero h = absurd (omega arith)
-    effect-start (suc k) h = ap (λ (m : ℕ). held m 1 (putAt c 0 (entering (machine t q) (getD (t .initials) n 0) (passedOf 0 0)))) (let e : suc n ≡ n + 1 = omega arith in e)
+    effect-start (suc k) h = ap (λ (m : ℕ). held m 1 (putAt c 0 (entering (machine t q) (getD (t .initials) n 0) nothingPassed))) (let e : suc n ≡ n + 1 = omega arith in e)
 
     effect-arc : (d : ℕ) (o : Option Passed) → effect (machine t q) store (tryArc (machine t q) (lookAt c d) o) (held n (suc d) c) ≡ effectAs n (suc d) c (moveAs n (suc d) (tryArc (machine t q) (lookAt c d) o))
     effect-arc d none = refl
@@ -108,9 +109,9 @@ module _ (t : Table) (q : Query) where
       room-for N k (S.pushes f g) = k
 
       -- the run after a push that finds room is a place in a search
-      pub push-good : (N : ℕ) → Good (machine t q) store N (held n d c) → d < N → (m k s u l : ℕ) → Pushes m k s u l ≡ moveAs n d (move (machine t q) store (held n d c))
-          → Good (machine t q) store N (afterPush t q m d c s (passedOf u l))
-      push-good N G h m k s u l e =
+      pub push-good : (N : ℕ) → Good (machine t q) store N (held n d c) → d < N → (x : Entry) → Pushes x ≡ moveAs n d (move (machine t q) store (held n d c))
+          → Good (machine t q) store N (afterPush t q d c x)
+      push-good N G h x e =
           subst (Good (machine t q) store N) (effect-as ∙ ap (effectAs n d c) (sym e)) (move-good (machine t q) store store-laws N (held n d c) G (room-for N h (move (machine t q) store (held n d c))))
 
 -- What a push comes to, by the verdict: the run after it, whether its path accepts, and its output.
@@ -126,15 +127,15 @@ module _ (t : Table) (q : Query) (e : Held (List ℕ)) (l w : ℕ) (a : Bool) wh
   offer : (b : Bool) → length word ≡ w → ltb l w ≡ b → ltb l (length word) ≡ b
   offer b k h = ap (ltb l) k ∙ h
 
-  pub turned-is : (b : Bool) → (b ≡ true → PathIs) → (cause : StateCause) → Turned cause ≡ verdictOf b a l w → pushed (machine t q) store b l e ≡ refuses (State cause)
-  turned-is false facts cause h = let k : StackFull ≡ cause = cc in ap (λ (x : StateCause). refuses (State x)) k
-  turned-is true facts cause h = ap (λ (v : Bool). arrived (machine t q) store v l e) (facts refl .0) ∙ by-accept a h
+  pub refused-is : (b : Bool) → (b ≡ true → PathIs) → (cause : StateCause) → Refused cause ≡ verdictOf b a l w → pushed (machine t q) store b l e ≡ refuses (State cause)
+  refused-is false facts cause h = let k : StackFull ≡ cause = cc in ap (λ (x : StateCause). refuses (State x)) k
+  refused-is true facts cause h = ap (λ (v : Bool). arrived (machine t q) store v l e) (facts refl .0) ∙ by-accept a h
     where
-      by-length : (v : Bool) → ltb l w ≡ v → Turned cause ≡ cond v (Turned OutputFull) (Accepts w) → offered (machine t q) store (ltb l (length word)) word e ≡ refuses (State cause)
+      by-length : (v : Bool) → ltb l w ≡ v → Refused cause ≡ cond v (Refused OutputFull) (Accepts w) → offered (machine t q) store (ltb l (length word)) word e ≡ refuses (State cause)
       by-length true k h = ap (λ (v : Bool). offered (machine t q) store v word e) (offer true (facts refl .1) k) ∙ (let z : OutputFull ≡ cause = cc in ap (λ (x : StateCause). refuses (State x)) z)
       by-length false k h = absurd (let z : _≡_ {A = ℕ} 0 1 = cc in omega arith)
 
-      by-accept : (v : Bool) → Turned cause ≡ verdictOf true v l w → arrived (machine t q) store v l e ≡ refuses (State cause)
+      by-accept : (v : Bool) → Refused cause ≡ verdictOf true v l w → arrived (machine t q) store v l e ≡ refuses (State cause)
       by-accept false h = absurd (let z : _≡_ {A = ℕ} 0 1 = cc in omega arith)
       by-accept true h = by-length (ltb l w) refl h
 
@@ -142,7 +143,7 @@ module _ (t : Table) (q : Query) (e : Held (List ℕ)) (l w : ℕ) (a : Bool) wh
   enters-are false facts h = absurd (let z : _≡_ {A = ℕ} 0 1 = cc in omega arith)
   enters-are true facts h = (refl, ap (λ (v : Bool). arrived (machine t q) store v l e) (facts refl .0) ∙ by-accept a h)
     where
-      by-length : (v : Bool) → Enters ≡ cond v (Turned OutputFull) (Accepts w) → ⊥
+      by-length : (v : Bool) → Enters ≡ cond v (Refused OutputFull) (Accepts w) → ⊥
       by-length true h = let z : _≡_ {A = ℕ} 0 1 = cc in omega arith
       by-length false h = let z : _≡_ {A = ℕ} 0 1 = cc in omega arith
 
@@ -160,7 +161,7 @@ module _ (t : Table) (q : Query) (e : Held (List ℕ)) (l w : ℕ) (a : Bool) wh
   accepts-are false facts k h = absurd (let z : _≡_ {A = ℕ} 0 1 = cc in omega arith)
   accepts-are true facts k h = by-accept a refl h
     where
-      by-length : (v : Bool) → ltb l w ≡ v → a ≡ true → Accepts k ≡ cond v (Turned OutputFull) (Accepts w) → Found true k
+      by-length : (v : Bool) → ltb l w ≡ v → a ≡ true → Accepts k ≡ cond v (Refused OutputFull) (Accepts w) → Found true k
       by-length true z y h = absurd (let z : _≡_ {A = ℕ} 0 1 = cc in omega arith)
       by-length false z y h =
           let kw : k ≡ w = cc in

@@ -25,40 +25,43 @@ use Rattle.machine.proofs.Range.{in-range}
 use Rattle.machine.proofs.Stack.{store-laws}
 use Rattle.machine.proofs.Transducer.{written-length}
 use Rattle.engine_frames.specs.declared.Setup.{Setup}
+use Rattle.engine_frames.specs.Sides.{doneBy, writtenOf}
+use Rattle.engine_frames.specs.Output.{Tried, sideBy, lettersBy}
+use Rattle.engine_push.specs.declared.Entry.{Entry}
+use Rattle.engine_push.specs.declared.Verdict.{Verdict}
+use Rattle.engine_push.specs.declared.Verdict.the-variants as Met
+use Rattle.engine_push.specs.declared.Verdict.the-variants.{Enters, Accepts}
+use Rattle.engine_push.specs.Pushing.{passedIn, frameIn, verdictBy, triedBelow, enteredAt, pushedCells, pushedOutput, Pushable}
+use Rattle.engine_push.proofs.Cells.{tried-length, entered-length}
 use Rattle.engine_step.specs.declared.Move.{Move}
 use Rattle.engine_step.specs.declared.Move.the-variants.{Drops, Skips, Pushes}
-use Rattle.engine_step.specs.declared.Verdict.{Verdict}
-use Rattle.engine_step.specs.declared.Verdict.the-variants.{Turned, Enters, Accepts}
 use Rattle.engine_step.specs.declared.Turn.{Turn}
-use Rattle.engine_step.specs.declared.Turn.the-variants.{Moved, Finds, Stopped}
-use Rattle.engine_frames.specs.Frames.{frameBy}
-use Rattle.engine_frames.specs.Sides.{passedOf, doneBy, writtenOf}
-use Rattle.engine_frames.specs.Output.{Tried, sideBy, lettersBy}
+use Rattle.engine_step.specs.declared.Turn.the-variants.{Moved, Finds, Refused}
 use Rattle.engine_step.specs.Setting.{queryBy, tableBy, machineBy, held, Prepared}
-use Rattle.engine_step.specs.Stepping.{moveAs, verdictOf, triedBelow, enteredAt, afterPush, pushedCells, pushedOutput, Pushable, runBy, TurnIs}
-use Rattle.engine_step.proofs.Moves.{begins-is, tried-length, entered-length}
-use Rattle.engine_step.proofs.Steps.{effectAs, step-as, push-good, turned-is, enters-are, PathIs, Found, accepts-are}
+use Rattle.engine_step.specs.Stepping.{moveAs, afterPush, runBy, TurnIs}
+use Rattle.engine_step.proofs.Moves.{begins-is}
+use Rattle.engine_step.proofs.Steps.{effectAs, step-as, push-good, refused-is, enters-are, PathIs, Found, accepts-are}
 use Rattle.engine_step.proofs.Bounds.{done-is, written-is, rules, first-length, first-at, output-letters, tried-of, top-of}
 
 -- the move does not look at the terminal states
-pub same-move : (s : Setup) (initials terminals arcs upper lower : List ℕ) (h : Held (List ℕ)) → move (machineBy s initials [] arcs upper lower) store h ≡ move (machineBy s initials terminals arcs upper lower) store h
+same-move : (s : Setup) (initials terminals arcs upper lower : List ℕ) (h : Held (List ℕ)) → move (machineBy s initials [] arcs upper lower) store h ≡ move (machineBy s initials terminals arcs upper lower) store h
 unfolding move
 same-move s initials terminals arcs upper lower h = refl
 
 -- the frame that was pushed is the top one
-pub entered-top : (c : List ℕ) (d : ℕ) (f : F.Frame Passed) → d < roomIn c → lookAt (enteredAt c d d f) d ≡ f
+entered-top : (c : List ℕ) (d : ℕ) (f : F.Frame Passed) → d < roomIn c → lookAt (enteredAt c d f) d ≡ f
 entered-top c d f h = store-laws .look-same (triedBelow c d) d f (let z = tried-length c d in omega arith)
 
 -- what a step makes of a push, where the run after it has m initial states started and depth d
 abbrev pub turnAs : ℕ → ℕ → ℕ → Verdict → Turn
-turnAs task m d (Turned cause) = Stopped cause
+turnAs task m d (Met.Refused cause) = Refused cause
 turnAs task m d Enters = Moved (runBy task m d)
 turnAs task m d (Accepts k) = Finds (runBy task m d) k
 
 pub finds-ap : {a b : Run} (k : ℕ) → a ≡ b → Finds a k ≡ Finds b k
 finds-ap k e = ap (λ (r : Run). Finds r k) e
 
-module _ (s : Setup) (first initials terminals arcs upper lower : List ℕ) (R : Prepared s first initials terminals arcs) where
+module _ {s : Setup} {first initials terminals arcs : List ℕ} (R : Prepared s first initials terminals arcs) (upper lower : List ℕ) where
   abbrev t : Table
   t = tableBy s initials terminals arcs
 
@@ -69,116 +72,123 @@ module _ (s : Setup) (first initials terminals arcs upper lower : List ℕ) (R :
   M = machineBy s initials terminals arcs upper lower
 
   module _ (task n d : ℕ) (c : List ℕ) (G : Good M store (roomIn c) (held n d c)) (left : d ≡ 0 → n < length initials) where
-    tells : (r : Move) → r ≡ moveAs n d (move (machineBy s initials [] arcs upper lower) store (held n d c)) → r ≡ moveAs n d (move M store (held n d c))
+    -- what the code tells, by a machine without terminal states
+    abbrev told : Move
+    told = moveAs n d (move (machineBy s initials [] arcs upper lower) store (held n d c))
+
+    tells : (r : Move) → r ≡ told → r ≡ moveAs n d (move M store (held n d c))
     tells r e = e ∙ ap (moveAs n d) (same-move s initials terminals arcs upper lower (held n d c))
 
     module _ (b : List ℕ) where
       turn-by : (x : Stepped (List ℕ)) (r : Turn) (e o : List ℕ) → step M store (length b) (held n d c) ≡ x → TurnIs task x c b r e o → TurnIs task (step M store (length b) (held n d c)) c b r e o
       turn-by x r e o k T = subst (λ (y : Stepped (List ℕ)). TurnIs task y c b r e o) (sym k) T
 
-      pub drop-turn : Drops ≡ moveAs n d (move (machineBy s initials [] arcs upper lower) store (held n d c)) → TurnIs task (step M store (length b) (held n d c)) c b (Moved (runBy task n (d - 1))) c b
-      drop-turn e = turn-by (moves (held n (pred d) c)) _ _ _ (step-as t q n c d left (length b) Drops (tells Drops e)) (ap (λ (j : ℕ). Moved (runBy task n j)) (let z : d - 1 ≡ pred d = omega arith in z), refl, refl)
+      pub drop-turn : Drops ≡ told → (r : Run) → r ≡ runBy task n (d - 1) → TurnIs task (step M store (length b) (held n d c)) c b (Moved r) c b
+      drop-turn e r k =
+          turn-by (moves (held n (pred d) c)) _ _ _ (step-as t q n c d left (length b) Drops (tells Drops e))
+          (ap Moved (k ∙ ap (runBy task n) (let z : d - 1 ≡ pred d = omega arith in z)), refl, refl)
 
-      pub skip-turn : Skips ≡ moveAs n d (move (machineBy s initials [] arcs upper lower) store (held n d c)) → (e : List ℕ) → e ≡ putAt c (d - 1) (triedOf (lookAt c (d - 1)))
-          → TurnIs task (step M store (length b) (held n d c)) c b (Moved (runBy task n d)) e b
+      pub skip-turn : Skips ≡ told → (e : List ℕ) → e ≡ putAt c (d - 1) (triedOf (lookAt c (d - 1))) → TurnIs task (step M store (length b) (held n d c)) c b (Moved (runBy task n d)) e b
       skip-turn k e h =
           turn-by (moves (effectAs t q n d c Skips)) _ _ _ (step-as t q n c d left (length b) Skips (tells Skips k))
           (refl, h ∙ ap (λ (j : ℕ). putAt c j (triedOf (lookAt c j))) (let z : d - 1 ≡ pred d = omega arith in z), refl)
 
     -- no frame is dropped, and no arc tried, at depth 0
-    deep : (r : Move) → r ≡ moveAs n d (move (machineBy s initials [] arcs upper lower) store (held n d c)) → ((m a st u x : ℕ) → r ≡ Pushes m a st u x → ⊥) → 1 ≤ d
+    deep : (r : Move) → r ≡ told → ((x : Entry) → r ≡ Pushes x → ⊥) → 1 ≤ d
     deep r e other = go d refl
       where
         go : (k : ℕ) → d ≡ k → 1 ≤ d
-        go zero z = absurd (other _ _ _ _ _ (e ∙ sym (begins-is s initials arcs upper lower n c d z (left z))))
+        go zero z = absurd (other _ (e ∙ sym (begins-is s initials arcs upper lower n c d z (left z))))
         go (suc k) z = omega arith
 
-    pub drop-deep : Drops ≡ moveAs n d (move (machineBy s initials [] arcs upper lower) store (held n d c)) → 1 ≤ d
-    drop-deep e = deep Drops e (λ m a st u x z. let y : _≡_ {A = ℕ} 0 1 = cc in omega arith)
+    pub drop-deep : Drops ≡ told → 1 ≤ d
+    drop-deep e = deep Drops e (λ x z. let y : _≡_ {A = ℕ} 0 1 = cc in omega arith)
 
-    pub skip-deep : Skips ≡ moveAs n d (move (machineBy s initials [] arcs upper lower) store (held n d c)) → 1 ≤ d
-    skip-deep e = deep Skips e (λ m a st u x z. let y : _≡_ {A = ℕ} 0 1 = cc in omega arith)
+    pub skip-deep : Skips ≡ told → 1 ≤ d
+    skip-deep e = deep Skips e (λ x z. let y : _≡_ {A = ℕ} 0 1 = cc in omega arith)
 
     pub skip-next : (k : ℕ) → d ≡ suc k → lookAt c k .next ≤ 1024
-    skip-next k j = top-of s first initials terminals arcs upper lower R n d c G left .top-in k j .next-small
+    skip-next k j = top-of R upper lower n d c G left .top-in k j .next-small
 
     -- a push adds a frame to those that there are
-    push-depth : (m a st u x : ℕ) (v : S.Move (F.Frame Passed)) → Pushes m a st u x ≡ moveAs n d v → a ≡ suc d
-    push-depth m a st u x S.over z = absurd (let y : _≡_ {A = ℕ} 0 1 = cc in omega arith)
-    push-depth m a st u x S.drops z = absurd (let y : _≡_ {A = ℕ} 0 1 = cc in omega arith)
-    push-depth m a st u x (S.begins g) z = cc
-    push-depth m a st u x (S.skips f) z = absurd (let y : _≡_ {A = ℕ} 0 1 = cc in omega arith)
-    push-depth m a st u x (S.pushes f g) z = cc
+    push-depth : (e : Entry) (v : S.Move (F.Frame Passed)) → Pushes e ≡ moveAs n d v → e .depth ≡ suc d
+    push-depth e S.over z = absurd (let y : _≡_ {A = ℕ} 0 1 = cc in omega arith)
+    push-depth e S.drops z = absurd (let y : _≡_ {A = ℕ} 0 1 = cc in omega arith)
+    push-depth e (S.begins g) z = cc
+    push-depth e (S.skips f) z = absurd (let y : _≡_ {A = ℕ} 0 1 = cc in omega arith)
+    push-depth e (S.pushes f g) z = cc
 
-    module _ (b : List ℕ) (m a st u x : ℕ) (e : Pushes m a st u x ≡ moveAs n d (move (machineBy s initials [] arcs upper lower) store (held n d c))) where
-      abbrev p : Passed
-      p = passedOf u x
-
+    module _ (b : List ℕ) (e : Entry) (E : Pushes e ≡ told) where
       abbrev f : F.Frame Passed
-      f = entering M st p
+      f = entering M (e .state) (passedIn e)
 
       abbrev after : Held (List ℕ)
-      after = afterPush t q m d c st p
+      after = afterPush t q d c e
 
       abbrev accepting : Bool
-      accepting = member st terminals && doneBy s upper lower p
+      accepting = member (e .state) terminals && doneBy s upper lower (passedIn e)
+
+      abbrev count : ℕ
+      count = writtenOf s (passedIn e)
 
       module _ (room : d < roomIn c) where
-        good : Good M store (roomIn c) after
-        good = push-good t q n c d left (roomIn c) G room m a st u x (tells _ e)
-
-        top : lookAt (enteredAt c d d f) d ≡ f
+        top : lookAt (enteredAt c d f) d ≡ f
         top = entered-top c d f room
 
-        placed : Placed M m (f ∷ framesOf store (enteredAt c d d f) d)
-        placed = subst (λ (g : F.Frame Passed). Placed M m (g ∷ framesOf store (enteredAt c d d f) d)) top (good .placed)
+        placed : Placed M (e .started) (f ∷ framesOf store (enteredAt c d f) d)
+        placed =
+            subst (λ (g : F.Frame Passed). Placed M (e .started) (g ∷ framesOf store (enteredAt c d f) d)) top
+            (push-good t q n c d left (roomIn c) G room e (tells _ E) .placed)
 
         accepts-after : accepts M (pathOf M store after) ≡ accepting
-        accepts-after = accepts-top M m f (framesOf store (enteredAt c d d f) d) placed ∙ ap (λ (v : Bool). member st terminals && v) (done-is s (R .reads-some) initials terminals arcs upper lower p)
+        accepts-after =
+            accepts-top M (e .started) f (framesOf store (enteredAt c d f) d) placed
+            ∙ ap (λ (v : Bool). member (e .state) terminals && v) (done-is s (R .reads-some) initials terminals arcs upper lower (passedIn e))
 
-        length-after : length (output M (pathOf M store after)) ≡ writtenOf s p
-        length-after = written-length t q (walkTo m (framesOf store (enteredAt c d d f) d)) p (placed .datum-is) ∙ written-is s (R .reads-some) upper lower p
+        length-after : length (output M (pathOf M store after)) ≡ count
+        length-after =
+            written-length t q (walkTo (e .started) (framesOf store (enteredAt c d f) d)) (passedIn e) (placed .datum-is) ∙ written-is s (R .reads-some) upper lower (passedIn e)
 
-        in-states : st < s .states
-        in-states = in-range t q (rules s first initials terminals arcs upper lower R) m f (framesOf store (enteredAt c d d f) d) placed .state-in
+        in-states : e .state < s .states
+        in-states = in-range t q (rules R) (e .started) f (framesOf store (enteredAt c d f) d) placed .state-in
 
-        pub indexed : st < length first
-        indexed = omega (arith, in-states, first-length s first initials terminals arcs upper lower R, rules s first initials terminals arcs upper lower R .few-states)
+        indexed : e .state < length first
+        indexed = omega (arith, in-states, first-length R, rules R .few-states)
 
-        pub frame-is : frameBy st (getD first st 0) u x ≡ f
-        frame-is = ap (λ (k : ℕ). frameBy st k u x) (first-at s first initials terminals arcs upper lower R st (omega (arith, in-states)))
+        frame-is : frameIn e (getD first (e .state) 0) ≡ f
+        frame-is = ap (frameIn e) (first-at R (e .state) (omega (arith, in-states)))
 
-        pub letters-after : output M (pathOf M store after) ≡ lettersBy s arcs (enteredAt c d d f) d
-        letters-after = output-letters s first initials terminals arcs upper lower R m (enteredAt c d d f) d f placed
+        letters-after : output M (pathOf M store after) ≡ lettersBy s arcs (enteredAt c d f) d
+        letters-after = output-letters R upper lower (e .started) (enteredAt c d f) d f placed
 
-        pub tried-after : Tried arcs (sideBy s) (enteredAt c d d f) d
-        tried-after = tried-of s first initials terminals arcs upper lower R m (enteredAt c d d f) d f (omega (arith, entered-length c d d f)) placed
+        tried-after : Tried arcs (sideBy s) (enteredAt c d f) d
+        tried-after = tried-of R upper lower (e .started) (enteredAt c d f) d f (omega (arith, entered-length c d f)) placed
 
-      facts : ltb d (roomIn c) ≡ true → PathIs t q after (length b) (writtenOf s p) accepting
+      facts : ltb d (roomIn c) ≡ true → PathIs t q after (length b) count accepting
       facts z = let room : d < roomIn c = ltb-true d (roomIn c) z in (accepts-after room, length-after room)
 
       abbrev verdict : Verdict
-      verdict = verdictOf (ltb d (roomIn c)) accepting (length b) (writtenOf s p)
+      verdict = verdictBy s terminals upper lower d e c (length b)
 
       pushes : step M store (length b) (held n d c) ≡ pushed M store (ltb d (roomIn c)) (length b) after
-      pushes = step-as t q n c d left (length b) (Pushes m a st u x) (tells (Pushes m a st u x) e)
+      pushes = step-as t q n c d left (length b) (Pushes e) (tells (Pushes e) E)
 
-      stop-turn : (cause : StateCause) → Turned cause ≡ verdict → (g o : List ℕ) → g ≡ c → o ≡ b → TurnIs task (step M store (length b) (held n d c)) c b (Stopped cause) g o
-      stop-turn cause v g o y z =
-          turn-by b (refuses (State cause)) _ _ _ (pushes ∙ turned-is t q after (length b) (writtenOf s p) accepting (ltb d (roomIn c)) facts cause v) (refl, y, z)
+      refuse-turn : (cause : StateCause) → Met.Refused cause ≡ verdict → (g o : List ℕ) → g ≡ c → o ≡ b → TurnIs task (step M store (length b) (held n d c)) c b (Refused cause) g o
+      refuse-turn cause v g o y z =
+          turn-by b (refuses (State cause)) _ _ _ (pushes ∙ refused-is t q after (length b) count accepting (ltb d (roomIn c)) facts cause v) (refl, y, z)
 
-      module _ (g : List ℕ) (entered : g ≡ enteredAt c d d (frameBy st (getD first st 0) u x)) where
-        cells-is : d < roomIn c → g ≡ enteredAt c d d f
-        cells-is room = entered ∙ ap (enteredAt c d d) (frame-is room)
+      module _ (g : List ℕ) (entered : g ≡ enteredAt c d (frameIn e (getD first (e .state) 0))) where
+        cells-is : d < roomIn c → g ≡ enteredAt c d f
+        cells-is room = entered ∙ ap (enteredAt c d) (frame-is room)
 
-        enter-turn : Enters ≡ verdict → (o : List ℕ) → o ≡ b → TurnIs task (step M store (length b) (held n d c)) c b (Moved (runBy task m (suc d))) g o
+        enter-turn : Enters ≡ verdict → (o : List ℕ) → o ≡ b → TurnIs task (step M store (length b) (held n d c)) c b (Moved (runBy task (e .started) (suc d))) g o
         enter-turn v o z =
-            let E = enters-are t q after (length b) (writtenOf s p) accepting (ltb d (roomIn c)) facts v in
-            turn-by b (moves after) _ _ _ (pushes ∙ E .1) (refl, cells-is (ltb-true d (roomIn c) (E .0)), z)
+            let X = enters-are t q after (length b) count accepting (ltb d (roomIn c)) facts v in
+            turn-by b (moves after) _ _ _ (pushes ∙ X .1) (refl, cells-is (ltb-true d (roomIn c) (X .0)), z)
 
         module _ (k : ℕ) (v : Accepts k ≡ verdict) where
-          F₀ : Found t q after (length b) (writtenOf s p) accepting (ltb d (roomIn c)) k
-          F₀ = accepts-are t q after (length b) (writtenOf s p) accepting (ltb d (roomIn c)) facts k v
+          F₀ : Found t q after (length b) count accepting (ltb d (roomIn c)) k
+          F₀ = accepts-are t q after (length b) count accepting (ltb d (roomIn c)) facts k v
 
           room₀ : d < roomIn c
           room₀ = ltb-true d (roomIn c) (F₀ .has-room)
@@ -189,44 +199,45 @@ module _ (s : Setup) (first initials terminals arcs upper lower : List ℕ) (R :
           write-ready : Tried arcs (sideBy s) g d × ((k ≡ length (lettersBy s arcs g d)) × (k ≤ length b))
           write-ready = (subst (λ (l : List ℕ). Tried arcs (sideBy s) l d) (sym (cells-is room₀)) (tried-after room₀), (F₀ .counted ∙ ap length word-is, F₀ .has-space))
 
-          find-turn : (o : List ℕ) → o ≡ lettersBy s arcs g d ++ drop (length (lettersBy s arcs g d)) b → TurnIs task (step M store (length b) (held n d c)) c b (Finds (runBy task m (suc d)) k) g o
+          find-turn : (o : List ℕ) → o ≡ lettersBy s arcs g d ++ drop (length (lettersBy s arcs g d)) b → TurnIs task (step M store (length b) (held n d c)) c b (Finds (runBy task (e .started) (suc d)) k) g o
           find-turn o w =
               turn-by b (finds after (output M (pathOf M store after))) _ _ _ (pushes ∙ F₀ .told) (
-                ap (Finds (runBy task m (suc d))) (F₀ .counted),
+                ap (Finds (runBy task (e .started) (suc d))) (F₀ .counted),
                 cells-is room₀,
                 w ∙ ap (λ (l : List ℕ). l ++ drop (length l) b) (sym word-is),
               )
 
-      after-is : a ≡ suc d
-      after-is = push-depth m a st u x (move (machineBy s initials [] arcs upper lower) store (held n d c)) e
+      after-is : e .depth ≡ suc d
+      after-is = push-depth e (move (machineBy s initials [] arcs upper lower) store (held n d c)) E
 
-      top-is : a - 1 ≡ d
-      top-is = omega (arith, after-is)
-
-      pub after-some : 1 ≤ a
-      after-some = omega (arith, after-is)
+      below-is : e .depth - 1 ≡ d
+      below-is = omega (arith, after-is)
 
       -- what a push may rely on
-      pub pushable : Pushable s first terminals arcs upper lower d (a - 1) st u x c b
-      pushable =
-          subst (λ (j : ℕ). Pushable s first terminals arcs upper lower d j st u x c b) (sym top-is)
-          (record {
-            reads-some = R .reads-some;
-            on-stack = omega (arith, G .deep);
-            places = λ h. omega arith;
-            indexes = indexed;
-            counts = skip-next;
-            writes = λ k v g z. write-ready g z k v;
-          })
+      pub pushable : (1 ≤ e .depth) × Pushable s first terminals arcs upper lower (e .depth - 1) e c b
+      pushable = (
+        omega (arith, after-is),
+        subst (λ (j : ℕ). Pushable s first terminals arcs upper lower j e c b) (sym below-is)
+            (record {
+              reads-some = R .reads-some;
+              on-stack = omega (arith, G .deep);
+              indexes = indexed;
+              counts = skip-next;
+              writes = λ k v g z. write-ready g z k v;
+            }),
+      )
 
-      push-by : (v : Verdict) (g o : List ℕ) → v ≡ verdict → g ≡ pushedCells v c d d (frameBy st (getD first st 0) u x) → o ≡ pushedOutput v s arcs g d b
-          → TurnIs task (step M store (length b) (held n d c)) c b (turnAs task m (suc d) v) g o
-      push-by (Turned cause) g o v y z = stop-turn cause v g o y z
+      push-by : (v : Verdict) (g o : List ℕ) → v ≡ verdict → g ≡ pushedCells v c d (frameIn e (getD first (e .state) 0)) → o ≡ pushedOutput v s arcs g d b
+          → TurnIs task (step M store (length b) (held n d c)) c b (turnAs task (e .started) (suc d) v) g o
+      push-by (Met.Refused cause) g o v y z = refuse-turn cause v g o y z
       push-by Enters g o v y z = enter-turn g y v o z
       push-by (Accepts k) g o v y z = find-turn g y k v o z
 
-      pub push-turn : (v : Verdict) (g o : List ℕ) (r : Turn) → v ≡ verdict → g ≡ pushedCells v c d (a - 1) (frameBy st (getD first st 0) u x)
-          → o ≡ pushedOutput v s arcs g (a - 1) b → r ≡ turnAs task m a v → TurnIs task (step M store (length b) (held n d c)) c b r g o
-      push-turn v g o r y z w e =
-          subst (λ (i : Turn). TurnIs task (step M store (length b) (held n d c)) c b i g o) (sym (e ∙ ap (λ (i : ℕ). turnAs task m i v) after-is))
-          (push-by v g o y (z ∙ ap (λ (i : ℕ). pushedCells v c d i (frameBy st (getD first st 0) u x)) top-is) (w ∙ ap (λ (i : ℕ). pushedOutput v s arcs g i b) top-is))
+      -- by what the code of a push says
+      pub push-turn : (v : Verdict) (g o : List ℕ) (r : Turn) → v ≡ verdictBy s terminals upper lower (e .depth - 1) e c (length b)
+          → g ≡ pushedCells v c (e .depth - 1) (frameIn e (getD first (e .state) 0)) → o ≡ pushedOutput v s arcs g (e .depth - 1) b → r ≡ turnAs task (e .started) (e .depth) v
+          → TurnIs task (step M store (length b) (held n d c)) c b r g o
+      push-turn v g o r y z w k =
+          subst (λ (i : Turn). TurnIs task (step M store (length b) (held n d c)) c b i g o) (sym (k ∙ ap (λ (i : ℕ). turnAs task (e .started) i v) after-is))
+          (push-by v g o (y ∙ ap (λ (i : ℕ). verdictBy s terminals upper lower i e c (length b)) below-is)
+          (z ∙ ap (λ (i : ℕ). pushedCells v c i (frameIn e (getD first (e .state) 0))) below-is) (w ∙ ap (λ (i : ℕ). pushedOutput v s arcs g i b) below-is))

@@ -1,5 +1,5 @@
 -- The machine of a search, by the parts of the loaded table and the words that the code is lent.
-use Prim.Native.Nat.{ℕ, suc, _+_, _*_, _≤_, _<_}
+use Prim.Native.Nat.{ℕ, suc, _+_, _≤_, _<_}
 use mathlib.Core.Path.{_≡_}
 use mathlib.Core.Bool.{Bool, true, false, _||_}
 use mathlib.Core.List.{List}
@@ -7,12 +7,12 @@ use lib.ListN.{length, getD}
 use Rattle.table_format.specs.Table.{Table}
 use Rattle.table_format.specs.Rules.{keepsRules}
 use Rattle.table_format.specs.Index.{below, firstIndex}
-use Rattle.table_format.specs.Cells.{arcsAs, Whole}
-use Rattle.machine.specs.Query.{Task, recognition, synthesis, analysis, Query}
+use Rattle.table_format.specs.Cells.{arcCount, arcsAs}
+use Rattle.machine.specs.Query.{Task, recognition, synthesis, analysis, Side, Query}
 use Rattle.machine.specs.Machine.{Machine}
 use Rattle.machine.specs.Frames.{Held}
-use Rattle.machine.specs.Transducer.{machine}
-use Rattle.machine.specs.Stack.{framesIn, lookAt}
+use Rattle.machine.specs.Transducer.{passed, machine}
+use Rattle.machine.specs.Stack.{mostFrames, framesIn, lookAt}
 use Rattle.engine_frames.specs.declared.Setup.{Setup}
 
 -- the task that reads these sides, one or both
@@ -37,10 +37,9 @@ machineBy s initials terminals arcs upper lower = machine (tableBy s initials te
 abbrev pub held : ℕ → ℕ → List ℕ → Held (List ℕ)
 held n d c = record { started = n; depth = d; cells = c }
 
--- the table keeps the rules, its arcs are whole, `first` is its first-arc index, and the task reads a side
+-- the table keeps the rules, `first` is its first-arc index, and the task reads a side
 pub record Prepared (s : Setup) (first initials terminals arcs : List ℕ) : Type 0 where
   pub keeps : keepsRules (tableBy s initials terminals arcs) ≡ true
-  pub whole : Whole arcs
   pub index : first ≡ firstIndex (s .states) (arcsAs arcs)
   pub reads-some : (s .up || s .low) ≡ true
 
@@ -49,17 +48,15 @@ pub record InBounds (first arcs stack : List ℕ) (d : ℕ) : Type 0 where
   pub indexed : lookAt stack d .state + 1 < length first
   pub from-is : getD first (lookAt stack d .state) 0 ≡ below (lookAt stack d .state) (arcsAs arcs)
   pub to-is : getD first (lookAt stack d .state + 1) 0 ≡ below (suc (lookAt stack d .state)) (arcsAs arcs)
-  pub next-in : lookAt stack d .next < below (suc (lookAt stack d .state)) (arcsAs arcs) → 4 * lookAt stack d .next + 3 < length arcs
-  pub next-whole : 4 * lookAt stack d .next ≤ length arcs
+  pub next-in : lookAt stack d .next < below (suc (lookAt stack d .state)) (arcsAs arcs) → lookAt stack d .next < arcCount arcs
+  pub next-most : lookAt stack d .next ≤ arcCount arcs
   pub next-small : lookAt stack d .next ≤ 1024
-  pub up-small : lookAt stack d .datum .up ≤ 33024
-  pub low-small : lookAt stack d .datum .low ≤ 33024
+  pub counts-small : (side : Side) → passed (lookAt stack d .datum) side ≤ mostFrames
 
 -- what a step may look at: the top frame, or an initial state that is left
 pub record Top (first initials arcs : List ℕ) (n d : ℕ) (stack : List ℕ) : Type 0 where
   pub on-stack : d ≤ framesIn stack
-  pub few-frames : d ≤ 33024
+  pub few-frames : d ≤ mostFrames
   pub some-left : d ≡ 0 → n < length initials
   pub few-initials : length initials ≤ 256
-  pub whole-arcs : Whole arcs
   pub top-in : (k : ℕ) → d ≡ suc k → InBounds first arcs stack k

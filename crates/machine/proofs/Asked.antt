@@ -21,6 +21,7 @@ use Rattle.table_format.proofs.Tests.{and-left, and-right}
 use Rattle.table_format.proofs.Ruled.{Ruled}
 use Rattle.machine.specs.Query.{Task, Side, upperSide, lowerSide, reads, taskOf, Query, word, wordHolds, wordsHold, sidesHold}
 use Rattle.machine.specs.Transducer.{sideToRead, toReadOn, lettersToRead}
+use Rattle.machine.specs.Stack.{mostFrames}
 use Rattle.machine.specs.Asked.{Asked, turned, runs, askedWords, askedTask, askedTable, asked}
 
 pub record AskedFacts (t : Table) (q : Query) (task : ℕ) (upper lower : List ℕ) : Type 0 where
@@ -115,7 +116,7 @@ module _ (t : Table) (q : Query) (U : Ruled t) (W : wordsHold q ≡ true) where
       go true = word-short s
       go false = omega arith
 
-  pub enough-frames : (lettersToRead q + 1) * t .states ≤ 33024
+  pub enough-frames : (lettersToRead q + 1) * t .states ≤ mostFrames
   enough-frames =
       let h : lettersToRead q + 1 ≤ 129 = omega (arith, few-letters upperSide, few-letters lowerSide) in
       omega (arith, mul-le-mul-right (t .states) h, U .few-states)

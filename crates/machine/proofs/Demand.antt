@@ -21,7 +21,7 @@ use Rattle.machine.specs.Frames.{Frame, framesOf}
 use Rattle.machine.specs.Call.{Reply, Told, call}
 use Rattle.machine.specs.Tour.{Entry, after, tour, tourFrom, readings, treeSize}
 use Rattle.machine.specs.Transducer.{Passed, lettersToRead, machine}
-use Rattle.machine.specs.Stack.{framesIn, roomIn, store}
+use Rattle.machine.specs.Stack.{mostFrames, framesIn, roomIn, store}
 use Rattle.machine.specs.Answer.{refusedKind, told, outputTold}
 use Rattle.machine.specs.Asked.{Asked, runs, asked}
 use Rattle.machine.specs.Start.{firstRun}
@@ -52,14 +52,14 @@ none-left [] e = refl
 none-left (x ∷ es) e = absurd (omega arith)
 
 -- below 33,024 the room of a stack is its frames
-room-test : (d f : ℕ) → d ≤ 33024 → leb d (min f 33024) ≡ leb d f
+room-test : (d f : ℕ) → d ≤ mostFrames → leb d (min f mostFrames) ≡ leb d f
 room-test d f h = go (leb d f) refl
   where
-    go : (b : Bool) → leb d f ≡ b → leb d (min f 33024) ≡ b
-    go true e = let k : d ≤ f = leb-true _ _ e in le-leb d (min f 33024) (omega arith)
-    go false e = let k : f < d = leb-false _ _ e in lt-leb d (min f 33024) (omega arith)
+    go : (b : Bool) → leb d f ≡ b → leb d (min f mostFrames) ≡ b
+    go true e = let k : d ≤ f = leb-true _ _ e in le-leb d (min f mostFrames) (omega arith)
+    go false e = let k : f < d = leb-false _ _ e in lt-leb d (min f mostFrames) (omega arith)
 
-module _ (t : Table) (q : Query) (B : Bounded (machine t q)) (F : (lettersToRead q + 1) * t .states ≤ 33024) where
+module _ (t : Table) (q : Query) (B : Bounded (machine t q)) (F : (lettersToRead q + 1) * t .states ≤ mostFrames) where
   abbrev M : Machine
   M = machine t q
 
@@ -92,7 +92,7 @@ module _ (t : Table) (q : Query) (B : Bounded (machine t q)) (F : (lettersToRead
     abbrev o : Outcome
     o = outcomeAs (r .task) (x .buffer) T
 
-    shallow : r .depth ≤ 33024
+    shallow : r .depth ≤ mostFrames
     shallow = omega (arith, depth-law M B (r .started) (A .frames) (A .placed), A .as-deep)
 
     -- the used frames after the call

@@ -14,7 +14,7 @@ use Rattle.machine.specs.Query.{Query}
 use Rattle.machine.specs.Machine.{Bounded}
 use Rattle.machine.specs.Place.{Good}
 use Rattle.machine.specs.Transducer.{lettersToRead, machine}
-use Rattle.machine.specs.Stack.{framesIn, roomIn, store}
+use Rattle.machine.specs.Stack.{frameWidth, framesIn, roomIn, store}
 use Rattle.machine.specs.Asked.{Asked, turned, runs, asked}
 use Rattle.machine.specs.Reading.{Outcome, outcomeOf, outcome, CallBy, no-place, goes-on}
 use Rattle.machine.specs.Demand.{Lent, AmpleCalls, none, ample, usedOf, callOn, runAfter, usedAfter, Handed}
@@ -47,31 +47,31 @@ stack-law cells upper lower run stack n buffer = go (asked cells (run .task) upp
 -- a stack as lentFor makes it
 module _ (used : List ℕ) (f : ℕ) where
   abbrev filled : List ℕ
-  filled = take (f * 4) (used ++ replicate (f * 4) 7)
+  filled = take (f * frameWidth) (used ++ replicate (f * frameWidth) 7)
 
-  filled-length : length filled ≡ f * 4
-  filled-length = length-take-le (f * 4) (used ++ replicate (f * 4) 7) (omega (arith, length-append used (replicate (f * 4) 7), length-replicate {A = ℕ} (f * 4) 7))
+  filled-length : length filled ≡ f * frameWidth
+  filled-length = length-take-le (f * frameWidth) (used ++ replicate (f * frameWidth) 7) (omega (arith, length-append used (replicate (f * frameWidth) 7), length-replicate {A = ℕ} (f * frameWidth) 7))
 
-  filled-used : (d : ℕ) → length used ≡ d * 4 → d ≤ framesIn filled → usedOf d filled ≡ used
+  filled-used : (d : ℕ) → length used ≡ d * frameWidth → d ≤ framesIn filled → usedOf d filled ≡ used
   filled-used d e h =
       let k : d ≤ f = omega (arith, filled-length) in
-      take-take (d * 4) (f * 4) (used ++ replicate (f * 4) 7) (omega arith) ∙ take-at used (replicate (f * 4) 7) (d * 4) e
+      take-take (d * frameWidth) (f * frameWidth) (used ++ replicate (f * frameWidth) 7) (omega arith) ∙ take-at used (replicate (f * frameWidth) 7) (d * frameWidth) e
 
 module _ (cells upper lower : List ℕ) where
-  used-length : (r : Run) (used : List ℕ) (x : Lent) → length used ≡ r .depth * 4 → length (usedAfter upper lower r used x) ≡ runAfter upper lower r x .depth * 4
+  used-length : (r : Run) (used : List ℕ) (x : Lent) → length used ≡ r .depth * frameWidth → length (usedAfter upper lower r used x) ≡ runAfter upper lower r x .depth * frameWidth
   used-length r used x e = go (leb (r .depth) (framesIn (x .stack))) refl
     where
       L : StackLaw r (x .stack) (callOn upper lower r x)
       L = stack-law (x .table) upper lower r (x .stack) (x .allowance) (x .buffer)
 
-      go : (b : Bool) → leb (r .depth) (framesIn (x .stack)) ≡ b → length (cond b (usedOf (runAfter upper lower r x .depth) (callOn upper lower r x .stack)) used) ≡ runAfter upper lower r x .depth * 4
+      go : (b : Bool) → leb (r .depth) (framesIn (x .stack)) ≡ b → length (cond b (usedOf (runAfter upper lower r x .depth) (callOn upper lower r x .stack)) used) ≡ runAfter upper lower r x .depth * frameWidth
       go true z =
           let k : runAfter upper lower r x .depth ≤ framesIn (callOn upper lower r x .stack) = L .long (leb-true _ _ z) in
-          length-take-le (runAfter upper lower r x .depth * 4) (callOn upper lower r x .stack) (omega arith)
-      go false z = e ∙ ap (λ (d : ℕ). d * 4) (sym (L .short (leb-false _ _ z)))
+          length-take-le (runAfter upper lower r x .depth * frameWidth) (callOn upper lower r x .stack) (omega arith)
+      go false z = e ∙ ap (λ (d : ℕ). d * frameWidth) (sym (L .short (leb-false _ _ z)))
 
   -- from any run whose used frames are used
-  pub handed-there : (asks : List Ask) (r : Run) (used : List ℕ) → length used ≡ r .depth * 4 → Handed upper lower cells r used (lentAll cells upper lower r used asks)
+  pub handed-there : (asks : List Ask) (r : Run) (used : List ℕ) → length used ≡ r .depth * frameWidth → Handed upper lower cells r used (lentAll cells upper lower r used asks)
   handed-there [] r used e = tt
   handed-there (a ∷ asks) r used e =
       let x = lentFor cells a used in

@@ -29,7 +29,7 @@ use Rattle.machine.specs.Call.{Told, Steps, Stops}
 use Rattle.machine.specs.Order.{accepting, outputs, ListsAllowed, Lists}
 use Rattle.machine.specs.Transducer.{arcAt, Passed, lettersToRead, writtenBy, machine}
 use Rattle.machine.specs.Idle.{IdleWalk, NoIdleCycle, CycleStates, hasIdleCycle}
-use Rattle.machine.specs.Stack.{framesIn}
+use Rattle.machine.specs.Stack.{mostFrames, framesIn}
 use Rattle.machine.specs.Answer.{foundKind, refusedKind}
 use Rattle.machine.specs.Asked.{Asked, runs, asked}
 use Rattle.machine.specs.Start.{firstRun, started, startToldBy, StartIs}
@@ -190,7 +190,7 @@ module _ (cells : List ℕ) (task : ℕ) (upper lower : List ℕ) where
   -- buffer.
 
   -- from the bound alone
-  pub demand-three-bounded : (t : Table) (q : Query) → Bounded (machine t q) → (lettersToRead q + 1) * t .states ≤ 33024 → asked cells task upper lower ≡ runs t q
+  pub demand-three-bounded : (t : Table) (q : Query) → Bounded (machine t q) → (lettersToRead q + 1) * t .states ≤ mostFrames → asked cells task upper lower ≡ runs t q
       → (xs : List Lent) → Handed upper lower cells (firstRun task) [] xs → Demand3 upper lower t q (firstRun task) xs
   demand-three-bounded t q B F = demand.demand-3 t q B F cells upper lower task
 

@@ -14,7 +14,7 @@ use Rattle.machine.specs.Query.{Query}
 use Rattle.machine.specs.Frames.{Frame, framesOf}
 use Rattle.machine.specs.Step.{triedOf}
 use Rattle.machine.specs.Transducer.{Passed, machine}
-use Rattle.machine.specs.Stack.{roomIn, lookAt, putAt, store}
+use Rattle.machine.specs.Stack.{frameWidth, roomIn, lookAt, putAt, store}
 use Rattle.machine.proofs.Frames.{SameIs, StoreLaws}
 
 frame-ext : (f g : Frame Passed) → f .state ≡ g .state → f .next ≡ g .next → f .datum .up ≡ g .datum .up → f .datum .low ≡ g .datum .low → f ≡ g
@@ -59,20 +59,20 @@ store-laws = record { room-put = λ c i f. rw (length-set, length-set, length-se
   where
     same : (c : List ℕ) (i : ℕ) (f : Frame Passed) → i < roomIn c → lookAt (putAt c i f) i ≡ f
     same c i f h =
-        let k : i * 4 + 3 < length c = omega arith in
-        frame-ext (lookAt (putAt c i f) i) f (four-0 c (i * 4) (f .state) (f .next) (f .datum .up) (f .datum .low) k) (four-1 c (i * 4) (f .state) (f .next) (f .datum .up) (f .datum .low) k)
-        (four-2 c (i * 4) (f .state) (f .next) (f .datum .up) (f .datum .low) k) (four-3 c (i * 4) (f .state) (f .next) (f .datum .up) (f .datum .low) k)
+        let k : i * frameWidth + 3 < length c = omega arith in
+        frame-ext (lookAt (putAt c i f) i) f (four-0 c (i * frameWidth) (f .state) (f .next) (f .datum .up) (f .datum .low) k) (four-1 c (i * frameWidth) (f .state) (f .next) (f .datum .up) (f .datum .low) k)
+        (four-2 c (i * frameWidth) (f .state) (f .next) (f .datum .up) (f .datum .low) k) (four-3 c (i * frameWidth) (f .state) (f .next) (f .datum .up) (f .datum .low) k)
 
     other : (c : List ℕ) (i j : ℕ) (f : Frame Passed) → (i ≡ j → ⊥) → lookAt (putAt c i f) j ≡ lookAt c j
-    other c i j f d = frame-ext (lookAt (putAt c i f) j) (lookAt c j) (at (j * 4) 0 (omega arith) (omega arith)) (at (j * 4 + 1) 1 (omega arith) (omega arith)) (at (j * 4 + 2) 2 (omega arith) (omega arith)) (at (j * 4 + 3) 3 (omega arith) (omega arith))
+    other c i j f d = frame-ext (lookAt (putAt c i f) j) (lookAt c j) (at (j * frameWidth) 0 (omega arith) (omega arith)) (at (j * frameWidth + 1) 1 (omega arith) (omega arith)) (at (j * frameWidth + 2) 2 (omega arith) (omega arith)) (at (j * frameWidth + 3) 3 (omega arith) (omega arith))
       where
-        at : (k m : ℕ) → k ≡ j * 4 + m → m < 4 → getD (putAt c i f) k 0 ≡ getD c k 0
-        at k m e h = four-other c (i * 4) (f .state) (f .next) (f .datum .up) (f .datum .low) k (λ x. d (omega arith)) (λ x. d (omega arith)) (λ x. d (omega arith)) (λ x. d (omega arith))
+        at : (k m : ℕ) → k ≡ j * frameWidth + m → m < frameWidth → getD (putAt c i f) k 0 ≡ getD c k 0
+        at k m e h = four-other c (i * frameWidth) (f .state) (f .next) (f .datum .up) (f .datum .low) k (λ x. d (omega arith)) (λ x. d (omega arith)) (λ x. d (omega arith)) (λ x. d (omega arith))
 
 -- to count an arc as tried sets one cell
-pub put-tried : (c : List ℕ) (i : ℕ) → putAt c i (triedOf (lookAt c i)) ≡ set c (i * 4 + 1) (suc (getD c (i * 4 + 1) 0))
+pub put-tried : (c : List ℕ) (i : ℕ) → putAt c i (triedOf (lookAt c i)) ≡ set c (i * frameWidth + 1) (suc (getD c (i * frameWidth + 1) 0))
 put-tried c i =
-    let k = i * 4 in
+    let k = i * frameWidth in
     let d : List ℕ = set c (k + 1) (suc (getD c (k + 1) 0)) in
     ap (λ (l : List ℕ). set (set (set l (k + 1) (suc (getD c (k + 1) 0))) (k + 2) (getD c (k + 2) 0)) (k + 3) (getD c (k + 3) 0)) (set-getD c k 0)
     ∙ ap (λ (v : ℕ). set (set d (k + 2) v) (k + 3) (getD c (k + 3) 0)) (sym (getD-set-other c (k + 1) (k + 2) (suc (getD c (k + 1) 0)) 0 (λ e. omega arith)))
@@ -81,14 +81,14 @@ put-tried c i =
     ∙ set-getD d (k + 3) 0
 
 -- the used frames are told by the first four cells for each
-pub frames-take : (a b : List ℕ) (d n : ℕ) → d ≤ n → take (n * 4) a ≡ take (n * 4) b → framesOf store a d ≡ framesOf store b d
+pub frames-take : (a b : List ℕ) (d n : ℕ) → d ≤ n → take (n * frameWidth) a ≡ take (n * frameWidth) b → framesOf store a d ≡ framesOf store b d
 frames-take a b zero n h e = refl
 frames-take a b (suc d) n h e =
-    ap₂ (λ (f : Frame Passed) (fs : List (Frame Passed)). f ∷ fs) (frame-ext (lookAt a d) (lookAt b d) (at (d * 4) (omega arith)) (at (d * 4 + 1) (omega arith)) (at (d * 4 + 2) (omega arith)) (at (d * 4 + 3) (omega arith)))
+    ap₂ (λ (f : Frame Passed) (fs : List (Frame Passed)). f ∷ fs) (frame-ext (lookAt a d) (lookAt b d) (at (d * frameWidth) (omega arith)) (at (d * frameWidth + 1) (omega arith)) (at (d * frameWidth + 2) (omega arith)) (at (d * frameWidth + 3) (omega arith)))
     (frames-take a b d n (omega arith) e)
   where
-    at : (i : ℕ) → i < n * 4 → getD a i 0 ≡ getD b i 0
-    at i k = sym (getD-take (n * 4) a i 0 k) ∙ ap (λ (l : List ℕ). getD l i 0) e ∙ getD-take (n * 4) b i 0 k
+    at : (i : ℕ) → i < n * frameWidth → getD a i 0 ≡ getD b i 0
+    at i k = sym (getD-take (n * frameWidth) a i 0 k) ∙ ap (λ (l : List ℕ). getD l i 0) e ∙ getD-take (n * frameWidth) b i 0 k
 
 pub same-is : (t : Table) (q : Query) → SameIs (machine t q)
 same-is t q = record { same-eq = eq; same-refl = λ d. and-both (eq-eqb (d .up) (d .up) refl) (eq-eqb (d .low) (d .low) refl) }

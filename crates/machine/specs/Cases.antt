@@ -14,6 +14,7 @@ use Rattle.machine.specs.declared.Started.{Started}
 use Rattle.machine.specs.Query.{sameWord}
 use Rattle.machine.specs.Tour.{treeSize}
 use Rattle.machine.specs.Transducer.{machine}
+use Rattle.machine.specs.Stack.{frameWidth}
 use Rattle.machine.specs.Answer.{doneKind, foundKind, pausedKind, endedKind, refusedKind}
 use Rattle.machine.specs.Asked.{Asked, turned, runs, asked}
 use Rattle.machine.specs.Start.{started, startToldBy}
@@ -58,7 +59,7 @@ spelledBy o = toldBy o .kind ∷ toldBy o .number ∷ toldBy o .steps ∷ take (
 
 -- a stack that holds the used frames, as far as they go in, and 7 in its other cells; a buffer of 9s
 abbrev pub lentFor : List ℕ → Ask → List ℕ → Lent
-lentFor cells a used = record { table = cells; stack = take (a .frames * 4) (used ++ replicate (a .frames * 4) 7); allowance = a .allowance; buffer = replicate (a .letters) 9 }
+lentFor cells a used = record { table = cells; stack = take (a .frames * frameWidth) (used ++ replicate (a .frames * frameWidth) 7); allowance = a .allowance; buffer = replicate (a .letters) 9 }
 
 -- what is lent to calls, one after another, each with the used frames as demand 3 hands them on (`handed-there`)
 abbrev pub lentAll : List ℕ → List ℕ → List ℕ → Run → List ℕ → List Ask → List Lent

@@ -14,7 +14,7 @@ use Rattle.machine.specs.Query.{Query}
 use Rattle.machine.specs.Tour.{tour, readings, treeSize}
 use Rattle.machine.specs.Machine.{Path, accepts, output, Allowed}
 use Rattle.machine.specs.Transducer.{lettersToRead, machine}
-use Rattle.machine.specs.Stack.{framesIn}
+use Rattle.machine.specs.Stack.{frameWidth, framesIn}
 use Rattle.machine.specs.Answer.{endedKind, refusedKind, outputTold}
 use Rattle.machine.specs.Reading.{Outcome, toldBy, outcome, CallBy}
 
@@ -27,7 +27,7 @@ pub record Lent : Type 0 where
 
 -- "The used frames are the first depth cells of a stack": the cells of the first d frames
 abbrev pub usedOf : ℕ → List ℕ → List ℕ
-usedOf d stack = take (d * 4) stack
+usedOf d stack = take (d * frameWidth) stack
 
 module _ (t : Table) (q : Query) where
   -- one call's outcome o, where n steps were told before

@@ -10,7 +10,7 @@ use Rattle.machine.specs.Query.{Query}
 use Rattle.machine.specs.Machine.{Machine, final, datum, Allowed}
 use Rattle.machine.specs.Frames.{Frame, Store, Held, framesOf, walkTo, viewOf}
 use Rattle.machine.specs.Transducer.{machine}
-use Rattle.machine.specs.Stack.{framesIn, store}
+use Rattle.machine.specs.Stack.{mostFrames, framesIn, store}
 
 module _ (M : Machine) where
   -- what stands below a frame: nothing, and an initial state is started (no "depth above 0 with no start"); or a frame that has tried an arc
@@ -45,6 +45,6 @@ module _ (M : Machine) where
 pub record InSearch (t : Table) (q : Query) (run : Run) (stack : List ℕ) : Type 0 where
   -- no "depth over the stack or over 33,024"
   pub in-stack : run .depth ≤ framesIn stack
-  pub in-limit : run .depth ≤ 33024
+  pub in-limit : run .depth ≤ mostFrames
   -- all else, of the used frames: "the first depth cells of a stack"
   pub placed : Placed (machine t q) (run .started) (framesOf store stack (run .depth))

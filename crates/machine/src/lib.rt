@@ -1,4 +1,7 @@
-// The types of a search for readings, and the most frames of its stack. What they mean is in specs/.
+// The types of a search for readings, and the sizes of its stack. What they mean is in specs/.
+
+// The cells of a frame of a stack.
+pub const FRAME_WIDTH: usize = 4;
 
 // At most 33,024 frames of a stack are used.
 pub const MOST_FRAMES: u32 = 33024;

@@ -1,7 +1,9 @@
 use borrow.Author.Needs.{needs}
 use Prim.Native.Nat.{ℕ, _<_, _≤_}
+use native.Mathlib.Omega.{arith}
 use mathlib.Core.Path.{sym, ap, subst, _∙_}
 use denote.Ref.{now}
+use Rattle.machine.specs.Query.{upperSide, lowerSide}
 use Rattle.machine.specs.Stack.{lookAt}
 use Rattle.engine_frames.specs.Frames.{frameOf}
 use Rattle.engine_place.specs.Place.{linkBy}
@@ -26,14 +28,17 @@ returns c =
     let a = c .before .before .before .before .before .before .before .before .before .args in
     link-untried (a .setup) (now (a .first)) (now (a .arcs)) (now (a .upper)) (now (a .lower)) (a .g) (frameOf (lookAt (now (a .stack)) (a .i))) (subst (λ (x : ℕ). a .g .next ≤ x) (c .before .cell-as-count .ensures) (c .if1 .taken))
 
-cast-n : tie.Need-cast-n
-cast-n c = search needs
+cast-arc-at : tie.Need-cast-arc-at
+cast-arc-at c = search needs
 
-sub-n : tie.Need-sub-n
-sub-n c = search needs
+sub-arc-at : tie.Need-sub-arc-at
+sub-arc-at c = search needs
+
+arc-at-requires : tie.Need-arc-at-requires
+arc-at-requires c κs = omega (arith, c .if1 .left, c .before .before .before .before .before .before .before .before .before .pre .0 .next-most)
 
 follow-requires : tie.Need-follow-requires
-follow-requires c κs = search needs
+follow-requires c κs = (omega (arith, c .before .before .before .before .before .before .before .before .before .before .pre .0 .counts-small upperSide), omega (arith, c .before .before .before .before .before .before .before .before .before .before .pre .0 .counts-small lowerSide))
 
 enum-told : tie.Need-enum-told
 enum-told c = search needs
@@ -44,40 +49,28 @@ enum-known-up c = search needs
 look-requires : tie.Need-look-requires
 look-requires c κs = search needs
 
-mul-cell-as-count-2 : tie.Need-mul-cell-as-count-2
-mul-cell-as-count-2 c = search needs
-
-add-cell-as-count : tie.Need-add-cell-as-count
-add-cell-as-count c = search needs
-
-mul-cell-as-count-3 : tie.Need-mul-cell-as-count-3
-mul-cell-as-count-3 c = search needs
-
-shared-slice-read-cell-as-count-2 : tie.Need-shared-slice-read-cell-as-count-2
-shared-slice-read-cell-as-count-2 c = search needs
-
 cell-as-count-requires-2 : tie.Need-cell-as-count-requires-2
 cell-as-count-requires-2 c κs = search needs
 
 returns-2 : tie.Need-returns-2
 returns-2 c =
     let a = c .before .before .before .before .before .before .before .before .before .before .before .before .before .before .before .before .before .before .args in
-    link-elsewhere (a .setup) (now (a .first)) (now (a .arcs)) (now (a .upper)) (now (a .lower)) (a .g) (c .before .before .before .before .look .result) (λ e. c .if2 .taken (e ∙ sym (c .before .before .cell-as-count2 .ensures))) ∙ ap (linkBy (a .setup) (now (a .first)) (now (a .arcs)) (now (a .upper)) (now (a .lower)) (a .g)) (c .before .before .before .before .look .ensures)
+    link-elsewhere (a .setup) (now (a .first)) (now (a .arcs)) (now (a .upper)) (now (a .lower)) (a .g) (c .before .before .before .look .result) (c .before .before .before .before .before .before .before .before .arc-at .result) (c .before .before .before .before .before .before .before .before .arc-at .ensures) (λ e. c .if2 .taken (e ∙ sym (c .before .before .cell-as-count2 .ensures))) ∙ ap (linkBy (a .setup) (now (a .first)) (now (a .arcs)) (now (a .upper)) (now (a .lower)) (a .g)) (c .before .before .before .look .ensures)
 
 returns-3 : tie.Need-returns-3
 returns-3 c =
     let a = c .before .before .before .before .before .before .before .before .before .before .before .before .before .before .before .before .before .before .before .before .args in
-    link-up (a .setup) (now (a .first)) (now (a .arcs)) (now (a .upper)) (now (a .lower)) (a .g) (c .before .before .before .before .before .before .look .result) _ _ (sym (c .before .before .before .before .before .before .before .before .up .given .1) ∙ c .before .before .before .before .before .before .before .before .before .before .follow .ensures) (c .if3 .taken) ∙ ap (linkBy (a .setup) (now (a .first)) (now (a .arcs)) (now (a .upper)) (now (a .lower)) (a .g)) (c .before .before .before .before .before .before .look .ensures)
+    link-up (a .setup) (now (a .first)) (now (a .arcs)) (now (a .upper)) (now (a .lower)) (a .g) (c .before .before .before .before .before .look .result) (c .before .before .before .before .before .before .before .before .before .before .arc-at .result) (c .before .before .before .before .before .before .before .before .before .before .arc-at .ensures) _ _ (sym (c .before .before .before .before .before .before .before .up .given .1) ∙ c .before .before .before .before .before .before .before .before .before .follow .ensures) (c .if3 .taken) ∙ ap (linkBy (a .setup) (now (a .first)) (now (a .arcs)) (now (a .upper)) (now (a .lower)) (a .g)) (c .before .before .before .before .before .look .ensures)
 
 returns-4 : tie.Need-returns-4
 returns-4 c =
-    let a = c .before .before .before .before .before .before .before .before .before .before .before .before .args in
-    link-unfit (a .setup) (now (a .first)) (now (a .arcs)) (now (a .upper)) (now (a .lower)) (a .g) (frameOf (lookAt (now (a .stack)) (a .i))) (sym (c .enum-told .given .1) ∙ c .before .before .follow .ensures)
+    let a = c .before .before .before .before .before .before .before .before .before .before .before .before .before .args in
+    link-unfit (a .setup) (now (a .first)) (now (a .arcs)) (now (a .upper)) (now (a .lower)) (a .g) (frameOf (lookAt (now (a .stack)) (a .i))) (c .before .before .before .arc-at .result) (c .before .before .before .arc-at .ensures) (sym (c .enum-told .given .1) ∙ c .before .before .follow .ensures)
 
 returns-5 : tie.Need-returns-5
 returns-5 c =
     let a = c .before .before .before .before .before .before .before .before .before .before .before .before .before .before .before .before .before .before .before .before .before .args in
-    link-low (a .setup) (now (a .first)) (now (a .arcs)) (now (a .upper)) (now (a .lower)) (a .g) (c .before .before .before .before .before .before .before .look .result) _ _ (subst (λ (x : ℕ). x < a .g .next) (c .before .before .before .before .before .before .before .before .before .before .before .before .before .cell-as-count .ensures) (c .before .before .before .before .before .before .before .before .before .before .before .before .if1 .left)) (c .before .before .before .if2 .left ∙ c .before .before .before .before .before .cell-as-count2 .ensures) (sym (c .before .before .before .before .before .before .before .before .before .up .given .1) ∙ c .before .before .before .before .before .before .before .before .before .before .before .follow .ensures) (c .before .if3 .left) ∙ ap (linkBy (a .setup) (now (a .first)) (now (a .arcs)) (now (a .upper)) (now (a .lower)) (a .g)) (c .before .before .before .before .before .before .before .look .ensures)
+    link-low (a .setup) (now (a .first)) (now (a .arcs)) (now (a .upper)) (now (a .lower)) (a .g) (c .before .before .before .before .before .before .look .result) (c .before .before .before .before .before .before .before .before .before .before .before .arc-at .result) (c .before .before .before .before .before .before .before .before .before .before .before .arc-at .ensures) _ _ (subst (λ (x : ℕ). x < a .g .next) (c .before .before .before .before .before .before .before .before .before .before .before .before .before .cell-as-count .ensures) (c .before .before .before .before .before .before .before .before .before .before .before .before .if1 .left)) (c .before .before .before .if2 .left ∙ c .before .before .before .before .before .cell-as-count2 .ensures) (sym (c .before .before .before .before .before .before .before .before .up .given .1) ∙ c .before .before .before .before .before .before .before .before .before .before .follow .ensures) (c .before .if3 .left) ∙ ap (linkBy (a .setup) (now (a .first)) (now (a .arcs)) (now (a .upper)) (now (a .lower)) (a .g)) (c .before .before .before .before .before .before .look .ensures)
 
 pub link-holds-spec : {M : Type 1} → statement M
 link-holds-spec =
@@ -88,16 +81,13 @@ link-holds-spec =
     shared-slice-read-cell-as-count
     cell-as-count-requires
     returns
-    cast-n
-    sub-n
+    cast-arc-at
+    sub-arc-at
+    arc-at-requires
     follow-requires
     enum-told
     enum-known-up
     look-requires
-    mul-cell-as-count-2
-    add-cell-as-count
-    mul-cell-as-count-3
-    shared-slice-read-cell-as-count-2
     cell-as-count-requires-2
     returns-2
     returns-3

@@ -7,7 +7,7 @@ use denote.Ref.{now}
 use borrow.Author.Tests.{not-true, not-false}
 use Rattle.machine.specs.Reading.{heldOf}
 use Rattle.engine_step.specs.Setting.{queryBy, tableBy}
-use Rattle.engine_search.proofs.Looping.{Going, going-first, going-more, more, over-true, over-false, over-answer, paused-answer, found-answer, stopped-answer}
+use Rattle.engine_search.proofs.Looping.{Going, going-first, going-more, more, over-true, over-false, over-answer, paused-answer, found-answer, refused-answer}
 use Rattle.engine_search.proofs.take_steps.Statement.{statement}
 use Rattle.engine_search.proofs.take_steps.Tie as tie
 
@@ -73,7 +73,7 @@ same-length-6 : tie.Need-same-length-6 Inv-loop μ-loop
 same-length-6 c = omega (arith, c .before .before .before .before .before .before .before .before .step .kept, ap length (c .before .before .before .before .before .before .before .before .before .before .before .before .before .before .loop .inv .untouched))
 
 returns-3 : tie.Need-returns-3 Inv-loop μ-loop
-returns-3 c = let a = c .before .before .before .before .before .before .before .before .before .before .before .before .before .before .before .before .before .before .before .before .before .before .before .args in stopped-answer (tableBy (a .setup) (now (a .initials)) (now (a .terminals)) (now (a .arcs))) (queryBy (a .setup) (now (a .upper)) (now (a .lower))) (a .run .task) (now (a .output)) (a .allowance) (heldOf (a .run) (now (a .stack))) (now (a .stack)) (c .before .before .before .before .before .before .before .before .before .before .before .before .before .before .loop .stack) (c .before .before .before .before .before .before .before .before .before .before .before .before .before .before .loop .output) (c .before .before .before .before .before .before .before .before .before .before .before .before .before .before .loop .at) (c .before .before .before .before .before .before .before .before .before .before .before .before .before .before .loop .steps) (c .before .before .before .before .before .before .before .before .before .before .before .before .before .before .loop .inv) (over-false (c .before .before .before .before .before .before .before .before .before .before .before .before .before .before .loop .at .depth) (c .before .before .before .before .before .before .before .before .before .before .before .before .before .before .loop .at .started) (length (now (a .initials))) (sym (c .before .before .before .before .before .before .before .before .before .before .before .before .before .is-over .ensures) ∙ not-true _ (c .before .before .before .before .before .before .before .before .before .before .before .before .if1 .taken))) (c .before .before .before .before .before .before .before .before .before .before .before .if2 .left) _ _ _ (c .before .before .before .before .before .before .before .before .step .ensures) _ (c .before .before .cause .given .1) _ (c .refused .ensures)
+returns-3 c = let a = c .before .before .before .before .before .before .before .before .before .before .before .before .before .before .before .before .before .before .before .before .before .before .before .args in refused-answer (tableBy (a .setup) (now (a .initials)) (now (a .terminals)) (now (a .arcs))) (queryBy (a .setup) (now (a .upper)) (now (a .lower))) (a .run .task) (now (a .output)) (a .allowance) (heldOf (a .run) (now (a .stack))) (now (a .stack)) (c .before .before .before .before .before .before .before .before .before .before .before .before .before .before .loop .stack) (c .before .before .before .before .before .before .before .before .before .before .before .before .before .before .loop .output) (c .before .before .before .before .before .before .before .before .before .before .before .before .before .before .loop .at) (c .before .before .before .before .before .before .before .before .before .before .before .before .before .before .loop .steps) (c .before .before .before .before .before .before .before .before .before .before .before .before .before .before .loop .inv) (over-false (c .before .before .before .before .before .before .before .before .before .before .before .before .before .before .loop .at .depth) (c .before .before .before .before .before .before .before .before .before .before .before .before .before .before .loop .at .started) (length (now (a .initials))) (sym (c .before .before .before .before .before .before .before .before .before .before .before .before .before .is-over .ensures) ∙ not-true _ (c .before .before .before .before .before .before .before .before .before .before .before .before .if1 .taken))) (c .before .before .before .before .before .before .before .before .before .before .before .if2 .left) _ _ _ (c .before .before .before .before .before .before .before .before .step .ensures) _ (c .before .before .cause .given .1) _ (c .refused .ensures)
 
 add-steps : tie.Need-add-steps Inv-loop μ-loop
 add-steps c = let a = c .before .before .before .before .before .before .before .before .before .before .before .before .before .before .before .before .before .before .before .before .before .before .args in omega (arith, more (tableBy (a .setup) (now (a .initials)) (now (a .terminals)) (now (a .arcs))) (queryBy (a .setup) (now (a .upper)) (now (a .lower))) (a .run .task) (now (a .output)) (a .allowance) (heldOf (a .run) (now (a .stack))) (now (a .stack)) (c .before .before .before .before .before .before .before .before .before .before .before .before .before .loop .stack) (c .before .before .before .before .before .before .before .before .before .before .before .before .before .loop .output) (c .before .before .before .before .before .before .before .before .before .before .before .before .before .loop .at) (c .before .before .before .before .before .before .before .before .before .before .before .before .before .loop .steps) (c .before .before .before .before .before .before .before .before .before .before .before .before .before .loop .inv) (over-false (c .before .before .before .before .before .before .before .before .before .before .before .before .before .loop .at .depth) (c .before .before .before .before .before .before .before .before .before .before .before .before .before .loop .at .started) (length (now (a .initials))) (sym (c .before .before .before .before .before .before .before .before .before .before .before .before .is-over .ensures) ∙ not-true _ (c .before .before .before .before .before .before .before .before .before .before .before .if1 .taken))) (c .before .before .before .before .before .before .before .before .before .before .if2 .left) _ _ _ (c .before .before .before .before .before .before .before .step .ensures), c .before .before .before .before .before .before .before .before .before .before .before .before .before .before .before .before .before .before .before .before .before .before .fits)

@@ -5,6 +5,7 @@ use native.Mathlib.Omega.{arith}
 use mathlib.Core.List.{List}
 use denote.Ref.{now}
 use lib.ListN.{getD, set}
+use Rattle.machine.specs.Stack.{frameWidth}
 use Rattle.machine.proofs.Stack.{put-tried}
 use Rattle.engine_frames.proofs.cells.count_tried.Statement.{statement}
 use Rattle.engine_frames.proofs.cells.count_tried.Tie as tie
@@ -34,7 +35,7 @@ same-length : tie.Need-same-length
 same-length c = search needs
 
 returns : tie.Need-returns
-returns c = let l : List ℕ = now (c .before .args .stack) in let k : ℕ = c .before .args .i * 4 + 1 in ap (λ (v : ℕ). set l k v) (let e : getD l k 0 + 1 ≡ suc (getD l k 0) = omega arith in e) ∙ sym (put-tried l (c .before .args .i))
+returns c = let l : List ℕ = now (c .before .args .stack) in let k : ℕ = c .before .args .i * frameWidth + 1 in ap (λ (v : ℕ). set l k v) (let e : getD l k 0 + 1 ≡ suc (getD l k 0) = omega arith in e) ∙ sym (put-tried l (c .before .args .i))
 
 pub count-tried-spec : {M : Type 1} → statement M
 count-tried-spec =

@@ -1,9 +1,9 @@
 use borrow.Author.Needs.{needs}
 use denote.Ref.{now}
 use Rattle.machine.specs.Stack.{framesIn}
-use Rattle.engine_step.proofs.Pushes.{no-room, some-room}
-use Rattle.engine_step.proofs.has_room.Statement.{statement}
-use Rattle.engine_step.proofs.has_room.Tie as tie
+use Rattle.engine_push.proofs.Pushes.{no-room, some-room}
+use Rattle.engine_push.proofs.has_room.Statement.{statement}
+use Rattle.engine_push.proofs.has_room.Tie as tie
 
 returns : tie.Need-returns
 returns c = no-room (c .before .before .args .depth) (framesIn (now (c .before .before .args .stack))) (c .if1 .taken)
