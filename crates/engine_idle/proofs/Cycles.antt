@@ -14,8 +14,17 @@ use Rattle.graph.specs.Walk.{Through, Walk}
 use Rattle.graph.proofs.Walk.{walk-below}
 use Rattle.machine.proofs.Transducer.{mem-at}
 use Rattle.engine_idle.specs.declared.Cycle.{Cycle}
-use Rattle.engine_idle.specs.Graph.{Graph, cycleCells, FirstAlive, IdleEdge, Cyclic, Stable, Next, CycleOrNone, FoundCycle}
-use Rattle.engine_idle.proofs.Rounds.{among}
+use Rattle.engine_leaves.specs.Graph.{Graph, IdleEdge, Cyclic, Stable, Next}
+use Rattle.engine_leaves.proofs.Rounds.{among}
+use Rattle.engine_idle.specs.Found.{cycleCells, FirstAlive, CycleOrNone, FoundCycle}
+
+-- none so far is alive
+pub none-more : (alive : List ℕ) (s : ℕ) → ((i : ℕ) → i < s → getD alive i 0 ≡ 1 → ⊥) → (getD alive s 0 ≡ 1 → ⊥) → (i : ℕ) → i < s + 1 → getD alive i 0 ≡ 1 → ⊥
+none-more alive s f g i h e = go (eqb i s) refl
+  where
+    go : (b : Bool) → eqb i s ≡ b → ⊥
+    go true w = g (subst (λ (x : ℕ). getD alive x 0 ≡ 1) (eqb-true i s w) e)
+    go false w = let d : i ≡ s → ⊥ = eqb-false i s w in f i (omega arith) e
 
 -- Cells that are 0.
 

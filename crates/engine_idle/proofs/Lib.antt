@@ -1,4 +1,3 @@
--- Laws of the rounds, of the walk, and of the graph of a table's idle arcs.
-pub mod Rounds
+-- Laws of the walk, and of the graph of a table's idle arcs.
 pub mod Cycles
 pub mod TableGraph

@@ -1,2 +1,2 @@
 -- What the search for an idle cycle says.
-pub mod Graph
+pub mod Found

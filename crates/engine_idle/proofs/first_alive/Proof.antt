@@ -5,7 +5,7 @@ use mathlib.Core.Path.{_≡_}
 use denote.Ref.{now}
 use lib.ListN.{length, getD}
 use borrow.Author.Needs.{needs}
-use Rattle.engine_idle.proofs.Rounds.{none-more}
+use Rattle.engine_idle.proofs.Cycles.{none-more}
 use Rattle.engine_idle.proofs.first_alive.Statement.{statement}
 use Rattle.engine_idle.proofs.first_alive.Tie as tie
 

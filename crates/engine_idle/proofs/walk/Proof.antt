@@ -6,7 +6,7 @@ use denote.Ref.{now}
 use lib.ListN.{getD, set, getD-replicate}
 use borrow.Author.Needs.{needs}
 use Rattle.engine_idle.proofs.Cycles.{Walked, walk-begins, walk-room, next-lives, walk-next, walk-part, walk-found}
-use Rattle.engine_idle.specs.Graph.{Next}
+use Rattle.engine_leaves.specs.Graph.{Next}
 use Rattle.engine_idle.proofs.walk.Statement.{statement}
 use Rattle.engine_idle.proofs.walk.Tie as tie
 

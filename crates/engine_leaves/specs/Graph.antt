@@ -1,16 +1,15 @@
--- What the search for an idle cycle says, on the cells of a table's arcs; upper and lower tell whether a side is read.
-use Prim.Native.Nat.{ℕ, _+_, _-_, _<_, _≤_}
+-- What leaf removal says, on the cells of a table's arcs; upper and lower tell whether a side is read.
+use Prim.Native.Nat.{ℕ, _+_, _<_, _≤_}
 use mathlib.Core.Path.{_≡_}
 use mathlib.Core.Bool.{Bool, true, false, _&&_}
-use mathlib.Core.List.{List, [], _∷_, _++_}
+use mathlib.Core.List.{List, [], _∷_}
 use lib.Dec.{eqb}
-use lib.ListN.{length, getD, replicate}
+use lib.ListN.{length, getD}
 use Rattle.table_format.specs.declared.Arc as held
 use Rattle.table_format.specs.Table.{Arc}
 use Rattle.table_format.specs.Cells.{arcCount, arcOf, arcsAs}
-use Rattle.graph.specs.Walk.{Walk, NoCycle, CycleStates}
+use Rattle.graph.specs.Walk.{Walk}
 use Rattle.machine.specs.Idle.{sideIdle, Leads}
-use Rattle.engine_idle.specs.declared.Cycle.{Cycle}
 
 -- the arcs lead among the states, and those of state q are numbered from the index at q up to the index at q + 1
 pub record Graph (arcs first : List ℕ) (states : ℕ) : Type 0 where
@@ -25,15 +24,6 @@ pub record Graph (arcs first : List ℕ) (states : ℕ) : Type 0 where
 unfoldable pub total : List ℕ → ℕ
 total [] = 0
 total (x ∷ xs) = x + total xs
-
--- some states, in 256 cells
-abbrev pub cycleCells : List ℕ → Cycle
-cycleCells l = record { states = l ++ replicate (256 - length l) 0; length = length l }
-
--- the first state that is alive, or the count of states where none is
-pub record FirstAlive (alive : List ℕ) (r : ℕ) : Type 0 where
-  pub lives : r < length alive → getD alive r 0 ≡ 1
-  pub none-lives : length alive ≤ r → (s : ℕ) → s < length alive → getD alive s 0 ≡ 1 → ⊥
 
 -- an arc is idle
 abbrev pub idleBy : Bool → Bool → Arc → Bool
@@ -76,14 +66,3 @@ module _ (arcs : List ℕ) (upper lower : Bool) where
     pub same-length : length after ≡ length before
     pub keeps : Cyclic before → Cyclic after
     pub stable : Stable after
-
-  -- the states of a cycle, none twice, in walking order; none where there is no cycle
-  abbrev pub CycleOrNone : List ℕ → Type 0
-  CycleOrNone [] = NoCycle IdleEdge
-  CycleOrNone (s ∷ l) = CycleStates IdleEdge (s ∷ l)
-
-  -- what the search finds
-  pub record FoundCycle (c : Cycle) : Type 0 where
-    pub cycle : List ℕ
-    pub cells : c ≡ cycleCells cycle
-    pub is : CycleOrNone cycle

@@ -18,7 +18,7 @@ use Rattle.graph.proofs.Walk.{rotated}
 use Rattle.machine.specs.Transducer.{noArc}
 use Rattle.machine.specs.Idle.{sideIdle}
 use Rattle.machine.proofs.Transducer.{at-mem, mem-at}
-use Rattle.engine_idle.specs.Graph.{Graph, total, idleBy, leadsAlive, IdleEdge, Cyclic, Stable, Next, Peeled, Settled}
+use Rattle.engine_leaves.specs.Graph.{Graph, total, idleBy, leadsAlive, IdleEdge, Cyclic, Stable, Next, Peeled, Settled}
 
 -- a letter on a side that is read
 pub letter-read : (read : Bool) (x : ℕ) → read ≡ true → eqb x 0 ≡ sideIdle read x
@@ -48,14 +48,6 @@ unfolding total
 total-set [] i h e = absurd (omega arith)
 total-set (x ∷ xs) zero h e = omega arith
 total-set (x ∷ xs) (suc i) h e = let r : total (set xs i 0) < total xs = total-set xs i (omega arith) e in omega arith
-
--- none so far
-pub none-more : (alive : List ℕ) (s : ℕ) → ((i : ℕ) → i < s → getD alive i 0 ≡ 1 → ⊥) → (getD alive s 0 ≡ 1 → ⊥) → (i : ℕ) → i < s + 1 → getD alive i 0 ≡ 1 → ⊥
-none-more alive s f g i h e = go (eqb i s) refl
-  where
-    go : (b : Bool) → eqb i s ≡ b → ⊥
-    go true w = g (subst (λ (x : ℕ). getD alive x 0 ≡ 1) (eqb-true i s w) e)
-    go false w = let d : i ≡ s → ⊥ = eqb-false i s w in f i (omega arith) e
 
 -- a test that fails from one place up to another
 pub fails-more : (f : ℕ → Bool) (from n : ℕ) → ((i : ℕ) → from ≤ i → i < n → f i ≡ false) → f n ≡ false → (i : ℕ) → from ≤ i → i < n + 1 → f i ≡ false

@@ -5,10 +5,10 @@ use denote.Ref.{now}
 use lib.Dec.{eqb}
 use lib.ListN.{getD}
 use Rattle.machine.specs.Idle.{sideIdle}
-use Rattle.engine_idle.proofs.Rounds.{both-then, first-fails, second-fails}
+use Rattle.engine_leaves.proofs.Rounds.{both-then, first-fails, second-fails}
 use borrow.Author.Needs.{needs}
-use Rattle.engine_idle.proofs.leads.Statement.{statement}
-use Rattle.engine_idle.proofs.leads.Tie as tie
+use Rattle.engine_leaves.proofs.leads.Statement.{statement}
+use Rattle.engine_leaves.proofs.leads.Tie as tie
 
 side-idle-requires : tie.Need-side-idle-requires
 side-idle-requires c κs = search needs

@@ -1,0 +1,2 @@
+-- Laws of the rounds.
+pub mod Rounds

@@ -1,0 +1,2 @@
+-- What leaf removal says.
+pub mod Graph
