@@ -4,7 +4,7 @@ use native.Mathlib.Nat.{zero-add}
 use native.Mathlib.Omega.{arith}
 use mathlib.Core.Path.{_≡_, refl, sym, ap, subst, _∙_}
 use mathlib.Core.Logic.{_↔_}
-use mathlib.Core.Bool.{true, false}
+use mathlib.Core.Bool.{Bool, true, false}
 use mathlib.Core.Option.{some}
 use mathlib.Core.List.{List, [], _∷_, List·Memᴰ}
 use lib.ListN.{length, take, drop, replicate}
@@ -16,6 +16,7 @@ use Rattle.table_format.specs.Parse.{accepted, parsed}
 use Rattle.refusal.specs.declared.Refusal.the-variants.{State}
 use Rattle.refusal.specs.declared.StateCause.the-variants.{Place}
 use Rattle.table_format.proofs.Ruled.{Ruled, ruled}
+use Rattle.graph.specs.Lists.{keep}
 use Rattle.machine.specs.declared.Run.{Run}
 use Rattle.machine.specs.declared.Answer.the-variants.{Found, Refused}
 use Rattle.machine.specs.declared.StartAnswer.the-variants.{Ready}
@@ -26,7 +27,8 @@ use Rattle.machine.specs.Tour.{pathsIn, trail, after, tour, readings, al
 use Rattle.machine.specs.Place.{InSearch}
 use Rattle.machine.specs.Frames.{Frame, Store, Held}
 use Rattle.machine.specs.Call.{Told, Steps, Stops}
-use Rattle.machine.specs.Order.{accepting, outputs, ListsAllowed, Lists}
+use Rattle.machine.specs.Order.{accepting, outputs, ListsAllowed, Lists, Narrows}
+use Rattle.machine.specs.Denotation.{initialsTell}
 use Rattle.machine.specs.Transducer.{arcAt, Passed, lettersToRead, writtenBy, machine}
 use Rattle.machine.specs.Idle.{IdleWalk, NoIdleCycle, CycleStates, hasIdleCycle}
 use Rattle.machine.specs.Stack.{mostFrames, framesIn}
@@ -40,6 +42,8 @@ use Rattle.machine.specs.Agree.{inputOf, outputOf, TraceFor, Same}
 use Rattle.machine.specs.Cases.{Ask, lentAll, AsksAmple, tableK, textK, ask, rows, rowsHold}
 use Rattle.machine.proofs.Tour as tours
 use Rattle.machine.proofs.Order as order
+use Rattle.machine.proofs.Narrow as narrow
+use Rattle.machine.proofs.Denotation as denotation
 use Rattle.machine.proofs.Transducer as transducer
 use Rattle.machine.proofs.Idle as idles
 use Rattle.machine.proofs.Bound as bounds
@@ -68,6 +72,10 @@ tree = tours.tree-law
 pub readings-are : (M : Machine) → readings M (tour M) ≡ outputs M (accepting M (pathsIn (tour M)))
 readings-are M = order.readings-outputs M (tour M)
 
+-- They are also told by recursion on states and data, without paths.
+pub tour-tells : (M : Machine) → readings M (tour M) ≡ initialsTell M (M .initials)
+tour-tells = denotation.tour-tells
+
 -- Where the limit is above the arcs of every path that the words allow; nothing but this bound is used.
 module _ (M : Machine) (B : Bounded M) where
   -- What follows a path is as document 01 says; the fuel of its definition plays no part.
@@ -85,6 +93,10 @@ module _ (M : Machine) (B : Bounded M) where
 
   pub no-other : (ps : List Path) → Lists M ps → ps ≡ accepting M (pathsIn (tour M))
   no-other ps P = order.lists-same M ps (accepting M (pathsIn (tour M))) P listed
+
+-- A machine that narrows another lists the other's accepting paths that pass the test, in the same order.
+pub narrowed : (M N : Machine) (test : Path → Bool) → Narrows M N test → Bounded M → Bounded N → accepting M (pathsIn (tour M)) ≡ keep test (accepting N (pathsIn (tour N)))
+narrowed = narrow.narrowed
 
 -- REPORT 6486: the relation of an arc with two letters is the composition of those of each letter, as for a morphism.
 

@@ -4,6 +4,7 @@ pub mod Tour
 pub mod Step
 pub mod Held
 pub mod Order
+pub mod Narrow
 pub mod Turn
 pub mod Stops
 pub mod Call
@@ -21,6 +22,7 @@ pub mod Live
 pub mod Handed
 pub mod Full
 pub mod Traces
+pub mod Denotation
 pub mod Agree
 pub mod Noether
 pub mod Finite

@@ -18,13 +18,13 @@ use Rattle.machine.specs.Agree.{place, arcsBack}
 use Rattle.machine.specs.Report.{Rel, identity, _∘_, _⊗_, upperAlone, lowerAlone, Cell, Edge, Trace, null, thence, arcsOf, Word, reading, writing, α, kernel}
 use Rattle.machine.proofs.Transducer.{arc-of, at-mem, mem-at, onward-parts, follow-parts, somewhen-parts, getD-lt}
 
-drop-head : (w : Word) (n x : ℕ) (v : Word) → drop n w ≡ x ∷ v → getD w n 0 ≡ x
+pub drop-head : (w : Word) (n x : ℕ) (v : Word) → drop n w ≡ x ∷ v → getD w n 0 ≡ x
 drop-head [] zero x v e = absurd (nil≢cons e)
 drop-head [] (suc n) x v e = absurd (nil≢cons e)
 drop-head (y ∷ w) zero x v e = cc
 drop-head (y ∷ w) (suc n) x v e = drop-head w n x v e
 
-drop-tail : (w : Word) (n x : ℕ) (v : Word) → drop n w ≡ x ∷ v → drop (suc n) w ≡ v
+pub drop-tail : (w : Word) (n x : ℕ) (v : Word) → drop n w ≡ x ∷ v → drop (suc n) w ≡ v
 drop-tail [] zero x v e = absurd (nil≢cons e)
 drop-tail [] (suc n) x v e = absurd (nil≢cons e)
 drop-tail (y ∷ w) zero x v e = cc

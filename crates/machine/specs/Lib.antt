@@ -3,6 +3,7 @@ pub mod Query
 pub mod Machine
 pub mod Tour
 pub mod Order
+pub mod Denotation
 pub mod Frames
 pub mod Place
 pub mod Step

@@ -4,7 +4,7 @@
 use Prim.Native.Nat.{ℕ}
 use mathlib.Core.Path.{_≡_}
 use mathlib.Core.Logic.{_↔_}
-use mathlib.Core.Bool.{true}
+use mathlib.Core.Bool.{Bool, true}
 use mathlib.Core.List.{List, [], _∷_, List·Memᴰ}
 use Rattle.graph.specs.Lists.{keep, Before}
 use Rattle.machine.specs.Machine.{Machine, Path, numbers, accepts, output, Allowed}
@@ -32,3 +32,7 @@ pub record ListsAllowed (M : Machine) (ps : List Path) : Type 0 where
 pub record Lists (M : Machine) (ps : List Path) : Type 0 where
   pub rising : Rising ps
   pub members : (p : Path) → List·Memᴰ p ps ↔ (Allowed M p × (accepts M p ≡ true))
+
+-- M narrows N: its accepting paths are those of N that pass a test
+abbrev pub Narrows : Machine → Machine → (Path → Bool) → Type 0
+Narrows M N test = (p : Path) → (Allowed M p × (accepts M p ≡ true)) ↔ ((Allowed N p × (accepts N p ≡ true)) × (test p ≡ true))
