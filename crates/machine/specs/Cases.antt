@@ -31,10 +31,10 @@ pub record Ask : Type 0 where
 
 -- what is told: Found with its steps and its output, Paused and Ended with their steps, Refused with its steps and number
 pub data Says : Type 0 where
-  finds : ℕ → List ℕ → Says
-  pauses : ℕ → Says
-  ends : ℕ → Says
-  refuses : ℕ → ℕ → Says
+  saysFound : ℕ → List ℕ → Says
+  saysPaused : ℕ → Says
+  saysEnded : ℕ → Says
+  saysRefused : ℕ → ℕ → Says
 
 -- a start that is refused with a number; or one that is not, calls after it with what they tell, and the tree's size; or one call, with what it
 -- tells, on a run of any starts and depth
@@ -88,10 +88,10 @@ treeOf (runs t q) = treeSize (machine t q)
 
 -- what a row says, as the same word
 abbrev pub spelled : Says → List ℕ
-spelled (finds n o) = foundKind ∷ 0 ∷ n ∷ o
-spelled (pauses n) = pausedKind ∷ 0 ∷ n ∷ []
-spelled (ends n) = endedKind ∷ 0 ∷ n ∷ []
-spelled (refuses n m) = refusedKind ∷ m ∷ n ∷ []
+spelled (saysFound n o) = foundKind ∷ 0 ∷ n ∷ o
+spelled (saysPaused n) = pausedKind ∷ 0 ∷ n ∷ []
+spelled (saysEnded n) = endedKind ∷ 0 ∷ n ∷ []
+spelled (saysRefused n m) = refusedKind ∷ m ∷ n ∷ []
 
 -- whether the same is told, call by call
 abbrev pub sameSays : List (List ℕ) → List Says → Bool
@@ -217,21 +217,21 @@ big = ask 4294967295 64 64
 unfoldable pub rows : List Row
 rows =
     -- "Synthesis of 01 02: Found 01 02 after 3 steps, Found 01 03 02 after 8 more, Ended after 9 more; tree size 20." "After the end: Ended, 0."
-    row 2 (1 ∷ 2 ∷ []) [] (goes (big ∷ big ∷ big ∷ big ∷ ask 0 64 64 ∷ []) (finds 3 (1 ∷ 2 ∷ []) ∷ finds 8 (1 ∷ 3 ∷ 2 ∷ []) ∷ ends 9 ∷ ends 0 ∷ ends 0 ∷ []) 20)
+    row 2 (1 ∷ 2 ∷ []) [] (goes (big ∷ big ∷ big ∷ big ∷ ask 0 64 64 ∷ []) (saysFound 3 (1 ∷ 2 ∷ []) ∷ saysFound 8 (1 ∷ 3 ∷ 2 ∷ []) ∷ saysEnded 9 ∷ saysEnded 0 ∷ saysEnded 0 ∷ []) 20)
     -- "Empty word, synthesis: Ended after 4."
-    ∷ row 2 [] [] (goes (big ∷ []) (ends 4 ∷ []) 4)
+    ∷ row 2 [] [] (goes (big ∷ []) (saysEnded 4 ∷ []) 4)
     -- "Analysis of 01 03 02: Found 01 02 after 6, Ended after 6."
-    ∷ row 3 [] (1 ∷ 3 ∷ 2 ∷ []) (goes (big ∷ big ∷ []) (finds 6 (1 ∷ 2 ∷ []) ∷ ends 6 ∷ []) 12)
+    ∷ row 3 [] (1 ∷ 3 ∷ 2 ∷ []) (goes (big ∷ big ∷ []) (saysFound 6 (1 ∷ 2 ∷ []) ∷ saysEnded 6 ∷ []) 12)
     -- "Recognition of 01 02 with 01 03 02: Found after 6."
-    ∷ row 1 (1 ∷ 2 ∷ []) (1 ∷ 3 ∷ 2 ∷ []) (goes (big ∷ big ∷ []) (finds 6 [] ∷ ends 6 ∷ []) 12)
+    ∷ row 1 (1 ∷ 2 ∷ []) (1 ∷ 3 ∷ 2 ∷ []) (goes (big ∷ big ∷ []) (saysFound 6 [] ∷ saysEnded 6 ∷ []) 12)
     -- "Synthesis of 01 02, 3 frames: first reading, then 22 after 0 steps; with 9 frames the same run goes on to the second reading after 8."
-    ∷ row 2 (1 ∷ 2 ∷ []) [] (goes (ask 1000 3 64 ∷ ask 1000 3 64 ∷ ask 1000 9 64 ∷ []) (finds 3 (1 ∷ 2 ∷ []) ∷ refuses 0 22 ∷ finds 8 (1 ∷ 3 ∷ 2 ∷ []) ∷ []) 20)
+    ∷ row 2 (1 ∷ 2 ∷ []) [] (goes (ask 1000 3 64 ∷ ask 1000 3 64 ∷ ask 1000 9 64 ∷ []) (saysFound 3 (1 ∷ 2 ∷ []) ∷ saysRefused 0 22 ∷ saysFound 8 (1 ∷ 3 ∷ 2 ∷ []) ∷ []) 20)
     -- the same with a stack too short for the used frames between
-    ∷ row 2 (1 ∷ 2 ∷ []) [] (goes (ask 1000 3 64 ∷ ask 1000 2 64 ∷ ask 1000 9 64 ∷ []) (finds 3 (1 ∷ 2 ∷ []) ∷ refuses 0 21 ∷ finds 8 (1 ∷ 3 ∷ 2 ∷ []) ∷ []) 20)
+    ∷ row 2 (1 ∷ 2 ∷ []) [] (goes (ask 1000 3 64 ∷ ask 1000 2 64 ∷ ask 1000 9 64 ∷ []) (saysFound 3 (1 ∷ 2 ∷ []) ∷ saysRefused 0 21 ∷ saysFound 8 (1 ∷ 3 ∷ 2 ∷ []) ∷ []) 20)
     -- "Output of 2 letters: second call gives 23 after 7 steps."
-    ∷ row 2 (1 ∷ 2 ∷ []) [] (goes (ask 1000 9 2 ∷ ask 1000 9 2 ∷ []) (finds 3 (1 ∷ 2 ∷ []) ∷ refuses 7 23 ∷ []) 20)
+    ∷ row 2 (1 ∷ 2 ∷ []) [] (goes (ask 1000 9 2 ∷ ask 1000 9 2 ∷ []) (saysFound 3 (1 ∷ 2 ∷ []) ∷ saysRefused 7 23 ∷ []) 20)
     -- "Allowance 0 at a start: Paused, 0."
-    ∷ row 2 (1 ∷ 2 ∷ []) [] (goes (ask 0 9 2 ∷ []) (pauses 0 ∷ []) 20)
+    ∷ row 2 (1 ∷ 2 ∷ []) [] (goes (ask 0 9 2 ∷ []) (saysPaused 0 ∷ []) 20)
     -- "State 0 with the arc 0, 0, 0, 0: 12 in all tasks."
     ∷ loop 0 0 1 (refusedWith 12)
     ∷ loop 0 0 2 (refusedWith 12)
@@ -240,29 +240,29 @@ rows =
     ∷ lone 0 0 2 (refusedWith 12)
     ∷ lone 0 0 3 (refusedWith 12)
     -- "With 0, 1, 0, 0: 12 in analysis only."
-    ∷ loop 1 0 1 (goes (big ∷ []) (ends 5 ∷ []) 5)
-    ∷ loop 1 0 2 (goes (big ∷ []) (ends 5 ∷ []) 5)
+    ∷ loop 1 0 1 (goes (big ∷ []) (saysEnded 5 ∷ []) 5)
+    ∷ loop 1 0 2 (goes (big ∷ []) (saysEnded 5 ∷ []) 5)
     ∷ loop 1 0 3 (refusedWith 12)
-    ∷ lone 1 0 1 (goes (big ∷ []) (ends 3 ∷ []) 3)
-    ∷ lone 1 0 2 (goes (big ∷ []) (ends 3 ∷ []) 3)
+    ∷ lone 1 0 1 (goes (big ∷ []) (saysEnded 3 ∷ []) 3)
+    ∷ lone 1 0 2 (goes (big ∷ []) (saysEnded 3 ∷ []) 3)
     ∷ lone 1 0 3 (refusedWith 12)
     -- "Here the first listed goes first."
-    ∷ pair 5 6 (goes (big ∷ big ∷ big ∷ []) (finds 2 (6 ∷ []) ∷ finds 4 (5 ∷ []) ∷ ends 2 ∷ []) 8)
+    ∷ pair 5 6 (goes (big ∷ big ∷ big ∷ []) (saysFound 2 (6 ∷ []) ∷ saysFound 4 (5 ∷ []) ∷ saysEnded 2 ∷ []) 8)
     -- "two paths with the same output give it twice"
-    ∷ pair 5 5 (goes (big ∷ big ∷ big ∷ []) (finds 2 (5 ∷ []) ∷ finds 4 (5 ∷ []) ∷ ends 2 ∷ []) 8)
+    ∷ pair 5 5 (goes (big ∷ big ∷ big ∷ []) (saysFound 2 (5 ∷ []) ∷ saysFound 4 (5 ∷ []) ∷ saysEnded 2 ∷ []) 8)
     -- "The path of no arcs counts": the push of an initial state accepts
-    ∷ bare (goes (ask 0 1 0 ∷ ask 1 0 0 ∷ ask 1 1 0 ∷ ask 9 1 0 ∷ ask 0 0 0 ∷ []) (pauses 0 ∷ refuses 0 22 ∷ finds 1 [] ∷ ends 1 ∷ ends 0 ∷ []) 2)
+    ∷ bare (goes (ask 0 1 0 ∷ ask 1 0 0 ∷ ask 1 1 0 ∷ ask 9 1 0 ∷ ask 0 0 0 ∷ []) (saysPaused 0 ∷ saysRefused 0 22 ∷ saysFound 1 [] ∷ saysEnded 1 ∷ saysEnded 0 ∷ []) 2)
     -- "then in a step 22, 23"
-    ∷ row 2 (1 ∷ 2 ∷ []) [] (goes (ask 1000 2 0 ∷ ask 1000 3 0 ∷ ask 1000 3 1 ∷ ask 1000 3 2 ∷ []) (refuses 2 22 ∷ refuses 0 23 ∷ refuses 0 23 ∷ finds 1 (1 ∷ 2 ∷ []) ∷ []) 20)
+    ∷ row 2 (1 ∷ 2 ∷ []) [] (goes (ask 1000 2 0 ∷ ask 1000 3 0 ∷ ask 1000 3 1 ∷ ask 1000 3 2 ∷ []) (saysRefused 2 22 ∷ saysRefused 0 23 ∷ saysRefused 0 23 ∷ saysFound 1 (1 ∷ 2 ∷ []) ∷ []) 20)
     -- "Never too short": (letters to read + 1) × states frames, and one less can be
-    ∷ round (goes (ask 1000 3 3 ∷ ask 1000 4 3 ∷ ask 1000 4 3 ∷ []) (refuses 3 22 ∷ finds 1 (5 ∷ 6 ∷ 5 ∷ []) ∷ ends 5 ∷ []) 9)
+    ∷ round (goes (ask 1000 3 3 ∷ ask 1000 4 3 ∷ ask 1000 4 3 ∷ []) (saysRefused 3 22 ∷ saysFound 1 (5 ∷ 6 ∷ 5 ∷ []) ∷ saysEnded 5 ∷ []) 9)
     -- "Word of 64 starts, 65 gives 10."
-    ∷ row 2 (replicate 64 63) [] (goes (big ∷ []) (ends 4 ∷ []) 4)
+    ∷ row 2 (replicate 64 63) [] (goes (big ∷ []) (saysEnded 4 ∷ []) 4)
     ∷ row 2 (replicate 65 63) [] (refusedWith 10)
-    ∷ row 3 [] (replicate 64 63) (goes (big ∷ []) (ends 4 ∷ []) 4)
+    ∷ row 3 [] (replicate 64 63) (goes (big ∷ []) (saysEnded 4 ∷ []) 4)
     ∷ row 3 [] (replicate 65 63) (refusedWith 10)
     -- letter 63 is a letter, 64 is none
-    ∷ row 2 (63 ∷ []) [] (goes (big ∷ []) (ends 4 ∷ []) 4)
+    ∷ row 2 (63 ∷ []) [] (goes (big ∷ []) (saysEnded 4 ∷ []) 4)
     ∷ row 2 (64 ∷ []) [] (refusedWith 10)
     -- "Unknown task"
     ∷ row 0 [] [] (refusedWith 11)
@@ -275,8 +275,8 @@ rows =
     ∷ row 3 (1 ∷ []) (0 ∷ []) (refusedWith 11)
     ∷ row 2 (0 ∷ []) [] (refusedWith 10)
     -- "Call: 20, 11, 10, 21": depth 1 with no start is no place in a search
-    ∷ twice 4 (0 ∷ []) (called 0 1 big (refuses 0 20))
-    ∷ row 4 (0 ∷ []) [] (called 0 1 big (refuses 0 11))
-    ∷ row 2 (0 ∷ []) [] (called 0 1 big (refuses 0 10))
-    ∷ row 2 (1 ∷ []) [] (called 0 1 big (refuses 0 21))
+    ∷ twice 4 (0 ∷ []) (called 0 1 big (saysRefused 0 20))
+    ∷ row 4 (0 ∷ []) [] (called 0 1 big (saysRefused 0 11))
+    ∷ row 2 (0 ∷ []) [] (called 0 1 big (saysRefused 0 10))
+    ∷ row 2 (1 ∷ []) [] (called 0 1 big (saysRefused 0 21))
     ∷ []
