@@ -15,7 +15,7 @@ use Rattle.table_format.proofs.Ruled.{Ruled}
 use Rattle.machine.specs.Query.{Task, recognition, synthesis, analysis, Side, upperSide, lowerSide, reads, Query}
 use Rattle.machine.specs.Transducer.{arcAt, member, sideWrites, sideDone, sideToRead, Passed, followArc, doneOn, machine}
 use Rattle.machine.specs.Machine.{Path, start, more, final, datum, listed, tested, accepts, output, Allowed}
-use Rattle.machine.specs.Report.{Kernel, Cell, Trace, null, thence, Walk, stay, along, label, arcsOf, Word, kernel, Output, bothEmpty, φ₋, φ₊, Solves}
+use Rattle.machine.specs.Report.{Kernel, Cell, Trace, null, thence, KernelPath, emptyPath, longerPath, label, arcsOf, Word, kernel, Output, bothEmpty, φ₋, φ₊, Solves}
 use Rattle.machine.specs.Agree.{place, inputOf, outputOf, TraceFor, Same}
 use Rattle.machine.proofs.Transducer.{at-mem, mem-at, onward-parts}
 use Rattle.machine.proofs.Bound.{countIf, within, has-datum}
@@ -29,16 +29,16 @@ pub record AcceptingPath (t : Table) (q : Query) (x : Output (q .task)) : Type 0
   pub accepted : accepts (machine t q) path ≡ true
   pub told : outputOf (q .task) (output (machine t q) path) ≡ x
 
--- Walks with their labels are traces.
+-- Paths of the kernel with their labels are traces.
 
 module _ (K : Kernel) where
-  walk-trace : {q r : ℕ} (w : Walk K q r) (d e : K .Data) → label K w d e → Trace K (d, q) (e, r)
-  walk-trace {q} stay d e l = subst (λ (x : K .Data). Trace K (d, q) (x, q)) l null
-  walk-trace (along w a m f g) d e l = thence (walk-trace w d (l .0) (l .1)) (record { arc = a; listed = m; from = f; to = g; related = l .2 })
+  label-trace : {q r : ℕ} (w : KernelPath K q r) (d e : K .Data) → label K w d e → Trace K (d, q) (e, r)
+  label-trace {q} emptyPath d e l = subst (λ (x : K .Data). Trace K (d, q) (x, q)) l null
+  label-trace (longerPath w a m f g) d e l = thence (label-trace w d (l .0) (l .1)) (record { arc = a; listed = m; from = f; to = g; related = l .2 })
 
-  trace-walk : {q : ℕ} {d : K .Data} {c : Cell K} → Trace K (d, q) c → (w : Walk K q (c .1)) × label K w d (c .0)
-  trace-walk null = (stay, refl)
-  trace-walk (thence T E) = let W = trace-walk T in (along (W .0) (E .arc) (E .listed) (E .from) (E .to), (_, W .1, E .related))
+  trace-label : {q : ℕ} {d : K .Data} {c : Cell K} → Trace K (d, q) c → (w : KernelPath K q (c .1)) × label K w d (c .0)
+  trace-label null = (emptyPath, refl)
+  trace-label (thence T E) = let W = trace-label T in (longerPath (W .0) (E .arc) (E .listed) (E .from) (E .to), (_, W .1, E .related))
 
 -- One side at the end: a side that is read has nothing left, a side that is written tells its word.
 
@@ -243,7 +243,7 @@ module _ (t : Table) (q : Query) where
         to : AcceptingPath t q (outputOf (q .task) v) → Solves t (q .task) (inputOf (q .task) (q .upperWord) (q .lowerWord)) (outputOf (q .task) v)
         to P =
             let T = trace-of (outputOf (q .task) v) P .0 in
-            (T .end, (T .begin, T .fed, (T .from, T .to, T .initial, T .terminal, trace-walk (kernel t (q .task)) (T .trace))), T .told)
+            (T .end, (T .begin, T .fed, (T .from, T .to, T .initial, T .terminal, trace-label (kernel t (q .task)) (T .trace))), T .told)
 
         from : Solves t (q .task) (inputOf (q .task) (q .upperWord) (q .lowerWord)) (outputOf (q .task) v) → AcceptingPath t q (outputOf (q .task) v)
         from S =
@@ -256,7 +256,7 @@ module _ (t : Table) (q : Query) where
               end = S .0;
               initial = C .2;
               fed = S .1 .1;
-              trace = walk-trace (kernel t (q .task)) (C .4 .0) (S .1 .0) (S .0) (C .4 .1);
+              trace = label-trace (kernel t (q .task)) (C .4 .0) (S .1 .0) (S .0) (C .4 .1);
               terminal = C .3;
               told = S .2;
             })

@@ -58,18 +58,18 @@ module _ (K : Kernel) where
     thence : {e f : Cell} → Trace c e → Edge e f → Trace c f
 
   -- a path, and its label, "the composition of relations"
-  pub data Walk (q : ℕ) : ℕ → Type 0 where
-    stay : Walk q q
-    along : {r s : ℕ} → Walk q r → (a : Arc) → List·Memᴰ a (K .table .arcs) → a .source ≡ r → a .target ≡ s → Walk q s
+  pub data KernelPath (q : ℕ) : ℕ → Type 0 where
+    emptyPath : KernelPath q q
+    longerPath : {r s : ℕ} → KernelPath q r → (a : Arc) → List·Memᴰ a (K .table .arcs) → a .source ≡ r → a .target ≡ s → KernelPath q s
 
   -- "the label of a path .. is the composition of relations"
-  abbrev pub label : {q r : ℕ} → Walk q r → Rel (K .Data) (K .Data)
-  label stay = identity
-  label (along w a m e f) = label w ∘ K .relation a
+  abbrev pub label : {q r : ℕ} → KernelPath q r → Rel (K .Data) (K .Data)
+  label emptyPath = identity
+  label (longerPath w a m e f) = label w ∘ K .relation a
 
   -- "The path p is successful when q₀ ∈ I and qₙ ∈ T"; the characteristic relation is the union of the labels of all successful paths
   abbrev pub Characteristic : Rel (K .Data) (K .Data)
-  Characteristic d e = (q : ℕ) × (r : ℕ) × List·Memᴰ q (K .table .initials) × List·Memᴰ r (K .table .terminals) × ((w : Walk q r) × label w d e)
+  Characteristic d e = (q : ℕ) × (r : ℕ) × List·Memᴰ q (K .table .initials) × List·Memᴰ r (K .table .terminals) × ((w : KernelPath q r) × label w d e)
 
   -- definition 1.1: "there is no infinite trace"
   abbrev pub Noetherian : Type 0
