@@ -17,7 +17,7 @@ use Rattle.machine.specs.Transducer.{arcAt, member, sideWrites, sideDone
 use Rattle.machine.specs.Machine.{Path, start, more, final, datum, listed, tested, accepts, output, Allowed}
 use Rattle.machine.specs.Report.{Kernel, Cell, Trace, null, thence, KernelPath, emptyPath, longerPath, label, arcsOf, Word, kernel, Output, bothEmpty, φ₋, φ₊, Solves}
 use Rattle.machine.specs.Agree.{place, inputOf, outputOf, TraceFor, Same}
-use Rattle.machine.proofs.Transducer.{at-mem, mem-at, onward-parts}
+use Rattle.machine.proofs.Transducer.{at-mem, mem-at, bind-parts}
 use Rattle.machine.proofs.Bound.{countIf, within, has-datum}
 use Rattle.graph.proofs.Lists.{member-mem, mem-member}
 use Rattle.machine.proofs.Traces.{sideData, trace-end, letters, dataOf, beginAt, TraceOf, PathOf, path-trace, trace-path, path-unique}
@@ -126,7 +126,7 @@ module _ (t : Table) (q : Query) where
   output-is : (p : Path) (d : Passed) → datum (machine t q) p ≡ some d → toldBy (endOf p d) ≡ output (machine t q) p
   output-is (start i) d e = subst (λ (x : Passed). toldBy (endOf (start i) x) ≡ []) (cc) (told-none (q .task) (q .upperWord) (q .lowerWord))
   output-is (more p n) d e =
-      let P = onward-parts (datum (machine t q) p) (λ x. followArc q (arcAt t n) x) d e in
+      let P = bind-parts (datum (machine t q) p) (λ x. followArc q (arcAt t n) x) d e in
       told-more (q .task) (q .upperWord) (q .lowerWord) (lettersOf upperSide p) (lettersOf lowerSide p) (P .0 .up) (P .0 .low) (d .up) (d .low) (arcAt t n .upper) (arcAt t n .lower)
       ∙ ap₂ (λ (a b : Word). a ++ b) (output-is p (P .0) (P .1)) (ap (λ (o : Option Passed). listed o (machine t q .writes n)) (sym (P .1)))
 

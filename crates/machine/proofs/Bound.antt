@@ -18,7 +18,7 @@ use Rattle.machine.specs.Transducer.{noArc, arcAt, sideFollow, sideToRea
 use Rattle.machine.specs.Machine.{Path, start, more, final, datum, size, Allowed, Bounded}
 use Rattle.machine.specs.Idle.{sideIdle, idleOn, idle, Leads, IdleArc, NoIdleCycle}
 use Rattle.machine.proofs.Idle.{among}
-use Rattle.machine.proofs.Transducer.{arc-of, at-mem, onward-parts, follow-parts, somewhen-parts, getD-lt}
+use Rattle.machine.proofs.Transducer.{arc-of, at-mem, bind-parts, follow-parts, somewhen-parts, getD-lt}
 
 abbrev pub countIf : Bool → ℕ → ℕ
 countIf true n = n
@@ -74,7 +74,7 @@ module _ (t : Table) (q : Query) where
       go upperSide = within-start upperSide
       go lowerSide = within-start lowerSide
   within (more p n) d e s =
-      let P = onward-parts (datum (machine t q) p) (λ x. followArc q (arcAt t n) x) d e in
+      let P = bind-parts (datum (machine t q) p) (λ x. followArc q (arcAt t n) x) d e in
       arc-law (arcAt t n) (P .0) d (P .2) s .within (within p (P .0) (P .1) s)
 
   reads-more : (a : Arc) (d e : Passed) → followArc q a d ≡ some e → idle (q .task) a ≡ false → suc (readCount d) ≤ readCount e
@@ -104,7 +104,7 @@ module _ (t : Table) (q : Query) where
     cost-of : (p : Path) → Allowed (machine t q) p → (d : Passed) → datum (machine t q) p ≡ some d → CostOf p d
     cost-of (start i) A d e = record { from = getD (t .initials) i 0; initially = at-mem (t .initials) i 0 A; cost = 0; walk = stay; within-read = omega arith }
     cost-of (more p n) A d e =
-        let P = onward-parts (datum (machine t q) p) (λ x. followArc q (arcAt t n) x) d e in
+        let P = bind-parts (datum (machine t q) p) (λ x. followArc q (arcAt t n) x) d e in
         go (P .0) (P .2) (idle (q .task) (arcAt t n)) refl (cost-of p (A .0) (P .0) (P .1)) (last-arc p n A)
       where
         go : (c : Passed) → followArc q (arcAt t n) c ≡ some d → (b : Bool) → idle (q .task) (arcAt t n) ≡ b → CostOf p c

@@ -6,7 +6,7 @@ use mathlib.Core.Bool.{_&&_}
 use mathlib.Core.Option.{Option, none, some}
 use mathlib.Core.List.{List, [], _∷_, _++_, append-nil}
 use lib.ListN.{length, drop}
-use Rattle.machine.specs.Machine.{Machine, Path, start, more, final, datum, onward, listed, tested, output}
+use Rattle.machine.specs.Machine.{Machine, Path, start, more, final, datum, bind, listed, tested, output}
 use Rattle.machine.specs.Tour.{branch, trail, following, tourFrom, tour, reading, readingIf, readings}
 use Rattle.machine.specs.Denotation.{ifFits, arcsTell, stateTells, initialsTell}
 use Rattle.machine.proofs.Tour.{tour-is}
@@ -29,7 +29,7 @@ module _ (M : Machine) where
     where
       -- the datum and the output of the longer path
       here : datum M (more p n) ≡ M .follow n d
-      here = ap (λ (o : Option (M .D)). onward o (M .follow n)) e
+      here = ap (λ (o : Option (M .D)). bind o (M .follow n)) e
 
       written : output M (more p n) ≡ output M p ++ M .writes n d
       written = ap (λ (o : Option (M .D)). output M p ++ listed o (M .writes n)) e

@@ -13,10 +13,10 @@ use Rattle.table_format.specs.Table.{Arc, Table}
 use Rattle.table_format.proofs.Ruled.{Ruled}
 use Rattle.machine.specs.Query.{Task, recognition, synthesis, analysis, Side, upperSide, lowerSide, reads, letter, word, Query}
 use Rattle.machine.specs.Transducer.{noArc, arcAt, sideFollow, sideWrites, Passed, passed, nothingPassed, both, followOn, followArc, machine}
-use Rattle.machine.specs.Machine.{Path, start, more, final, datum, onward, Allowed}
+use Rattle.machine.specs.Machine.{Path, start, more, final, datum, bind, Allowed}
 use Rattle.machine.specs.Agree.{place, arcsBack}
 use Rattle.machine.specs.Report.{Rel, identity, _∘_, _⊗_, upperAlone, lowerAlone, Cell, Edge, Trace, null, thence, arcsOf, Word, reading, writing, α, kernel}
-use Rattle.machine.proofs.Transducer.{arc-of, at-mem, mem-at, onward-parts, follow-parts, somewhen-parts, getD-lt}
+use Rattle.machine.proofs.Transducer.{arc-of, at-mem, mem-at, bind-parts, follow-parts, somewhen-parts, getD-lt}
 
 pub drop-head : (w : Word) (n x : ℕ) (v : Word) → drop n w ≡ x ∷ v → getD w n 0 ≡ x
 drop-head [] zero x v e = absurd (nil≢cons e)
@@ -144,7 +144,7 @@ module _ (t : Table) (q : Query) (v : Side → Word) where
     pub path-trace : (p : Path) → Allowed (machine t q) p → (d : Passed) → datum (machine t q) p ≡ some d → TraceOf p d
     path-trace (start i) A d e = subst (λ (x : Passed). TraceOf (start i) x) (cc) (null, refl)
     path-trace (more p n) A d e =
-        let P = onward-parts (datum (machine t q) p) (λ x. followArc q (arcAt t n) x) d e in
+        let P = bind-parts (datum (machine t q) p) (λ x. followArc q (arcAt t n) x) d e in
         let T = path-trace p (A .0) (P .0) (P .1) in
         let h = arc-of t q (U .rising) (final (machine t q) p) n .0 (A .1) in
         (thence (T .0) (edge (P .0) (P .2) h), ap (λ (l : List Arc). arcAt t n ∷ l) (T .1))
@@ -201,7 +201,7 @@ module _ (t : Table) (q : Query) (v : Side → Word) where
         d = record { up = up .0; low = low .0 }
 
         follows : datum (machine t q) (more p n) ≡ some d
-        follows = ap (λ (o : Option Passed). onward o (λ x. followArc q (arcAt t n) x)) (P .datum-is) ∙ ap₂ both (up .1) (low .1)
+        follows = ap (λ (o : Option Passed). bind o (λ x. followArc q (arcAt t n) x)) (P .datum-is) ∙ ap₂ both (up .1) (low .1)
 
     pub trace-path : (i : ℕ) {c : Cell (kernel t (q .task))} → i < length (t .initials) → (T : Trace (kernel t (q .task)) (beginAt i) c) → PathOf i c (arcsOf T)
     trace-path i h null =

@@ -16,7 +16,7 @@ use Rattle.table_format.specs.Index.{below}
 pub use Rattle.table_format.proofs.All.{at-mem}
 use Rattle.table_format.proofs.Ruled.{AtLeast}
 use Rattle.machine.specs.Query.{Side, upperSide, lowerSide, reads, letter, word, Query}
-use Rattle.machine.specs.Machine.{Path, start, more, size, onward, listed, datum, output, ArcOf}
+use Rattle.machine.specs.Machine.{Path, start, more, size, bind, listed, datum, output, ArcOf}
 use Rattle.machine.specs.Transducer.{noArc, arcAt, somewhen, sideFollow, sideWrites, sideWritten, Passed, passed, nothingPassed, both, followOn, followArc, writesOn, writtenOn, writtenBy, machine}
 
 at-least : (m : ℕ) (l : List Arc) (i : ℕ) → AtLeast m l → i < length l → m ≤ getD l i noArc .source
@@ -83,9 +83,9 @@ mem-at {A} (x ∷ xs) a d m = ⊎-elim here (λ k. there (mem-at xs a d k)) (Lis
     there r = let h : r .0 < length xs = r .1 in (suc (r .0), omega arith, r .2)
 
 -- the parts of a step that is made
-pub onward-parts : {A B : Type 0} (o : Option A) (f : A → Option B) (b : B) → onward o f ≡ some b → (a : A) × (o ≡ some a) × (f a ≡ some b)
-onward-parts none f b e = absurd (let z : _≡_ {A = ℕ} 0 1 = cc in omega arith)
-onward-parts (some a) f b e = (a, refl, e)
+pub bind-parts : {A B : Type 0} (o : Option A) (f : A → Option B) (b : B) → bind o f ≡ some b → (a : A) × (o ≡ some a) × (f a ≡ some b)
+bind-parts none f b e = absurd (let z : _≡_ {A = ℕ} 0 1 = cc in omega arith)
+bind-parts (some a) f b e = (a, refl, e)
 
 pub both-parts : (x y : Option ℕ) (d : Passed) → both x y ≡ some d → (x ≡ some (d .up)) × (y ≡ some (d .low))
 both-parts none y d e = absurd (let z : _≡_ {A = ℕ} 0 1 = cc in omega arith)
@@ -135,7 +135,7 @@ module _ (t : Table) (q : Query) where
       let k : _≡_ {A = Passed} nothingPassed d = cc in
       subst (λ (x : Passed). 0 ≡ writtenBy q x) k (omega (arith, none-written q upperSide, none-written q lowerSide))
   written-length (more p n) d e =
-      let P = onward-parts (datum (machine t q) p) (λ x. followArc q (arcAt t n) x) d e in
+      let P = bind-parts (datum (machine t q) p) (λ x. followArc q (arcAt t n) x) d e in
       let a : Arc = arcAt t n in
       length-append (output (machine t q) p) (listed (datum (machine t q) p) (machine t q .writes n))
       ∙ ap (λ (o : Option Passed). length (output (machine t q) p) + length (listed o (machine t q .writes n))) (P .1)
@@ -148,7 +148,7 @@ module _ (t : Table) (q : Query) where
       go upperSide = omega arith
       go lowerSide = omega arith
   passed-size (more p n) d e s =
-      let P = onward-parts (datum (machine t q) p) (λ x. followArc q (arcAt t n) x) d e in
+      let P = bind-parts (datum (machine t q) p) (λ x. followArc q (arcAt t n) x) d e in
       let h : passed (P .0) s ≤ size p = passed-size p (P .0) (P .1) s in
       let k : passed d s ≤ suc (passed (P .0) s) = side-passed (reads (q .task) s) (word s q) (letter s (arcAt t n)) (passed (P .0) s) (passed d s) (follow-parts q (arcAt t n) (P .0) d (P .2) s) in
       omega arith

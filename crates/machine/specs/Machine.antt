@@ -42,9 +42,9 @@ numbers (start i) = i ∷ []
 numbers (more p n) = numbers p ++ (n ∷ [])
 
 -- a partial step after another
-abbrev pub onward : {A B : Type 0} → Option A → (A → Option B) → Option B
-onward none f = none
-onward (some a) f = f a
+abbrev pub bind : {A B : Type 0} → Option A → (A → Option B) → Option B
+bind none f = none
+bind (some a) f = f a
 
 -- what is written, if there is a datum
 abbrev pub listed : {A : Type 0} → Option A → (A → List ℕ) → List ℕ
@@ -65,7 +65,7 @@ module _ (M : Machine) where
   -- "A path starts at an initial state with nothing passed on either side": the datum at a path's end, if every arc fits
   abbrev pub datum : Path → Option (M .D)
   datum (start i) = some (M .d₀)
-  datum (more p n) = onward (datum p) (M .follow n)
+  datum (more p n) = bind (datum p) (M .follow n)
 
   -- "A path accepts if its last state is terminal and every given word is read to its end."
   abbrev pub accepts : Path → Bool
