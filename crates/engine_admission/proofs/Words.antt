@@ -18,7 +18,7 @@ use Rattle.table_format.specs.Rules.{isEmpty}
 use Rattle.table_format.specs.Loaded.{tableIn, loaded}
 use Rattle.table_check.specs.Check.{checked}
 use Rattle.table_check.proofs.Passing.{passed, failed}
-use Rattle.machine.specs.Query.{Task, recognition, synthesis, analysis, Side, upperSide, lowerSide, taskOf, reads, Query, lettersHold, wordHolds, sidesHold, wordsHold}
+use Rattle.machine.specs.Query.{Task, recognition, synthesis, analysis, Side, upperSide, lowerSide, taskOf, reads, Query, lettersWithin, wordHolds, sidesHold, wordsHold}
 use Rattle.machine.specs.Asked.{Asked, turned, runs, askedWords, askedTask, askedTable, asked}
 use Rattle.engine_admission.specs.declared.Admission.{Admission}
 use Rattle.engine_admission.specs.declared.Admission.the-variants.{Passes, Refused}
@@ -27,19 +27,19 @@ use Rattle.engine_admission.specs.Admission.{readsBy, readsAt, admission
 -- Letters.
 
 -- one letter more
-pub letters-more : (w : List ℕ) (k : ℕ) → k < length w → lettersHold (take (suc k) w) ≡ (lettersHold (take k w) && (leb 1 (getD w k 0) && leb (getD w k 0) 63))
+pub letters-more : (w : List ℕ) (k : ℕ) → k < length w → lettersWithin (take (suc k) w) ≡ (lettersWithin (take k w) && (leb 1 (getD w k 0) && leb (getD w k 0) 63))
 letters-more [] k h = absurd (omega arith)
 letters-more (x ∷ xs) zero h = and-true (leb 1 x && leb x 63)
 letters-more (x ∷ xs) (suc k) h =
     ap (λ (b : Bool). (leb 1 x && leb x 63) && b) (letters-more xs k (omega arith))
-    ∙ sym (and-assoc (leb 1 x && leb x 63) (lettersHold (take k xs)) (leb 1 (getD xs k 0) && leb (getD xs k 0) 63))
+    ∙ sym (and-assoc (leb 1 x && leb x 63) (lettersWithin (take k xs)) (leb 1 (getD xs k 0) && leb (getD xs k 0) 63))
 
 module _ (w : List ℕ) where
   pub word-long : 64 < length w → wordHolds w ≡ false
-  word-long h = ap (λ (b : Bool). b && lettersHold w) (lt-leb (length w) 64 h)
+  word-long h = ap (λ (b : Bool). b && lettersWithin w) (lt-leb (length w) 64 h)
 
-  pub word-short : length w ≤ 64 → wordHolds w ≡ lettersHold w
-  word-short h = ap (λ (b : Bool). b && lettersHold w) (le-leb (length w) 64 h)
+  pub word-short : length w ≤ 64 → wordHolds w ≡ lettersWithin w
+  word-short h = ap (λ (b : Bool). b && lettersWithin w) (le-leb (length w) 64 h)
 
 -- no letter: the side's word is empty
 pub empty-length : (w : List ℕ) → isEmpty w ≡ eqb (length w) 0

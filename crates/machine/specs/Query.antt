@@ -53,13 +53,13 @@ sameWord (x ∷ xs) [] = false
 sameWord (x ∷ xs) (y ∷ ys) = eqb x y && sameWord xs ys
 
 -- 10: "A word has more than 64 letters, or a letter 0 or over 63"; what holds where it does not
-abbrev pub lettersHold : List ℕ → Bool
-lettersHold [] = true
-lettersHold (x ∷ xs) = (leb 1 x && leb x 63) && lettersHold xs
+abbrev pub lettersWithin : List ℕ → Bool
+lettersWithin [] = true
+lettersWithin (x ∷ xs) = (leb 1 x && leb x 63) && lettersWithin xs
 
 -- 10, of one word
 abbrev pub wordHolds : List ℕ → Bool
-wordHolds w = leb (length w) 64 && lettersHold w
+wordHolds w = leb (length w) 64 && lettersWithin w
 
 -- 10, of both words
 abbrev pub wordsHold : Query → Bool
