@@ -1,15 +1,15 @@
 -- Reading the lines after the header's: what is known at the head of the loop, a turn of it, and its ways out.
-use Prim.Native.Nat.{ℕ, _+_, _*_, _≤_}
+use Prim.Native.Nat.{ℕ, _+_, _*_, _≤_, _<_}
 use native.Mathlib.Omega.{arith}
 use mathlib.Core.Path.{_≡_, refl, sym, ap, subst, _∙_}
 use mathlib.Core.Bool.{Bool, true, false}
 use mathlib.Core.List.{List, [], _∷_}
-use lib.ListN.{length, drop, drop-of-length-le}
+use lib.ListN.{length, drop, drop-of-length-le, length-drop}
 use lib.Seq.{sets}
 use Rattle.refusal.specs.declared.InputCause.{InputCause}
 use Rattle.refusal.specs.declared.InputCause.the-variants.{Malformed, Misplaced, CountLimit}
 use Rattle.table_rules.specs.declared.Judged.the-variants.{Kept, Broken}
-use Rattle.table_parser.specs.declared.Gathered.{Gathered}
+use Rattle.table_parser.specs.declared.Read.the-variants.{Cells}
 use Rattle.table_format.specs.Table.{Table, Counts}
 use Rattle.table_format.specs.Rules.{unless, countsHold, headerFaults}
 use Rattle.table_format.specs.Loaded.{arcWidth, initialsAt, mostCells, countCells, countsIn, cellsOf}
@@ -17,9 +17,10 @@ use Rattle.table_format.specs.Line.{linesOf, bytesOf}
 use Rattle.table_rules.specs.Judge.{judged}
 use Rattle.table_format.specs.Parse.{isHeader, inPlace, LineKind, initial, terminal, arc, end, Progress, codeOf, due, countsFrom, kindFaults, bytesFaults, opening, parsed, onward, within, closed, emptyTable, Parsed, turnedDown, decide, parseFrom}
 use Rattle.table_items.specs.Draft.{filledUp, draftCells, kindAfter, Drafted, IsItem, itemCells, itemKey, Tracks}
-use Rattle.table_parser.specs.Gathered.{gathered, itemsParsed}
+use Rattle.table_parser.specs.Gathered.{gathered, itemsParsed, afterEnd}
+use Rattle.table_scanner.specs.Scan.{firstLine}
 use Rattle.table_scanner.proofs.ScannedLine.{LineRead, LineBad}
-use Rattle.table_parser.proofs.ParseLine.{parse-line, parse-bad}
+use Rattle.table_parser.proofs.ParseLine.{parse-line, parse-bad, parse-after}
 use Rattle.table_format.proofs.Parse.{onward-due}
 use Rattle.table_items.proofs.LineKinds.{item-only, misplaced, placed}
 use Rattle.table_items.proofs.Draft.{bounded, filled-at, cells-long, counts-held, kind-due, lists-due, Lists, end-cells}
@@ -112,14 +113,20 @@ module _ {c : Counts} {text : List ℕ} {start at lines filled top : ℕ} {cells
       onto : All c text start ≡ parseFrom (onward (within c (R .table)) said) (linesOf (drop next text))
       onto = decided ∙ decide-kept (kindFaults (due c (R .table)) (R .table) said) _ kept
 
-      -- the end line
-      pub out-end : (x : Gathered) → due c (R .table) ≡ end
-          → ((t : Table) → filled ≡ length (cellsOf t) → cells ≡ filledUp (cellsOf t) → x ≡ gathered (parseFrom (closed t) (linesOf (drop next text))))
-          → x ≡ gathered (All c text start)
-      out-end x d f =
+      -- the end line, with nothing after it, or another line
+
+      end-on : due c (R .table) ≡ end → All c text start ≡ parseFrom (closed (R .table)) (linesOf (drop next text))
+      end-on d = onto ∙ ap (λ (p : Progress). parseFrom p (linesOf (drop next text))) (onward-due c (R .table) end d said)
+
+      pub out-end : due c (R .table) ≡ end → length text ≤ next → record { read = Cells filled; cells = cells } ≡ gathered (All c text start)
+      unfolding parseFrom linesOf
+      out-end d h =
           let q : draftCells c (R .table) ≡ cellsOf (R .table) = end-cells (R .tracks) d in
-          f (R .table) (R .tracks .filled-is ∙ ap length q) (R .tracks .cells-are ∙ ap filledUp q)
-          ∙ ap gathered (sym (onto ∙ ap (λ (p : Progress). parseFrom p (linesOf (drop next text))) (onward-due c (R .table) end d said)))
+          (λ i. record { read = Cells ((R .tracks .filled-is ∙ ap length q) i); cells = (R .tracks .cells-are ∙ ap filledUp q) i })
+          ∙ ap gathered (sym (end-on d ∙ ap (λ (s : List ℕ). parseFrom (closed (R .table)) (linesOf s)) (drop-of-length-le text h)))
+
+      pub out-after : due c (R .table) ≡ end → next < length text → All c text start ≡ turnedDown (afterEnd (firstLine (drop next text)))
+      out-after d h = end-on d ∙ parse-after (R .table) (drop next text) (omega (arith, length-drop next text))
 
       -- one item more
       pub reading-more : (filled′ top′ : ℕ) (cells′ : List ℕ) → IsItem (due c (R .table)) → top ≤ top′ → itemKey (due c (R .table)) said ≤ top′

@@ -10,13 +10,12 @@ ghost use mathlib.Core.Path.{_≡_};
 ghost use mathlib.Core.Bool.{true};
 ghost use Prim.Native.Nat.{_≤_};
 ghost use lib.ListN.{length, drop};
-ghost use Rattle.table_format.specs.Table.{Table};
 ghost use Rattle.table_format.specs.Rules.{countsHold};
-ghost use Rattle.table_format.specs.Loaded.{countCells, countsIn, cellsOf};
-ghost use Rattle.table_format.specs.Line.{linesOf};
-ghost use Rattle.table_format.specs.Parse.{countsFrom, turnedDown, parseFrom, parsed, closed};
+ghost use Rattle.table_format.specs.Loaded.{countCells, countsIn};
+ghost use Rattle.table_format.specs.Parse.{countsFrom, turnedDown, parsed};
+ghost use Rattle.table_scanner.specs.Scan.{firstLine};
 ghost use Rattle.table_items.specs.Draft.{filledUp};
-ghost use Rattle.table_parser.specs.Gathered.{gathered, itemsParsed};
+ghost use Rattle.table_parser.specs.Gathered.{gathered, itemsParsed, afterEnd};
 
 // What the lines of a text give: how many cells a table has, or the first bad line's refusal.
 pub enum Read {
@@ -40,22 +39,15 @@ fn refused(cause: InputCause) -> Gathered
     }
 }
 
-// After the end line: nothing, or a line that is misplaced.
-fn read_end(text: &[u8], at: usize, cells: [u16; MOST_CELLS], filled: usize) -> Gathered
-    ensures { λ r. ⌜ ((t : Table) → filled ≡ length (cellsOf t) → cells ≡ filledUp (cellsOf t)
-        → r ≡ gathered (parseFrom (closed t) (linesOf (drop at (now (text .entry)))))) ⌝ }
+// What a line after the end line earns.
+fn after_end(text: &[u8], at: usize) -> InputCause
+    ensures { λ r. ⌜ r ≡ afterEnd (firstLine (drop at (now (text .entry)))) ⌝ }
 {
-    if text.len() <= at {
-        return Gathered {
-            read: Read::Cells(filled),
-            cells,
-        };
-    }
     let mut bytes = [0u8; LINE_BYTES];
     let line = table_scanner::scan(text, at, &mut bytes);
     match line {
-        Scanned::Says { count: _, next: _ } => refused(InputCause::Misplaced),
-        Scanned::Malformed => refused(InputCause::Malformed),
+        Scanned::Malformed => InputCause::Malformed,
+        Scanned::Says { count: _, next: _ } => InputCause::Misplaced,
     }
 }
 
@@ -80,9 +72,14 @@ fn read_items(text: &[u8], start: usize, counted: [u16; MOST_CELLS]) -> Gathered
         if let Judged::Broken(fault) = judged {
             return refused(fault);
         }
-        at = next;
         if kind == 5 {
-            return read_end(text, at, cells, filled);
+            if next < text.len() {
+                return refused(after_end(text, next));
+            }
+            return Gathered {
+                read: Read::Cells(filled),
+                cells,
+            };
         }
         let key = table_items::item_key(kind, bytes);
         if top < key {
@@ -90,6 +87,7 @@ fn read_items(text: &[u8], start: usize, counted: [u16; MOST_CELLS]) -> Gathered
         }
         filled = table_items::append(&mut cells, kind, bytes, filled);
         lines += 1;
+        at = next;
     }
     refused(InputCause::Misplaced)
 }

@@ -11,13 +11,14 @@ use Rattle.table_format.specs.Loaded.{countsIn}
 use Rattle.table_format.specs.Line.{bytesOf}
 use Rattle.table_format.specs.Text.{lineBytes}
 use Rattle.table_rules.specs.Judge.{judged}
-use Rattle.table_format.specs.Parse.{LineKind, codeOf, due, kindFaults}
+use Rattle.table_format.specs.Parse.{LineKind, codeOf, due, kindFaults, turnedDown}
+use Rattle.refusal.specs.declared.InputCause.{InputCause}
 use Rattle.table_scanner.specs.Scan.{padded}
 use Rattle.table_items.specs.Draft.{IsItem, itemKey}
 use Rattle.table_parser.specs.Gathered.{gathered}
 use Rattle.table_scanner.proofs.ScannedLine.{LineRead, line-read, line-bad}
 use Rattle.table_items.proofs.LineKinds.{kind-one}
-use Rattle.table_parser.proofs.Items.{ReadingOn, reading-start, long, due-code, drafted, item-is, out-missing, out-bad, out-broken, out-end, room, lines-few, reading-more}
+use Rattle.table_parser.proofs.Items.{ReadingOn, reading-start, long, due-code, drafted, item-is, out-missing, out-bad, out-broken, out-end, out-after, room, lines-few, reading-more}
 use Rattle.table_parser.proofs.read_items.Statement.{statement}
 use Rattle.table_parser.proofs.read_items.Tie as tie
 
@@ -108,15 +109,26 @@ returns-2 c =
 enum-told-2 : tie.Need-enum-told-2 Inv-loop μ-loop
 enum-told-2 c = search needs
 
-read-end-requires : tie.Need-read-end-requires Inv-loop μ-loop
-read-end-requires c κs = search needs
+after-end-requires : tie.Need-after-end-requires Inv-loop μ-loop
+after-end-requires c κs = search needs
+
+refused-requires-3 : tie.Need-refused-requires-3 Inv-loop μ-loop
+refused-requires-3 c κs = search needs
 
 returns-3 : tie.Need-returns-3 Inv-loop μ-loop
 returns-3 c =
-    let fault = c .before .before .before .before in
+    let end = c .before .before .before in
+    let fault = end .before .before .before in
     let here = fault .before .before .before .before .before .before .before .before .before .before .before in
-    out-end (here .loop .inv) (line (fault .before .before .before .before .before)) (earns fault ∙ c .before .before .enum-told2 .given .1) (c .read-end .result)
-    (kind-one 5 (kind here) (sym (c .before .if1 .taken) ∙ kind-is (fault .before .before))) (c .read-end .ensures)
+    c .refused3 .ensures ∙ ap (λ (f : InputCause). gathered (turnedDown f)) (c .before .after-end .ensures)
+    ∙ ap gathered (sym (out-after (here .loop .inv) (line (fault .before .before .before .before .before)) (earns fault ∙ end .before .enum-told2 .given .1) (kind-one 5 (kind here) (sym (end .if1 .taken) ∙ kind-is (fault .before .before))) (c .before .before .if2 .taken)))
+
+returns-4 : tie.Need-returns-4 Inv-loop μ-loop
+returns-4 c =
+    let end = c .before in
+    let fault = end .before .before .before in
+    let here = fault .before .before .before .before .before .before .before .before .before .before .before in
+    out-end (here .loop .inv) (line (fault .before .before .before .before .before)) (earns fault ∙ end .before .enum-told2 .given .1) (kind-one 5 (kind here) (sym (end .if1 .taken) ∙ kind-is (fault .before .before))) (c .if2 .left)
 
 item-key-requires : tie.Need-item-key-requires Inv-loop μ-loop
 item-key-requires c κs = search needs
@@ -148,15 +160,15 @@ loop-again c =
     let e = bytes-are (fault .before .before .before .before .before) in
     let i : IsItem (kind here) = item-is (here .loop .inv) k (c .before .before .before .before .before .if1 .left) in
     let new = c .before .before .before .before .item-key .ensures (kind here) b k i e in
-    let low : here .loop .top ≤ c .before .before .before .if2 .top = ⊎-elim (λ w. omega arith) (λ w. omega arith) (c .before .before .before .if2 .came) in
-    let key : itemKey (kind here) b ≤ c .before .before .before .if2 .top = ⊎-elim (λ w. omega (arith, new)) (λ w. omega (arith, new)) (c .before .before .before .if2 .came) in
+    let low : here .loop .top ≤ c .before .before .before .if3 .top = ⊎-elim (λ w. omega arith) (λ w. omega arith) (c .before .before .before .if3 .came) in
+    let key : itemKey (kind here) b ≤ c .before .before .before .if3 .top = ⊎-elim (λ w. omega (arith, new)) (λ w. omega (arith, new)) (c .before .before .before .if3 .came) in
     reading-more (here .loop .inv) L (earns fault ∙ c .before .before .before .before .before .before .enum-told2 .given .1) _ _ _ i low key (c .before .append .ensures (kind here) b k i e)
 
-refused-requires-3 : tie.Need-refused-requires-3 Inv-loop μ-loop
-refused-requires-3 c κs = search needs
+refused-requires-4 : tie.Need-refused-requires-4 Inv-loop μ-loop
+refused-requires-4 c κs = search needs
 
-returns-4 : tie.Need-returns-4 Inv-loop μ-loop
-returns-4 c = c .refused3 .ensures ∙ ap gathered (sym (out-missing (c .before .before .loop .inv) (c .before .loop-test .left)))
+returns-5 : tie.Need-returns-5 Inv-loop μ-loop
+returns-5 c = c .refused4 .ensures ∙ ap gathered (sym (out-missing (c .before .before .loop .inv) (c .before .loop-test .left)))
 
 pub read-items-spec : {M : Type 1} → statement M
 read-items-spec =
@@ -179,13 +191,15 @@ read-items-spec =
     refused-requires-2
     returns-2
     enum-told-2
-    read-end-requires
+    after-end-requires
+    refused-requires-3
     returns-3
+    returns-4
     item-key-requires
     slice-aggregate-append
     append-requires
     add-lines
     loop-less
     loop-again
-    refused-requires-3
-    returns-4)
+    refused-requires-4
+    returns-5)
