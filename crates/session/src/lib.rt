@@ -2,6 +2,7 @@
 // query and every line, so nothing is too short.
 use refusal::Refusal;
 use session_calls::CallResult;
+use session_calls::make_calls;
 use session_opening::SessionState;
 use session_query::words;
 use session_replies::LINE_CHARACTERS;
@@ -97,15 +98,7 @@ pub fn next_line(
     }
     let upper = words::upper(query);
     let lower = words::lower(query);
-    let result = session_calls::make_calls(
-        table,
-        upper,
-        lower,
-        state.run,
-        state.calls,
-        stack,
-        output,
-    );
+    let result = make_calls(table, upper, lower, state.run, state.calls, stack, output);
     result_line(result, count, output, line)
 }
 
