@@ -1,15 +1,28 @@
 // Starts and calls of the engine, on the cells of one table.
-use crate::script;
-use crate::show;
-use crate::tables;
+use cases_script::numbers;
+use cases_script::show;
 use engine::advance;
 use machine::Answer;
 use machine::Called;
 use machine::Run;
+use machine::StartAnswer;
+use machine::Started;
 ghost use Prim.Native.Nat.{_≤_};
 
 // What an output is filled with: no letter is this.
 const LETTER_MARK: u8 = 255;
+
+// Cells of a frame.
+const FRAME_CELLS: usize = 4;
+
+// Cells of a stack of 33,025 frames.
+const STACK_CELLS: usize = 132100;
+
+// What an answer tells: its steps, and how many letters were written.
+struct Counts {
+    steps: u32,
+    length: usize,
+}
 
 // Where calls left a run, and their steps in all.
 struct Tally {
@@ -17,21 +30,53 @@ struct Tally {
     steps: u32,
 }
 
-fn steps_of(answer: Answer) -> u32 {
+fn counted(answer: Answer) -> Counts {
     match answer {
-        Answer::Found { steps, length: _ } => steps,
-        Answer::Paused { steps } => steps,
-        Answer::Ended { steps } => steps,
-        Answer::Refused { steps, refusal: _ } => steps,
+        Answer::Found { steps, length } => Counts {
+            steps,
+            length: length as usize,
+        },
+        Answer::Paused { steps } => Counts { steps, length: 0 },
+        Answer::Ended { steps } => Counts { steps, length: 0 },
+        Answer::Refused { steps, refusal: _ } => Counts { steps, length: 0 },
     }
 }
 
-// How many letters a call wrote.
-fn written(answer: Answer) -> usize {
-    if let Answer::Found { steps: _, length } = answer {
-        return length as usize;
+fn name(answer: Answer) {
+    match answer {
+        Answer::Found {
+            steps: _,
+            length: _,
+        } => show::say(b" Found"),
+        Answer::Paused { steps: _ } => show::say(b" Paused"),
+        Answer::Ended { steps: _ } => show::say(b" Ended"),
+        Answer::Refused { steps: _, refusal } => show::refused(refusal),
     }
-    0
+}
+
+// The letters of a reading, each after a blank, or with `~` as one word.
+fn spell(sign: u8, letters: &[u8]) {
+    if sign == b'~' {
+        show::say(b" ");
+    }
+    show::letters(letters, sign == b'~');
+}
+
+// An answer, with the output as the call left it.
+fn tell(sign: u8, answer: Answer, output: &[u8]) {
+    let told = counted(answer);
+    let length = told.length;
+    name(answer);
+    if 0 < length {
+        if length <= output.len() {
+            spell(sign, &output[0..length]);
+        }
+    }
+    show::number(b" after ", told.steps as u64);
+    show::touched(show::is_marked(output, length, LETTER_MARK));
+    if sign != b'!' {
+        show::say(b",");
+    }
 }
 
 fn letter(n: u32) -> u8 {
@@ -42,34 +87,21 @@ fn letter(n: u32) -> u8 {
 fn word(list: &[u32], at: usize, letters: &mut [u8]) -> usize
     ensures { λ r. ⌜ r ≤ 80 ⌝ }
 {
-    let count = script::amount(list, at, 80);
-    let mut k = at;
     let mut i = 0;
     while i < letters.len() {
-        k = script::skip(k, 1);
-        letters[i] = letter(script::at(list, k));
+        letters[i] = letter(numbers::at(list, at, i + 1));
         i += 1;
     }
-    count
-}
-
-// An answer, with the output as the call left it.
-fn tell(sign: u8, answer: Answer, output: &[u8]) {
-    show::answer(answer, output, sign == b'~');
-    show::number(b" after ", steps_of(answer) as u64);
-    show::touched(tables::is_marked(output, written(answer), LETTER_MARK));
-    if sign != b'!' {
-        show::say(b",");
-    }
+    numbers::amount(list, at, 0, 80)
 }
 
 // A call, told.
-fn lent(
+fn made(
     sign: u8,
+    run: Run,
     table: &[u16],
     upper: &[u8],
     lower: &[u8],
-    run: Run,
     stack: &mut [u32],
     allowance: u32,
     output: &mut [u8],
@@ -81,27 +113,27 @@ fn lent(
 }
 
 // The same with an allowance, so many frames of the stack and an output of so many letters, which are in the list from a place on.
-fn turn(
+fn call(
     sign: u8,
     list: &[u32],
     at: usize,
+    run: Run,
     table: &[u16],
     upper: &[u8],
     lower: &[u8],
-    run: Run,
     stack: &mut [u32],
 ) -> Called {
-    let allowance = script::at(list, at);
-    let frames = script::amount(list, script::skip(at, 1), stack.len() / 4);
-    let room = script::amount(list, script::skip(at, 2), 100);
+    let allowance = numbers::at(list, at, 0);
+    let frames = numbers::amount(list, at, 1, stack.len() / FRAME_CELLS);
+    let room = numbers::amount(list, at, 2, 100);
     let mut output = [LETTER_MARK; 100];
-    lent(
+    made(
         sign,
+        run,
         table,
         upper,
         lower,
-        run,
-        &mut stack[0..4 * frames],
+        &mut stack[0..FRAME_CELLS * frames],
         allowance,
         &mut output[0..room],
     )
@@ -112,10 +144,10 @@ fn calls(
     sign: u8,
     list: &[u32],
     from: usize,
+    first: Run,
     table: &[u16],
     upper: &[u8],
     lower: &[u8],
-    first: Run,
     stack: &mut [u32],
 ) -> Tally {
     let mut run = first;
@@ -123,39 +155,27 @@ fn calls(
     let mut k = from;
     let mut left: u32 = if sign == b'!' { 1 } else { 100 };
     while left > 0 {
-        if script::at(list, script::skip(k, 1)) == script::NONE {
+        if numbers::at(list, k, 1) == numbers::NONE {
             break;
         }
-        let called = turn(sign, list, k, table, upper, lower, run, stack);
+        let called = call(sign, list, k, run, table, upper, lower, stack);
         run = called.run;
         let answer = called.answer;
-        steps = script::plus(steps, steps_of(answer));
-        k = script::skip(k, 3);
+        let told = counted(answer);
+        steps = numbers::plus(steps, told.steps);
+        k = numbers::skip(k, 3);
         left -= 1;
     }
     Tally { run, steps }
 }
 
-// Fills a stack with the numbers of a list from a place on.
-fn fill(stack: &mut [u32], list: &[u32], from: usize) {
-    let mut k = from;
-    let mut i = 0;
-    while i < stack.len() {
-        stack[i] = script::at(list, k);
-        k = script::skip(k, 1);
-        i += 1;
-    }
-}
-
-// Whether a stack is as it was filled.
+// Whether a stack holds the numbers of a list from a place on.
 fn is_filled(stack: &[u32], list: &[u32], from: usize) -> bool {
-    let mut k = from;
     let mut i = 0;
     while i < stack.len() {
-        if stack[i] != script::at(list, k) {
+        if stack[i] != numbers::at(list, from, i) {
             return false;
         }
-        k = script::skip(k, 1);
         i += 1;
     }
     true
@@ -192,37 +212,71 @@ fn begun(sign: u8, list: &[u32], rest: usize, first: Run) -> Run {
         return first;
     }
     Run {
-        task: script::at(list, 1),
-        started: script::at(list, script::skip(rest, 3)),
-        depth: script::at(list, script::skip(rest, 4)),
+        task: numbers::at(list, 1, 0),
+        started: numbers::at(list, rest, 3),
+        depth: numbers::at(list, rest, 4),
     }
 }
 
-// A start, which is told, or the calls after it on a stack of 33,025 frames.
-fn search(sign: u8, list: &[u32], rest: usize, table: &[u16], upper: &[u8], lower: &[u8]) {
-    let started = engine_start::start(table, script::at(list, 1), upper, lower);
+fn ready(run: Run) {
+    show::number(b" ready, run ", run.task as u64);
+    show::number(b" ", run.started as u64);
+    show::number(b" ", run.depth as u64);
+}
+
+// What a start answered: the run, or the refusal and with 12 the states of the cycle.
+fn started(started: Started) {
+    let answer = started.answer;
+    match answer {
+        StartAnswer::Ready => {
+            let run = started.run;
+            ready(run);
+        }
+        StartAnswer::Refused(refusal) => {
+            show::refused(refusal);
+            if started.length > 0 {
+                show::say(b", cycle");
+                let states = started.cycle;
+                show::cells(&states, 0, started.length as usize);
+            }
+        }
+    }
+}
+
+// A start, which is told, or the calls after it, on a stack that begins with the numbers of the line from a place on.
+fn search(
+    sign: u8,
+    line: &[u8],
+    list: &[u32],
+    rest: usize,
+    table: &[u16],
+    upper: &[u8],
+    lower: &[u8],
+) {
+    let begin = engine_start::start(table, numbers::at(list, 1, 0), upper, lower);
     if sign == b'?' {
-        show::started(started);
+        started(begin);
         return;
     }
-    let run = started.run;
+    let run = begin.run;
     let first = begun(sign, list, rest, run);
-    let from = script::skip(rest, 5);
-    let mut stack = [script::NONE; 132100];
-    fill(&mut stack, list, from);
-    let last = calls(sign, list, rest, table, upper, lower, first, &mut stack);
+    let from = numbers::skip(rest, 5);
+    let mut stack = [numbers::NONE; STACK_CELLS];
+    numbers::read(line, from, &mut stack);
+    let last = calls(sign, list, rest, first, table, upper, lower, &mut stack);
     finish(sign, list, from, first, last, &stack);
 }
 
 // CELLS TASK, UPPER, LOWER: the query of a case, on so many cells of the table.
-pub fn query(sign: u8, list: &[u32], cells: &[u16]) {
-    let size = script::amount(list, 0, cells.len());
+pub fn query(sign: u8, line: &[u8], list: &[u32], cells: &[u16]) {
+    let size = numbers::amount(list, 0, 0, cells.len());
     let mut upper = [0u8; 80];
     let up = word(list, 2, &mut upper);
     let mut lower = [0u8; 80];
     let low = word(list, 3 + up, &mut lower);
     search(
         sign,
+        line,
         list,
         4 + up + low,
         &cells[0..size],

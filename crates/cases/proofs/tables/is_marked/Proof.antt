@@ -1,4 +1,4 @@
--- `cases::tables::is_marked` is safe and ends: the measure is what is left of the list. Assumes nothing.
+-- `cases::tables::is_marked` is safe and ends: the measure is what is left of the cells. Assumes nothing.
 use borrow.Author.Needs.{needs}
 use Prim.Native.Nat.{_-_}
 use lib.ListN.{length}
@@ -6,42 +6,12 @@ use Rattle.cases.proofs.tables.is_marked.Statement.{statement}
 use Rattle.cases.proofs.tables.is_marked.Tie as tie
 
 abbrev Inv-loop : tie.InvT-loop
-Inv-loop text from mark i₀ i = Unit {0}
+Inv-loop cells from i₀ i = Unit {0}
 
 abbrev μ-loop : tie.MeasureT-loop
-μ-loop text from mark i₀ i = length text - i
-
-loop-holds : tie.Need-loop-holds Inv-loop μ-loop
-loop-holds c = search needs
-
-shared-slice-read-if1 : tie.Need-shared-slice-read-if1 Inv-loop μ-loop
-shared-slice-read-if1 c = search needs
-
-returns : tie.Need-returns Inv-loop μ-loop
-returns c = search needs
-
-add-i : tie.Need-add-i Inv-loop μ-loop
-add-i c = search needs
-
-loop-less : tie.Need-loop-less Inv-loop μ-loop
-loop-less c = search needs
-
-loop-again : tie.Need-loop-again Inv-loop μ-loop
-loop-again c = search needs
-
-returns-2 : tie.Need-returns-2 Inv-loop μ-loop
-returns-2 c = search needs
+μ-loop cells from i₀ i = length cells - i
 
 pub is-marked-spec : {M : Type 1} → statement M
 is-marked-spec =
     tie.close
-    (tie.spec
-    Inv-loop
-    μ-loop
-    loop-holds
-    shared-slice-read-if1
-    returns
-    add-i
-    loop-less
-    loop-again
-    returns-2)
+    (tie.spec Inv-loop μ-loop (λ c. search needs) (λ c. search needs) (λ c. search needs) (λ c. search needs) (λ c. search needs) (λ c. search needs) (λ c. search needs) (λ c. search needs))

@@ -1,6 +1,5 @@
-// What a line of the script holds: signs, and a list of numbers.
+// What a line of a script holds: signs, and a list of numbers.
 ghost use Prim.Native.Nat.{_≤_};
-ghost use lib.ListN.{length};
 
 // What stands in a list for a number that is not given: as a count, as many as there are.
 pub const NONE: u32 = 4294967295;
@@ -26,21 +25,6 @@ pub fn make_plain(text: &mut [u8]) {
         text[i] = plain(text[i]);
         i += 1;
     }
-}
-
-// Where a sign next stands, or the text's end.
-pub fn find(text: &[u8], from: usize, sign: u8) -> usize
-    requires { ⌜ from ≤ length (now text) ⌝ }
-    ensures { λ r. ⌜ (from ≤ r) × (r ≤ length (now (text .entry))) ⌝ }
-{
-    let mut i = from;
-    while i < text.len() {
-        if text[i] == sign {
-            return i;
-        }
-        i += 1;
-    }
-    i
 }
 
 // Where the reading of numbers stands: the next sign's place, the value of the digits just read and whether there are any; and of the
@@ -132,29 +116,32 @@ fn byte(text: &[u8], at: usize) -> u8 {
     if at < text.len() { text[at] } else { b'|' }
 }
 
-// Puts a number that a sign ends into a list; how many are there then.
-fn put(list: &mut [u32], count: usize, s: Scan, c: u8) -> usize {
+// Puts a number that a sign ends into a list, which begins with the number of a place; how many numbers were read then.
+fn put(list: &mut [u32], from: usize, count: usize, s: Scan, c: u8) -> usize {
     if !s.open {
         return count;
     }
     if goes_on(c) {
         return count;
     }
-    if count < list.len() {
-        list[count] = s.value;
-        return count + 1;
+    let next = skip(count, 1);
+    if from <= count {
+        if count - from < list.len() {
+            list[count - from] = s.value;
+            return next;
+        }
     }
-    count
+    next
 }
 
-// The numbers of a text, up to a bar.
-pub fn numbers(text: &[u8], list: &mut [u32]) {
+// Fills a list with the numbers of a text from a place on, up to a bar.
+pub fn read(text: &[u8], from: usize, list: &mut [u32]) {
     let mut scan = grouped(0, 0, 0);
     let mut count = 0;
     let mut left: u32 = 100000;
     while left > 0 {
         let c = byte(text, scan.at);
-        count = put(list, count, scan, c);
+        count = put(list, from, count, scan, c);
         if c == b'|' {
             return;
         }
@@ -163,22 +150,20 @@ pub fn numbers(text: &[u8], list: &mut [u32]) {
     }
 }
 
-// The number at a place of a list.
-pub fn at(list: &[u32], i: usize) -> u32 {
-    if i < list.len() { list[i] } else { NONE }
+// The number of a list that stands so far behind a place.
+pub fn at(list: &[u32], from: usize, k: usize) -> u32 {
+    if from < list.len() {
+        if k < list.len() - from {
+            return list[from + k];
+        }
+    }
+    NONE
 }
 
-// A count, of so many.
-pub fn least(count: u32, all: usize) -> usize
+// The same as a count, of so many.
+pub fn amount(list: &[u32], from: usize, k: usize, all: usize) -> usize
     ensures { λ r. ⌜ r ≤ all ⌝ }
 {
-    let count = count as usize;
+    let count = at(list, from, k) as usize;
     if count <= all { count } else { all }
-}
-
-// The count at a place of a list, of so many.
-pub fn amount(list: &[u32], i: usize, all: usize) -> usize
-    ensures { λ r. ⌜ r ≤ all ⌝ }
-{
-    least(at(list, i), all)
 }
