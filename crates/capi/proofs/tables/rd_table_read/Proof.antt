@@ -2,6 +2,7 @@
 use mathlib.Core.Path.{sym, ap, _∙_}
 use denote.Ref.{now}
 use borrow.Author.Needs.{needs}
+use Rattle.destination.proofs.Told.{stored-told-one}
 use Rattle.capi.proofs.Sizes.{read-small}
 use Rattle.capi.proofs.tables.rd_table_read.Statement.{statement}
 use Rattle.capi.proofs.tables.rd_table_read.Tie as tie
@@ -12,7 +13,7 @@ read-requires c κs = search needs
 table-numbers-requires : tie.Need-table-numbers-requires
 table-numbers-requires c κs =
     let args = c .before .before .before .before .before .before .args in
-    λ n e. read-small (now (args .text)) (now (args .table)) n (sym (c .before .before .read .ensures .0) ∙ e)
+    λ n e. read-small (now (args .text)) (now (args .table)) n (sym (stored-told-one _ _ (c .before .before .read .ensures .0)) ∙ e)
 
 same-length : tie.Need-same-length
 same-length c = search needs

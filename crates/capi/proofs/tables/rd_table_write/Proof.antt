@@ -2,6 +2,7 @@
 use mathlib.Core.Path.{sym, ap, _∙_}
 use denote.Ref.{now}
 use borrow.Author.Needs.{needs}
+use Rattle.destination.proofs.Told.{stored-told-one}
 use Rattle.capi.proofs.Sizes.{write-small}
 use Rattle.capi.proofs.tables.rd_table_write.Statement.{statement}
 use Rattle.capi.proofs.tables.rd_table_write.Tie as tie
@@ -12,7 +13,7 @@ write-requires c κs = search needs
 table-numbers-requires : tie.Need-table-numbers-requires
 table-numbers-requires c κs =
     let args = c .before .before .before .before .before .before .args in
-    λ n e. write-small (now (args .table)) (now (args .text)) n (sym (c .before .before .write .ensures .0) ∙ e)
+    λ n e. write-small (now (args .table)) (now (args .text)) n (sym (stored-told-one _ _ (c .before .before .write .ensures .0)) ∙ e)
 
 same-length : tie.Need-same-length
 same-length c = search needs
