@@ -13,7 +13,7 @@ use Rattle.destination.specs.Stored.{storedAnswer, storedCells}
 use Rattle.table_parser.specs.declared.Gathered.{Gathered}
 use Rattle.table_parser.specs.declared.Read.the-variants.{Cells, Fault}
 use Rattle.table_format.specs.Table.{Table}
-use Rattle.table_format.specs.Loaded.{cellsOf}
+use Rattle.table_format.specs.Loaded.{mostCells, cellsOf}
 use Rattle.table_format.specs.Parse.{Parsed, accepted, turnedDown, parsed}
 use Rattle.table_items.specs.Draft.{filledUp}
 use Rattle.table_parser.specs.Gathered.{gathered}
@@ -57,7 +57,7 @@ module _ (text destination : List ℕ) where
       cells-found : g .cells ≡ filledUp (cellsOf (found .0))
       cells-found = ap (λ (x : Gathered). x .cells) (as-parsed (accepted (found .0)) (found .1))
 
-      few : n ≤ 4612
+      few : n ≤ mostCells
       few =
           let t = found .0 in
           let b = table-bounded t (read-text text t (found .1) .0) in

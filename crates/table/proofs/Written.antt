@@ -1,5 +1,5 @@
 -- What the writer leaves: the lines of the table that the cells hold, stored one after the other, are the table's text.
-use Prim.Native.Nat.{ℕ, zero, suc, _+_, _-_, _*_, _/_, _<_, _≤_}
+use Prim.Native.Nat.{ℕ, zero, suc, _+_, _-_, _*_, _<_, _≤_}
 use native.Mathlib.Omega.{arith}
 use mathlib.Core.Path.{_≡_, refl, sym, ap, subst, _∙_}
 use mathlib.Core.Option.{some}
@@ -8,10 +8,10 @@ use lib.ListN.{length, getD, take, drop}
 use lib.Seq.{sets, sets-eq}
 use Rattle.table_check.specs.declared.Layout.{Layout}
 use Rattle.table_format.specs.Table.{Arc, Table, Counts, countsOf}
-use Rattle.table_format.specs.Loaded.{countsIn, arcIn, arcsIn, tableIn, loaded}
+use Rattle.table_format.specs.Loaded.{arcWidth, initialsAt, countsIn, arcIn, arcsIn, tableIn, loaded}
 use Rattle.table_format.specs.Line.{charsOf, lineText}
 use Rattle.table_format.specs.Text.{headerBytes, initialBytes, terminalBytes, arcBytes, endBytes, linesBefore, joinLines, textOf}
-use Rattle.table_format.specs.Cells.{arcsAs}
+use Rattle.table_format.specs.Cells.{arcCount, arcsAs}
 use Rattle.table_check.specs.Check.{layoutOf, LaidOut}
 use Rattle.table_format.proofs.All.{All, all-getD}
 use Rattle.table_format.proofs.Rules.{ArcBounded, arcs-bounded}
@@ -38,7 +38,7 @@ held-text cells l =
     record { holds = h; size = omega arith }
 
 -- every cell of arcs between at most 256 states is a byte
-arcs-bytes : (states n : ℕ) (cells : List ℕ) → states ≤ 256 → length cells ≡ 4 * n → All (ArcBounded states) (arcsIn n cells) → All IsByte cells
+arcs-bytes : (states n : ℕ) (cells : List ℕ) → states ≤ 256 → length cells ≡ arcWidth * n → All (ArcBounded states) (arcsIn n cells) → All IsByte cells
 unfolding arcsIn
 arcs-bytes states n [] s e p = tt
 arcs-bytes states zero (x ∷ cells) s e p = absurd (omega arith)
@@ -52,7 +52,7 @@ arcs-bytes states (suc n) (x ∷ y ∷ z ∷ w ∷ cells) s e p =
 -- the parts of the cells, by the layout
 module _ (cells : List ℕ) (l : Layout) where
   abbrev pub initialsPart : List ℕ
-  initialsPart = take (l .terminals - 4) (drop 4 cells)
+  initialsPart = take (l .terminals - initialsAt) (drop initialsAt cells)
 
   abbrev pub terminalsPart : List ℕ
   terminalsPart = take (l .arcs - l .terminals) (drop (l .terminals) cells)
@@ -65,7 +65,7 @@ module _ (cells : List ℕ) (l : Layout) where
     pub arcs : arcsAs (arcsPart cells l laid) ≡ tableIn cells .arcs
     pub initials-count : length initialsPart ≡ getD cells 1 0
     pub terminals-count : length terminalsPart ≡ getD cells 2 0
-    pub arcs-count : length (arcsPart cells l laid) ≡ 4 * getD cells 3 0
+    pub arcs-count : length (arcsPart cells l laid) ≡ arcWidth * getD cells 3 0
     pub bytes : (i : ℕ) → getD (arcsPart cells l laid) i 0 < 256
 
   pub parted : l ≡ layoutOf (countsIn cells) → loaded cells ≡ some (tableIn cells) → Parted
@@ -94,7 +94,7 @@ module _ (cells : List ℕ) (l : Layout) where
         bytes =
             λ i.
             all-getD IsByte part i 0 (omega arith)
-            (arcs-bytes (tableIn cells .states) (length part / 4) part (omega arith) (omega arith)
+            (arcs-bytes (tableIn cells .states) (arcCount part) part (omega arith) (omega arith)
             (subst (All (ArcBounded (tableIn cells .states))) (sym pa) (arcs-bounded (tableIn cells) (h .keeps))));
       }
 
@@ -103,7 +103,7 @@ module _ (cells : List ℕ) (l : Layout) where
       → m₁ ≡ sets d 0 (lineText (headerBytes (countsIn cells)))
       → (p₂ ≡ 19 + 7 * length initialsPart) × (m₂ ≡ sets m₁ 19 (joinLines (map initialBytes initialsPart)))
       → (p₃ ≡ p₂ + 7 * length terminalsPart) × (m₃ ≡ sets m₂ p₂ (joinLines (map terminalBytes terminalsPart)))
-      → (p₄ ≡ p₃ + 15 * (length (arcsPart cells l (h .laid)) / 4)) × (m₄ ≡ sets m₃ p₃ (joinLines (map arcBytes (arcsAs (arcsPart cells l (h .laid))))))
+      → (p₄ ≡ p₃ + 15 * (arcCount (arcsPart cells l (h .laid)))) × (m₄ ≡ sets m₃ p₃ (joinLines (map arcBytes (arcsAs (arcsPart cells l (h .laid))))))
       → m₅ ≡ sets m₄ p₄ (lineText (endBytes (1 + getD cells 1 0 + getD cells 2 0 + getD cells 3 0)))
       → m₅ ≡ textOf (tableIn cells) ++ drop (length (textOf (tableIn cells))) d
   unfolding charsOf

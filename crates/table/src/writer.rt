@@ -2,6 +2,7 @@
 use destination::Answer;
 use refusal::Refusal;
 use refusal::StateCause;
+use table_format::INITIALS_AT;
 ghost use mathlib.Core.Path.{_≡_};
 ghost use mathlib.Core.Option.{some};
 ghost use mathlib.Core.List.{_++_};
@@ -33,7 +34,7 @@ fn write_table(cells: &[u16], text: &mut [u8])
     let arcs = at.arcs;
     let end = at.end;
     table_printer::header_line(text, cells);
-    let initials_end = table_printer::state_lines(text, 19, 2, &cells[4..terminals]);
+    let initials_end = table_printer::state_lines(text, 19, 2, &cells[INITIALS_AT..terminals]);
     let terminals_end = table_printer::state_lines(text, initials_end, 3, &cells[terminals..arcs]);
     let arcs_end = table_printer::arc_lines(text, terminals_end, &cells[arcs..end]);
     table_printer::number_line(text, arcs_end, 5, lines);

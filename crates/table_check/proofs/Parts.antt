@@ -1,5 +1,5 @@
 -- The parts of cells that hold a table whole are the table's lists; with them the rules are those of the table.
-use Prim.Native.Nat.{ℕ, _-_, _*_, _/_, _≤_, _<_}
+use Prim.Native.Nat.{ℕ, _-_, _*_, _≤_, _<_}
 use native.Mathlib.Omega.{arith}
 use mathlib.Core.Path.{_≡_, refl, sym, ap, ap₂, _∙_}
 use mathlib.Core.Bool.{Bool, true, false, cond, _&&_}
@@ -12,18 +12,18 @@ use borrow.Author.Tests.{le-leb, lt-leb}
 use Rattle.table_check.specs.declared.Layout.{Layout}
 use Rattle.table_format.specs.Table.{countsOf}
 use Rattle.table_format.specs.Rules.{countsHold, initialsKeep, terminalsKeep, arcsKeep, keepsRules}
-use Rattle.table_format.specs.Loaded.{countsIn, arcsIn, extent, tableIn, loaded}
+use Rattle.table_format.specs.Loaded.{arcWidth, initialsAt, countsIn, arcsIn, extent, tableIn, loaded}
 use Rattle.table_format.specs.Index.{firstIndex, firstArcs}
-use Rattle.table_format.specs.Cells.{countsAs, arcsAs, Whole}
+use Rattle.table_format.specs.Cells.{countsAs, arcCount, arcsAs, Whole}
 use Rattle.table_check.specs.Check.{LaidOut, layoutOf}
 use Rattle.table_format.proofs.Arcs.{at-equal, arcs-take}
 use Rattle.table_format.proofs.Rules.{header-clear, keeps-parts, counts-bounded}
 use Rattle.table_format.proofs.Loaded.{counts-of}
 
 module _ (cells : List ℕ) (l : Layout) (L : LaidOut cells l) where
-  pub initials-part : take (l .terminals - 4) (drop 4 cells) ≡ tableIn cells .initials
+  pub initials-part : take (l .terminals - initialsAt) (drop initialsAt cells) ≡ tableIn cells .initials
   unfolding tableIn
-  initials-part = at-equal (λ n. take n (drop 4 cells)) (l .terminals - 4) (getD cells 1 0) (omega arith)
+  initials-part = at-equal (λ n. take n (drop initialsAt cells)) (l .terminals - initialsAt) (getD cells 1 0) (omega arith)
 
   pub terminals-part : take (l .arcs - l .terminals) (drop (l .terminals) cells) ≡ tableIn cells .terminals
   unfolding tableIn
@@ -34,7 +34,7 @@ module _ (cells : List ℕ) (l : Layout) (L : LaidOut cells l) where
   abbrev pub arcsPart : List ℕ
   arcsPart = take (l .end - l .arcs) (drop (l .arcs) cells)
 
-  pub arcs-length : length arcsPart ≡ 4 * getD cells 3 0
+  pub arcs-length : length arcsPart ≡ arcWidth * getD cells 3 0
   arcs-length = length-take-le (l .end - l .arcs) (drop (l .arcs) cells) (simp length-drop (omega arith)) ∙ omega arith
 
   pub arcs-whole : Whole arcsPart
@@ -43,7 +43,7 @@ module _ (cells : List ℕ) (l : Layout) (L : LaidOut cells l) where
   pub arcs-part : arcsAs arcsPart ≡ tableIn cells .arcs
   unfolding tableIn
   arcs-part =
-      at-equal (λ n. arcsIn n arcsPart) (length arcsPart / 4) (getD cells 3 0) (let e = arcs-length in omega arith)
+      at-equal (λ n. arcsIn n arcsPart) (arcCount arcsPart) (getD cells 3 0) (let e = arcs-length in omega arith)
       ∙ arcs-take (getD cells 3 0) (l .end - l .arcs) (drop (l .arcs) cells) (omega arith) (simp length-drop (omega arith))
       ∙ ap (λ (n : ℕ). arcsIn (getD cells 3 0) (drop n cells)) (L .arcs-is)
 
@@ -54,7 +54,7 @@ module _ (cells : List ℕ) (l : Layout) (L : LaidOut cells l) where
   -- the rules, part by part
   pub rules-parts : keepsRules (tableIn cells)
       ≡ (countsHold (countsAs (l .states) (getD cells 1 0) (getD cells 2 0) (getD cells 3 0))
-      && (initialsKeep (l .states) (take (l .terminals - 4) (drop 4 cells))
+      && (initialsKeep (l .states) (take (l .terminals - initialsAt) (drop initialsAt cells))
       && (terminalsKeep (l .states) (take (l .arcs - l .terminals) (drop (l .terminals) cells)) && arcsKeep (l .states) (arcsAs arcsPart))))
   unfolding keepsRules
   rules-parts =
@@ -63,11 +63,11 @@ module _ (cells : List ℕ) (l : Layout) (L : LaidOut cells l) where
 
   -- what the index asks, where the rules are kept, and what it is of
   pub index-ready : keepsRules (tableIn cells) ≡ true
-      → Whole arcsPart × (((length arcsPart ≤ 4096) × (l .states ≤ 256)) × (arcsKeep (l .states) (arcsAs arcsPart) ≡ true))
+      → ((arcCount arcsPart ≤ 1024) × (l .states ≤ 256)) × (arcsKeep (l .states) (arcsAs arcsPart) ≡ true)
   index-ready e =
       let k = keeps-parts (tableIn cells) .0 e in
       let b = counts-bounded (countsIn cells) (sym (ap countsHold (counts-of cells (L .whole))) ∙ k .counts) in
-      (arcs-whole, ((omega (arith, arcs-length, b .arcs), omega (arith, b .states, L .states-is)), ap₂ arcsKeep (sym states-part) arcs-part ∙ k .arcs))
+      ((omega (arith, arcs-length, b .arcs), omega (arith, b .states, L .states-is)), ap₂ arcsKeep (sym states-part) arcs-part ∙ k .arcs)
 
   pub index-part : firstIndex (l .states) (arcsAs arcsPart) ≡ firstArcs (tableIn cells)
   index-part = ap₂ firstIndex (sym states-part) arcs-part

@@ -1,12 +1,15 @@
 // The table check: does a loaded table keep every rule, where do its parts stand, and where do each state's arcs begin?
+use table_format::ARC_WIDTH;
+use table_format::INITIALS_AT;
+use table_format::arc_at;
 use table_rules::Judged;
 ghost use mathlib.Core.Path.{_≡_};
 ghost use mathlib.Core.Bool.{true};
 ghost use Prim.Native.Nat.{_≤_};
-ghost use lib.ListN.{length, getD};
+ghost use lib.ListN.{getD};
 ghost use Rattle.table_format.specs.Rules.{initialsKeep, arcsKeep, keepsRules};
 ghost use Rattle.table_format.specs.Loaded.{countsIn, tableIn};
-ghost use Rattle.table_format.specs.Cells.{arcsAs, Whole};
+ghost use Rattle.table_format.specs.Cells.{arcCount, arcsAs};
 ghost use Rattle.table_format.specs.Index.{firstIndex};
 ghost use Rattle.table_check.specs.Check.{layoutOf, LaidOut, checked};
 
@@ -47,39 +50,27 @@ fn initials_hold(list: &[u16], states: u16) -> bool
 
 // Each arc judged with those before it.
 fn each_arc_holds(cells: &[u16], states: u16) -> bool
-    requires { ⌜ Whole (now cells) ⌝ }
     ensures { λ r. ⌜ r ≡ arcsKeep states (arcsAs (now (cells .entry))) ⌝ }
 {
+    let count = cells.len() / ARC_WIDTH;
     let mut top: u64 = 0;
-    let mut at = 0;
-    while at < cells.len() {
-        let source = cells[at];
-        let upper = cells[at + 1];
-        let lower = cells[at + 2];
-        let target = cells[at + 3];
-        let Judged::Kept = table_rules::arc_fault(
-            &cells[..at],
-            states,
-            source,
-            upper,
-            lower,
-            target,
-            top,
-        ) else {
+    let mut n = 0;
+    while n < count {
+        let arc = arc_at(cells, n);
+        let Judged::Kept = table_rules::arc_fault(&cells[..ARC_WIDTH * n], states, arc, top) else {
             return false;
         };
-        let key = table_rules::arc_key(source, upper, lower, target);
+        let key = table_rules::arc_key(arc);
         if top < key {
             top = key;
         }
-        at += 4;
+        n += 1;
     }
     true
 }
 
 // Arcs in order are held by one look at each, others each with those before it.
 fn arcs_hold(cells: &[u16], states: u16) -> bool
-    requires { ⌜ Whole (now cells) ⌝ }
     ensures { λ r. ⌜ r ≡ arcsKeep states (arcsAs (now (cells .entry))) ⌝ }
 {
     if table_order::arcs_rise(cells, states) {
@@ -90,18 +81,18 @@ fn arcs_hold(cells: &[u16], states: u16) -> bool
 
 // The first-arc index of arcs that keep the rules: the arcs of each source are counted, then the counts are added up.
 fn first_arcs(cells: &[u16], states: u16) -> [u16; 257]
-    requires { ⌜ Whole (now cells) ⌝ }
-    requires { ⌜ (length (now cells) ≤ 4096) × (states ≤ 256) ⌝ }
+    requires { ⌜ (arcCount (now cells) ≤ 1024) × (states ≤ 256) ⌝ }
     requires { ⌜ arcsKeep states (arcsAs (now cells)) ≡ true ⌝ }
     ensures { λ r. ⌜ r ≡ firstIndex states (arcsAs (now (cells .entry))) ⌝ }
 {
     let mut first = [0u16; 257];
-    let count = cells.len() / 4;
-    let mut k = 0;
-    while k < count {
-        let next = cells[4 * k] as usize + 1;
+    let count = cells.len() / ARC_WIDTH;
+    let mut n = 0;
+    while n < count {
+        let arc = arc_at(cells, n);
+        let next = arc.source as usize + 1;
         first[next] = first[next] + 1;
-        k += 1;
+        n += 1;
     }
     let mut q: usize = 0;
     while q < states as usize {
@@ -122,7 +113,7 @@ fn cell(cells: &[u16], at: usize) -> u16
 pub fn layout_of(cells: &[u16]) -> Layout
     ensures { λ r. ⌜ r ≡ layoutOf (countsIn (now (cells .entry))) ⌝ }
 {
-    let initials: usize = 4;
+    let initials = INITIALS_AT;
     let terminals = initials + cell(cells, 1) as usize;
     let arcs = terminals + cell(cells, 2) as usize;
     Layout {
@@ -130,7 +121,7 @@ pub fn layout_of(cells: &[u16]) -> Layout
         initials,
         terminals,
         arcs,
-        end: arcs + 4 * cell(cells, 3) as usize,
+        end: arcs + ARC_WIDTH * cell(cells, 3) as usize,
     }
 }
 
@@ -144,7 +135,7 @@ fn keeps_rules(cells: &[u16], at: Layout) -> bool
     let arcs = at.arcs;
     let end = at.end;
     if table_rules::counts_hold(states, cells[1], cells[2], cells[3]) {
-        if initials_hold(&cells[4..terminals], states) {
+        if initials_hold(&cells[INITIALS_AT..terminals], states) {
             if table_order::terminals_hold(&cells[terminals..arcs], states) {
                 return arcs_hold(&cells[arcs..end], states);
             }

@@ -1,5 +1,5 @@
 -- Laws of arcs in cells, four cells an arc.
-use Prim.Native.Nat.{ℕ, zero, suc, _+_, _*_, _/_, _<_, _≤_}
+use Prim.Native.Nat.{ℕ, zero, suc, _+_, _*_, _<_, _≤_}
 use native.Mathlib.Omega.{arith}
 use mathlib.Core.Path.{_≡_, refl, sym, ap, ap₂, _∙_}
 use mathlib.Core.List.{List, [], _∷_, _++_}
@@ -8,8 +8,8 @@ use lib.Seq.{drop-drop, getD-drop, getD-take, length-take-le}
 use mathlib.Core.Bool.{Bool, true, false}
 use Rattle.table_format.specs.Table.{Arc}
 use Rattle.table_format.specs.Rules.{each}
-use Rattle.table_format.specs.Loaded.{arcIn, arcsIn}
-use Rattle.table_format.specs.Cells.{arcAs, arcsAs, Whole}
+use Rattle.table_format.specs.Loaded.{arcWidth, arcIn, arcsIn}
+use Rattle.table_format.specs.Cells.{arcAs, arcCount, arcsAs}
 use Rattle.table_format.proofs.Tests.{and-both}
 use Rattle.table_format.proofs.Each.{each-snoc, each-fails}
 
@@ -59,6 +59,9 @@ arcs-snoc (suc k) cells =
     ∙ ap (λ (a : Arc). arcsIn k (drop 4 cells) ++ (a ∷ []))
     (sym (arc-dropped (drop 4 cells) (4 * k)) ∙ ap arcIn (drop-drop (4 * k) 4 cells ∙ at-equal (λ m. drop m cells) (4 + 4 * k) (4 * suc k) (omega arith)) ∙ arc-dropped cells (4 * suc k)))
 
+pub arcs-next : (k : ℕ) (cells : List ℕ) → arcsIn (k + 1) cells ≡ arcsIn k cells ++ (arcAt cells k ∷ [])
+arcs-next k cells = at-equal (λ n. arcsIn n cells) (k + 1) (suc k) (omega arith) ∙ arcs-snoc k cells
+
 -- the arcs of a part from the front are the first ones
 pub arcs-take : (k m : ℕ) (cells : List ℕ) → 4 * k ≤ m → m ≤ length cells → arcsIn k (take m cells) ≡ arcsIn k cells
 unfolding arcsIn
@@ -93,21 +96,8 @@ arcs-fail test cells n k h f =
     each-fails test noArc (arcsIn n cells) k (omega (arith, length-arcs n cells))
     (ap₂ test (take-arcs n k cells (omega arith)) (getD-arcs n cells k noArc h) ∙ f)
 
--- The same by the place of a cell: `at` cells from the front are whole arcs.
-
-pub arc-here : (cells : List ℕ) (at : ℕ) → at ≡ 4 * (at / 4) → arcAt cells (at / 4) ≡ arcHere cells at
-arc-here cells at e = at-equal (arcHere cells) (4 * (at / 4)) at (omega arith)
-
-pub arcs-here : (cells : List ℕ) (at : ℕ) → at ≡ 4 * (at / 4) → arcsIn ((at + 4) / 4) cells ≡ arcsIn (at / 4) cells ++ (arcHere cells at ∷ [])
-arcs-here cells at e =
-    at-equal (λ n. arcsIn n cells) ((at + 4) / 4) (suc (at / 4)) (omega arith) ∙ arcs-snoc (at / 4) cells
-    ∙ ap (λ (a : Arc). arcsIn (at / 4) cells ++ (a ∷ [])) (arc-here cells at e)
-
--- the arcs before a place, as a part of the cells
-pub front : (cells : List ℕ) (at : ℕ) → at ≡ 4 * (at / 4) → at ≤ length cells → arcsAs (take at cells) ≡ arcsIn (at / 4) cells
-front cells at e h =
-    at-equal (λ n. arcsIn n (take at cells)) (length (take at cells) / 4) (at / 4) (omega (arith, length-take-le at cells h))
-    ∙ arcs-take (at / 4) at cells (omega arith) h
-
-pub whole : (cells : List ℕ) (at : ℕ) → at ≡ 4 * (at / 4) → at ≤ length cells → Whole (take at cells)
-whole cells at e h = omega (arith, length-take-le at cells h)
+-- the arcs of the cells before arc n
+pub front : (cells : List ℕ) (n : ℕ) → n ≤ arcCount cells → arcsAs (take (arcWidth * n) cells) ≡ arcsIn n cells
+front cells n h =
+    at-equal (λ k. arcsIn k (take (arcWidth * n) cells)) (arcCount (take (arcWidth * n) cells)) n (omega (arith, length-take-le (arcWidth * n) cells (omega arith)))
+    ∙ arcs-take n (arcWidth * n) cells (omega arith) (omega arith)

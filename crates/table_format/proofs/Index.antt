@@ -1,5 +1,5 @@
 -- Laws of the first-arc index: arcs are counted by source, and the counts added up.
-use Prim.Native.Nat.{ℕ, zero, suc, _+_, _-_, _*_, _/_, _<_, _≤_}
+use Prim.Native.Nat.{ℕ, zero, suc, _+_, _-_, _<_, _≤_}
 use native.Mathlib.Omega.{arith}
 use mathlib.Core.Path.{_≡_, refl, sym, ap, _∙_}
 use mathlib.Core.Bool.{Bool, true, false, cond}
@@ -12,6 +12,7 @@ use Rattle.table_format.specs.Table.{Arc}
 use Rattle.table_format.specs.Rules.{arcsKeep}
 use Rattle.table_format.specs.Index.{below, tabulate, firstIndex}
 use Rattle.table_format.specs.Loaded.{arcsIn}
+use Rattle.table_format.specs.Cells.{arcOf}
 use Rattle.table_format.proofs.Rules.{ArcBounded, arcs-inside}
 use Rattle.table_format.proofs.All.{All, all-at}
 use Rattle.table_format.proofs.Arcs.{at-equal, noArc, getD-arcs, length-arcs}
@@ -128,9 +129,9 @@ pub counts-none : Counts [] (replicate 257 0)
 counts-none = (length-replicate {A = ℕ} 257 0, λ n h. getD-replicate 257 n 0 0 h)
 
 -- an arc that keeps the rules starts at a state
-pub source-inside : (states : ℕ) (cells : List ℕ) (m at : ℕ) → at ≡ 4 * (at / 4) → at / 4 < m → arcsKeep states (arcsIn m cells) ≡ true → getD cells at 0 < states
-source-inside states cells m at e h K =
-    omega (arith, at-equal (λ n. getD cells n 0) (4 * (at / 4)) at (omega arith), ap (λ (a : Arc). a .source) (getD-arcs m cells (at / 4) noArc h), all-at (ArcBounded states) (arcsIn m cells) (at / 4) noArc (arcs-inside states (arcsIn m cells) K) (omega (arith, length-arcs m cells)) .source)
+pub source-inside : (states : ℕ) (cells : List ℕ) (m k : ℕ) → k < m → arcsKeep states (arcsIn m cells) ≡ true → arcOf cells k .source < states
+source-inside states cells m k h K =
+    omega (arith, ap (λ (a : Arc). a .source) (getD-arcs m cells k noArc h), all-at (ArcBounded states) (arcsIn m cells) k noArc (arcs-inside states (arcsIn m cells) K) (omega (arith, length-arcs m cells)) .source)
 
 -- one arc is counted
 pub counts-more : (arcs : List Arc) (a : Arc) (first : List ℕ) → a .source < 256 → Counts arcs first

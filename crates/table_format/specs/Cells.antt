@@ -17,6 +17,10 @@ arcAs s u l t = record { source = s; upper = u; lower = l; target = t }
 abbrev pub arcHeld : Arc → Held.Arc
 arcHeld a = record { source = a .source; upper = a .upper; lower = a .lower; target = a .target }
 
+-- the arc that code holds so
+abbrev pub arcSaid : Held.Arc → Arc
+arcSaid a = arcAs (a .source) (a .upper) (a .lower) (a .target)
+
 -- how many arcs a list of cells holds
 abbrev pub arcCount : List ℕ → ℕ
 arcCount cells = length cells / arcWidth

@@ -44,16 +44,7 @@ fn arc_item(before: &[u16], states: u16, bytes: [u8; LINE_BYTES], top: u64) -> J
     requires { ⌜ ArcsReady states (now before) top ⌝ }
     ensures { λ r. ⌜ r ≡ judged (arcFaults states (arcsAs (now (before .entry))) (arcFrom bytes)) ⌝ }
 {
-    let arc = arc_in(bytes);
-    table_rules::arc_fault(
-        before,
-        states,
-        arc.source,
-        arc.upper,
-        arc.lower,
-        arc.target,
-        top,
-    )
+    table_rules::arc_fault(before, states, arc_in(bytes), top)
 }
 
 // What a line earns, of the kind that is due.
@@ -124,8 +115,7 @@ pub fn item_key(kind: u8, bytes: [u8; LINE_BYTES]) -> u64
         return table_rules::state_key(number_at(bytes, 1));
     }
     if kind == 4 {
-        let arc = arc_in(bytes);
-        return table_rules::arc_key(arc.source, arc.upper, arc.lower, arc.target);
+        return table_rules::arc_key(arc_in(bytes));
     }
     0
 }

@@ -6,6 +6,7 @@ use mathlib.Core.Bool.{Bool, true, false, _&&_}
 use lib.Bits.{bitOr, or-lt, or-mod, or-shr, or-add-and, and-le-l, and-le-r}
 use lib.Dec.{leb}
 use borrow.Author.Tests.{leb-true, leb-false, le-leb, lt-leb}
+use Rattle.table_format.specs.Table.{Arc}
 use Rattle.table_format.specs.Rules.{letterHolds}
 use Rattle.table_order.specs.Order.{joinedLetters, joinedHold}
 
@@ -25,14 +26,14 @@ and-cross true false false d = refl
 and-cross false b c d = refl
 
 -- the letters of one arc more
-pub joined-more : (n u l : ℕ) → u < 65536 → joinedHold (bitOr n (joinedLetters u l)) ≡ (joinedHold n && (letterHolds u && letterHolds l))
+pub joined-more : (n : ℕ) (a : Arc) → a .upper < 65536 → joinedHold (bitOr n (joinedLetters a)) ≡ (joinedHold n && (letterHolds (a .upper) && letterHolds (a .lower)))
 unfolding joinedHold
-joined-more n u l h =
-    ap₂ (λ (a b : ℕ). leb a 63 && leb b 63) low high ∙ ap₂ (λ (a b : Bool). a && b) (or-limit (n % 65536) u) (or-limit (n / 65536) l)
-    ∙ and-cross (leb (n % 65536) 63) (leb u 63) (leb (n / 65536) 63) (leb l 63)
+joined-more n a h =
+    ap₂ (λ (x y : ℕ). leb x 63 && leb y 63) low high ∙ ap₂ (λ (x y : Bool). x && y) (or-limit (n % 65536) (a .upper)) (or-limit (n / 65536) (a .lower))
+    ∙ and-cross (leb (n % 65536) 63) (leb (a .upper) 63) (leb (n / 65536) 63) (leb (a .lower) 63)
   where
-    low : bitOr n (joinedLetters u l) % 65536 ≡ bitOr (n % 65536) u
-    low = or-mod n (joinedLetters u l) 16 ∙ ap (bitOr (n % 65536)) {x = joinedLetters u l % 65536} {y = u} (omega arith)
+    low : bitOr n (joinedLetters a) % 65536 ≡ bitOr (n % 65536) (a .upper)
+    low = or-mod n (joinedLetters a) 16 ∙ ap (bitOr (n % 65536)) {x = joinedLetters a % 65536} {y = a .upper} (omega arith)
 
-    high : bitOr n (joinedLetters u l) / 65536 ≡ bitOr (n / 65536) l
-    high = or-shr n (joinedLetters u l) 16 ∙ ap (bitOr (n / 65536)) {x = joinedLetters u l / 65536} {y = l} (omega arith)
+    high : bitOr n (joinedLetters a) / 65536 ≡ bitOr (n / 65536) (a .lower)
+    high = or-shr n (joinedLetters a) 16 ∙ ap (bitOr (n / 65536)) {x = joinedLetters a / 65536} {y = a .lower} (omega arith)

@@ -1,21 +1,21 @@
 -- Arcs in the order of their keys: they keep the rules, and a loop goes through them with the largest key so far.
-use Prim.Native.Nat.{ℕ, suc, _+_, _*_, _/_, _<_, _≤_}
+use Prim.Native.Nat.{ℕ, _+_, _*_, _<_, _≤_}
 use native.Mathlib.Omega.{arith}
 use mathlib.Core.Path.{_≡_, refl, sym, ap, ap₂, _∙_}
 use mathlib.Core.Bool.{Bool, true, false, _&&_}
 use mathlib.Core.List.{List, [], _∷_, _++_}
 use lib.Bits.{bitOr}
 use lib.Dec.{leb, ltb}
-use lib.ListN.{getD}
 use borrow.Author.Tests.{ltb-true, leb-true, le-leb}
 use Rattle.table_format.specs.Table.{Arc}
 use Rattle.table_format.specs.Rules.{each, stateHolds, letterHolds, sourceHolds, sameArc, arcFaults, arcsKeep}
 use Rattle.table_format.specs.Loaded.{arcsIn}
+use Rattle.table_format.specs.Cells.{arcOf}
 use Rattle.table_rules.specs.Judge.{largest, repeated}
-use Rattle.table_order.specs.Order.{joinedLetters, joinedHold, orderKey, risesBy, rises, eachRises, lettersHold, arcsRise}
+use Rattle.table_order.specs.Order.{joinedLetters, joinedHold, orderKey, rises, eachRises, lettersHold, arcsRise}
 use Rattle.table_format.proofs.Tests.{and-left, and-right, and-both}
 use Rattle.table_format.proofs.Rules.{arcPasses}
-use Rattle.table_format.proofs.Arcs.{at-equal, arcHere, arc-here, arcs-here, arcs-more, arcs-fail}
+use Rattle.table_format.proofs.Arcs.{arcs-next, arcs-fail}
 use Rattle.table_format.proofs.Each.{each-snoc}
 use Rattle.table_order.proofs.Joined.{joined-more}
 use Rattle.table_rules.proofs.Turn.{kept-empty, largest-snoc}
@@ -41,7 +41,7 @@ arc-unseen before a h = new-by-key orderKey (λ b. sameArc b a) (orderKey a) (λ
 -- with a key at most that of any arc of the last state, its source is a state too
 rising-passes : (n : ℕ) (before : List Arc) (a : Arc) → rises n (largest orderKey before) a ≡ true → (letterHolds (a .upper) && letterHolds (a .lower)) ≡ true
     → orderKey a ≤ n * 4294967296 → arcPasses n before a ≡ true
-unfolding risesBy
+unfolding rises
 rising-passes n before a e f g =
     let u = leb-true (a .upper) 63 (and-left (letterHolds (a .upper)) (letterHolds (a .lower)) f) in
     let l = leb-true (a .lower) 63 (and-right (letterHolds (a .upper)) (letterHolds (a .lower)) f) in
@@ -64,36 +64,34 @@ rising-keep n arcs e =
     let f = and-right (eachRises n arcs) _ e in
     each-passes n [] arcs (and-left (eachRises n arcs) _ e) (and-left (lettersHold arcs) _ f) (leb-true (largest orderKey arcs) (n * 4294967296) (and-right (lettersHold arcs) _ f))
 
--- One turn of the loop, at the place of a cell.
+-- One turn of the loop, at arc k.
 
-module _ (n : ℕ) (cells : List ℕ) (at top : ℕ) (e : at ≡ 4 * (at / 4)) (is : top ≡ largest orderKey (arcsIn (at / 4) cells)) where
-  here : rising n (arcsIn (at / 4) cells) (arcHere cells (4 * (at / 4))) ≡ rises n top (arcHere cells at)
-  here = ap (rising n (arcsIn (at / 4) cells)) (arc-here cells at e) ∙ ap (λ (m : ℕ). rises n m (arcHere cells at)) (sym is)
+module _ (n : ℕ) (cells : List ℕ) (k top : ℕ) (is : top ≡ largest orderKey (arcsIn k cells)) where
+  here : rising n (arcsIn k cells) (arcOf cells k) ≡ rises n top (arcOf cells k)
+  here = ap (λ (m : ℕ). rises n m (arcOf cells k)) (sym is)
 
-  pub rise-more : eachRises n (arcsIn (at / 4) cells) ≡ true → rises n top (arcHere cells at) ≡ true → eachRises n (arcsIn ((at + 4) / 4) cells) ≡ true
-  rise-more r t =
-      at-equal (λ m. eachRises n (arcsIn m cells)) ((at + 4) / 4) (suc (at / 4)) (omega arith) ∙ arcs-more (rising n) cells (at / 4) r (here ∙ t)
+  pub rise-more : eachRises n (arcsIn k cells) ≡ true → rises n top (arcOf cells k) ≡ true → eachRises n (arcsIn (k + 1) cells) ≡ true
+  rise-more r t = ap (eachRises n) (arcs-next k cells) ∙ each-snoc (rising n) (arcsIn k cells) (arcOf cells k) ∙ and-both r (here ∙ t)
 
-  pub rise-fails : (m : ℕ) → at / 4 < m → rises n top (arcHere cells at) ≡ false → arcsRise n (arcsIn m cells) ≡ false
+  pub rise-fails : (m : ℕ) → k < m → rises n top (arcOf cells k) ≡ false → arcsRise n (arcsIn m cells) ≡ false
   unfolding arcsRise
   rise-fails m g t =
-      ap (λ (b : Bool). b && (lettersHold (arcsIn m cells) && leb (largest orderKey (arcsIn m cells)) (n * 4294967296))) (arcs-fail (rising n) cells m (at / 4) g (here ∙ t))
+      ap (λ (b : Bool). b && (lettersHold (arcsIn m cells) && leb (largest orderKey (arcsIn m cells)) (n * 4294967296))) (arcs-fail (rising n) cells m k g (here ∙ t))
 
-  pub rise-top : rises n top (arcHere cells at) ≡ true → orderKey (arcHere cells at) ≡ largest orderKey (arcsIn ((at + 4) / 4) cells)
-  unfolding risesBy
+  pub rise-top : rises n top (arcOf cells k) ≡ true → orderKey (arcOf cells k) ≡ largest orderKey (arcsIn (k + 1) cells)
+  unfolding rises
   rise-top t =
-      let a = arcHere cells at in
-      omega (arith, ltb-true top (orderKey a) (and-right (stateHolds n (a .target)) (ltb top (orderKey a)) t), ap (largest orderKey) (arcs-here cells at e), largest-snoc orderKey (arcsIn (at / 4) cells) a, is)
+      let a = arcOf cells k in
+      omega (arith, ltb-true top (orderKey a) (and-right (stateHolds n (a .target)) (ltb top (orderKey a)) t), ap (largest orderKey) (arcs-next k cells), largest-snoc orderKey (arcsIn k cells) a, is)
 
-  module _ (joined : ℕ) (J : joinedHold joined ≡ lettersHold (arcsIn (at / 4) cells)) where
-    pub letters-more : getD cells (at + 1) 0 < 65536 → joinedHold (bitOr joined (joinedLetters (getD cells (at + 1) 0) (getD cells (at + 2) 0))) ≡ lettersHold (arcsIn ((at + 4) / 4) cells)
+  module _ (joined : ℕ) (J : joinedHold joined ≡ lettersHold (arcsIn k cells)) where
+    pub letters-more : arcOf cells k .upper < 65536 → joinedHold (bitOr joined (joinedLetters (arcOf cells k))) ≡ lettersHold (arcsIn (k + 1) cells)
     letters-more h =
-        joined-more joined (getD cells (at + 1) 0) (getD cells (at + 2) 0) h
-        ∙ ap (λ (b : Bool). b && lettered [] (arcHere cells at)) J ∙ sym (ap lettersHold (arcs-here cells at e) ∙ each-snoc lettered (arcsIn (at / 4) cells) (arcHere cells at))
+        joined-more joined (arcOf cells k) h ∙ ap (λ (b : Bool). b && lettered [] (arcOf cells k)) J
+        ∙ sym (ap lettersHold (arcs-next k cells) ∙ each-snoc lettered (arcsIn k cells) (arcOf cells k))
 
-    pub rise-ends : (m : ℕ) → at / 4 ≡ m → eachRises n (arcsIn (at / 4) cells) ≡ true → arcsRise n (arcsIn m cells) ≡ (joinedHold joined && leb top (n * 4294967296))
+    pub rise-ends : eachRises n (arcsIn k cells) ≡ true → arcsRise n (arcsIn k cells) ≡ (joinedHold joined && leb top (n * 4294967296))
     unfolding arcsRise
-    rise-ends m g r =
-        sym (at-equal (λ k. arcsRise n (arcsIn k cells)) (at / 4) m g)
-        ∙ ap (λ (b : Bool). b && (lettersHold (arcsIn (at / 4) cells) && leb (largest orderKey (arcsIn (at / 4) cells)) (n * 4294967296))) r
-        ∙ ap₂ (λ (b : Bool) (k : ℕ). b && leb k (n * 4294967296)) (sym J) (sym is)
+    rise-ends r =
+        ap (λ (b : Bool). b && (lettersHold (arcsIn k cells) && leb (largest orderKey (arcsIn k cells)) (n * 4294967296))) r
+        ∙ ap₂ (λ (b : Bool) (m : ℕ). b && leb m (n * 4294967296)) (sym J) (sym is)

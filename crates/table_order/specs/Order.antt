@@ -7,26 +7,20 @@ use Rattle.table_format.specs.Table.{Arc}
 use Rattle.table_format.specs.Rules.{each, stateHolds, letterHolds}
 use Rattle.table_rules.specs.Judge.{largest}
 
--- letters as one number; such numbers joined by `|` show whether all those letters are in their limit
-abbrev pub joinedLetters : ℕ → ℕ → ℕ
-joinedLetters u l = l * 65536 + u
+-- the letters of an arc as one number; such numbers joined by `|` show whether all those letters are in their limit
+abbrev pub joinedLetters : Arc → ℕ
+joinedLetters a = a .lower * 65536 + a .upper
 
 unfoldable pub joinedHold : ℕ → Bool
 joinedHold n = leb (n % 65536) 63 && leb (n / 65536) 63
 
 -- a number for an arc by its source and letters: where it rises from arc to arc, sources do not fall and no arc stands twice
-abbrev pub keyBy : ℕ → ℕ → ℕ
-keyBy source letters = source * 4294967296 + letters + 1
-
 abbrev pub orderKey : Arc → ℕ
-orderKey a = keyBy (a .source) (joinedLetters (a .upper) (a .lower))
+orderKey a = a .source * 4294967296 + joinedLetters a + 1
 
 -- a target that is a state and a key above `top`
-unfoldable pub risesBy : ℕ → ℕ → ℕ → ℕ → Bool
-risesBy states target key top = stateHolds states target && ltb top key
-
-abbrev pub rises : ℕ → ℕ → Arc → Bool
-rises states top a = risesBy states (a .target) (orderKey a) top
+unfoldable pub rises : ℕ → ℕ → Arc → Bool
+rises states top a = stateHolds states (a .target) && ltb top (orderKey a)
 
 -- each arc is of that kind, over the keys before it
 abbrev pub eachRises : ℕ → List Arc → Bool

@@ -1,8 +1,11 @@
 // Lists of a table that stand in order: one look at each item shows that they keep the rules.
+use table_format::ARC_WIDTH;
+use table_format::Arc;
+use table_format::arc_at;
 ghost use mathlib.Core.Path.{_≡_};
 ghost use Rattle.table_format.specs.Rules.{terminalsKeep};
-ghost use Rattle.table_format.specs.Cells.{arcsAs, Whole};
-ghost use Rattle.table_order.specs.Order.{joinedLetters, joinedHold, keyBy, risesBy, arcsRise};
+ghost use Rattle.table_format.specs.Cells.{arcSaid, arcsAs};
+ghost use Rattle.table_order.specs.Order.{joinedLetters, joinedHold, orderKey, rises, arcsRise};
 
 // Terminal states that rise are states where the last one is. The loop goes through the whole list, so that several are compared at once.
 pub fn terminals_hold(list: &[u16], states: u16) -> bool
@@ -27,10 +30,10 @@ pub fn terminals_hold(list: &[u16], states: u16) -> bool
 }
 
 // The letters of an arc as one number.
-fn letters(upper: u16, lower: u16) -> u32
-    ensures { λ r. ⌜ r ≡ joinedLetters upper lower ⌝ }
+fn letters(arc: Arc) -> u32
+    ensures { λ r. ⌜ r ≡ joinedLetters (arcSaid arc) ⌝ }
 {
-    lower as u32 * 65536 + upper as u32
+    arc.lower as u32 * 65536 + arc.upper as u32
 }
 
 // Whether letters joined by `|` are all in their limit.
@@ -44,42 +47,37 @@ fn joined_hold(joined: u32) -> bool
 }
 
 // A number for an arc by its source and letters, which rises where arcs stand in order.
-fn order_key(source: u16, letters: u32) -> u64
-    ensures { λ r. ⌜ r ≡ keyBy source letters ⌝ }
+fn order_key(arc: Arc) -> u64
+    ensures { λ r. ⌜ r ≡ orderKey (arcSaid arc) ⌝ }
 {
-    source as u64 * 4294967296 + letters as u64 + 1
+    arc.source as u64 * 4294967296 + letters(arc) as u64 + 1
 }
 
 // Whether an arc has a target that is a state and a key above `top`.
-fn is_rising(states: u16, target: u16, key: u64, top: u64) -> bool
-    ensures { λ r. ⌜ r ≡ risesBy states target key top ⌝ }
+fn is_rising(states: u16, arc: Arc, top: u64) -> bool
+    ensures { λ r. ⌜ r ≡ rises states top (arcSaid arc) ⌝ }
 {
-    if states <= target {
+    if states <= arc.target {
         return false;
     }
-    top < key
+    top < order_key(arc)
 }
 
 // Whether the arcs stand in order: then they keep the rules, and none has to be looked for among those before it. The last source is the
 // largest, so that one alone is held against the states; the letters are joined and held against their limit at the end.
 pub fn arcs_rise(cells: &[u16], states: u16) -> bool
-    requires { ⌜ Whole (now cells) ⌝ }
     ensures { λ r. ⌜ r ≡ arcsRise states (arcsAs (now (cells .entry))) ⌝ }
 {
+    let count = cells.len() / ARC_WIDTH;
     let mut top: u64 = 0;
     let mut joined: u32 = 0;
-    let mut at = 0;
-    while at < cells.len() {
-        let source = cells[at];
-        let upper = cells[at + 1];
-        let lower = cells[at + 2];
-        let target = cells[at + 3];
-        let letters = letters(upper, lower);
-        let key = order_key(source, letters);
-        if is_rising(states, target, key, top) {
-            top = key;
-            joined = joined | letters;
-            at += 4;
+    let mut n = 0;
+    while n < count {
+        let arc = arc_at(cells, n);
+        if is_rising(states, arc, top) {
+            top = order_key(arc);
+            joined = joined | letters(arc);
+            n += 1;
         } else {
             return false;
         }

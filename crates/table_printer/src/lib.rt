@@ -1,13 +1,16 @@
 // Bytes written as lines of text: the line of any bytes, each kind of line of a table, and the lines of a list.
+use table_format::ARC_WIDTH;
+use table_format::Arc;
+use table_format::arc_at;
 ghost use mathlib.Core.Path.{_≡_};
 ghost use mathlib.Core.List.{_∷_, map};
 ghost use Prim.Native.Nat.{ℕ, _+_, _*_, _/_, _%_, _≤_, _<_};
 ghost use lib.ListN.{length, getD};
 ghost use lib.Seq.{sets};
-ghost use Rattle.table_format.specs.Loaded.{countsIn};
+ghost use Rattle.table_format.specs.Loaded.{initialsAt, countsIn};
 ghost use Rattle.table_format.specs.Line.{charsOf, lineText};
 ghost use Rattle.table_format.specs.Text.{number, headerBytes, arcBytes, joinLines};
-ghost use Rattle.table_format.specs.Cells.{arcAs, arcsAs, Whole};
+ghost use Rattle.table_format.specs.Cells.{arcCount, arcSaid, arcsAs};
 
 // The high byte of a number of two bytes.
 pub fn high(n: u16) -> u8
@@ -52,7 +55,7 @@ pub fn put_line(text: &mut [u8], at: usize, bytes: &[u8]) -> usize
 
 // The header line, which opens the text.
 pub fn header_line(text: &mut [u8], cells: &[u16])
-    requires { ⌜ (19 ≤ length (now text)) × (4 ≤ length (now cells)) ⌝ }
+    requires { ⌜ (19 ≤ length (now text)) × (initialsAt ≤ length (now cells)) ⌝ }
     ensures { λ _. ⌜ now (text .exit) ≡ sets (now (text .entry)) 0 (lineText (headerBytes (countsIn (now (cells .entry))))) ⌝ }
 {
     let states = cells[0];
@@ -85,21 +88,21 @@ pub fn number_line(text: &mut [u8], at: usize, kind: u8, n: u16)
 }
 
 // An arc's line.
-fn arc_line(text: &mut [u8], at: usize, source: u16, upper: u16, lower: u16, target: u16)
-    requires { ⌜ (at + 15 ≤ length (now text)) × ((upper < 256) × (lower < 256)) ⌝ }
-    ensures { λ _. ⌜ now (text .exit) ≡ sets (now (text .entry)) at (lineText (arcBytes (arcAs source upper lower target))) ⌝ }
+fn arc_line(text: &mut [u8], at: usize, arc: Arc)
+    requires { ⌜ (at + 15 ≤ length (now text)) × ((arc .upper < 256) × (arc .lower < 256)) ⌝ }
+    ensures { λ _. ⌜ now (text .exit) ≡ sets (now (text .entry)) at (lineText (arcBytes (arcSaid arc))) ⌝ }
 {
     put_line(
         text,
         at,
         &[
             4,
-            high(source),
-            low(source),
-            upper as u8,
-            lower as u8,
-            high(target),
-            low(target),
+            high(arc.source),
+            low(arc.source),
+            arc.upper as u8,
+            arc.lower as u8,
+            high(arc.target),
+            low(arc.target),
         ],
     );
 }
@@ -119,19 +122,19 @@ pub fn state_lines(text: &mut [u8], at: usize, kind: u8, list: &[u16]) -> usize
     to
 }
 
-// The lines of arcs, four cells an arc, and the place after them.
+// The lines of arcs, and the place after them.
 pub fn arc_lines(text: &mut [u8], at: usize, arcs: &[u16]) -> usize
-    requires { ⌜ Whole (now arcs) ⌝ }
-    requires { ⌜ at + 15 * (length (now arcs) / 4) ≤ length (now text) ⌝ }
+    requires { ⌜ at + 15 * arcCount (now arcs) ≤ length (now text) ⌝ }
     requires { ⌜ ((i : ℕ) → getD (now arcs) i 0 < 256) ⌝ }
-    ensures { λ r. ⌜ (r ≡ at + 15 * (length (now (arcs .entry)) / 4)) × (now (text .exit) ≡ sets (now (text .entry)) at (joinLines (map arcBytes (arcsAs (now (arcs .entry)))))) ⌝ }
+    ensures { λ r. ⌜ (r ≡ at + 15 * arcCount (now (arcs .entry))) × (now (text .exit) ≡ sets (now (text .entry)) at (joinLines (map arcBytes (arcsAs (now (arcs .entry)))))) ⌝ }
 {
+    let count = arcs.len() / ARC_WIDTH;
     let mut to = at;
-    let mut i = 0;
-    while i < arcs.len() {
-        arc_line(text, to, arcs[i], arcs[i + 1], arcs[i + 2], arcs[i + 3]);
+    let mut n = 0;
+    while n < count {
+        arc_line(text, to, arc_at(arcs, n));
         to += 15;
-        i += 4;
+        n += 1;
     }
     to
 }

@@ -1,22 +1,22 @@
 -- Laws of the rules: what an item earns, case by case, and when a key shows that an item is new.
-use Prim.Native.Nat.{ℕ, zero, suc, _+_, _-_, _*_, _/_, _<_, _≤_}
+use Prim.Native.Nat.{ℕ, zero, suc, _-_, _<_, _≤_}
 use native.Mathlib.Omega.{arith}
 use mathlib.Core.Path.{_≡_, refl, ap, _∙_}
 use mathlib.Core.Bool.{Bool, true, false, _&&_, _||_, or-false}
 use mathlib.Core.List.{List, [], _∷_}
 use lib.Dec.{eqb, leb, ltb}
 use lib.ListN.{length, getD}
-use borrow.Author.Tests.{ltb-true, ltb-false, leb-true, eqb-true, lt-ltb, le-ltb, le-leb, lt-leb, ne-eqb}
+use borrow.Author.Tests.{ltb-true, ltb-false, leb-true, eqb-true, lt-ltb, le-ltb, le-leb, ne-eqb}
 use Rattle.refusal.specs.declared.InputCause.the-variants.{StateNumber, LetterLimit, StateOrder, SourceOrder, ArcRepeated}
 use Rattle.table_rules.specs.declared.Judged.the-variants.{Kept, Broken}
 use Rattle.table_format.specs.Table.{Arc}
 use Rattle.table_format.specs.Rules.{any, lastIs, each, letterHolds, sourceHolds, sameArc, initialFaults, terminalFaults, arcFaults}
 use Rattle.table_format.specs.Loaded.{arcsIn}
 use Rattle.table_rules.specs.Judge.{judged, hasState, repeated, largest, stateKey, arcKey, lastSource, SourcesRise}
-use Rattle.table_format.specs.Cells.{arcsAs, Whole}
+use Rattle.table_format.specs.Cells.{arcCount, arcOf, arcsAs}
 use Rattle.table_format.proofs.Tests.{and-four, or-right}
 use Rattle.table_format.proofs.Each.{any-append, any-none, each-last}
-use Rattle.table_format.proofs.Arcs.{at-equal, noArc, arcAt, arcHere, length-arcs, getD-arcs, arcs-here}
+use Rattle.table_format.proofs.Arcs.{at-equal, noArc, length-arcs, getD-arcs, arcs-snoc}
 use Rattle.table_rules.proofs.Sources.{last-source}
 
 -- An element that has a larger key than each of a list is none of them.
@@ -70,48 +70,44 @@ module _ (arcs : List Arc) (R : each sourceHolds [] arcs ≡ true) where
       go false e f = omega (arith, at-equal (λ n. getD arcs n noArc .source) i (suc j) (omega (arith, ltb-false i (suc j) e)))
 
 module _ (before : List ℕ) (a : Arc) where
+  -- whether it is among the first n arcs
   abbrev pub Found : ℕ → Bool
-  Found at = any (λ b. sameArc b a) (arcsIn (at / 4) before)
+  Found n = any (λ b. sameArc b a) (arcsIn n before)
 
-  found-last : (at : ℕ) → 4 ≤ at → at ≡ 4 * (at / 4) → Found at ≡ (Found (at - 4) || (sameArc (arcHere before (at - 4)) a || false))
-  found-last at h e =
-      ap (any (λ b. sameArc b a)) (at-equal (λ n. arcsIn n before) (at / 4) ((at - 4 + 4) / 4) (omega arith) ∙ arcs-here before (at - 4) (omega arith))
-      ∙ any-append (λ b. sameArc b a) (arcsIn ((at - 4) / 4) before) (arcHere before (at - 4) ∷ [])
+  found-last : (n : ℕ) → 0 < n → Found n ≡ (Found (n - 1) || (sameArc (arcOf before (n - 1)) a || false))
+  found-last n h =
+      at-equal Found n (suc (n - 1)) (omega arith) ∙ ap (any (λ b. sameArc b a)) (arcs-snoc (n - 1) before)
+      ∙ any-append (λ b. sameArc b a) (arcsIn (n - 1) before) (arcOf before (n - 1) ∷ [])
 
-  pub found-hit : (at : ℕ) → 4 ≤ at → at ≡ 4 * (at / 4) → sameArc (arcHere before (at - 4)) a ≡ true → Found at ≡ true
-  found-hit at h e f = found-last at h e ∙ or-right (Found (at - 4)) _ (ap (λ (x : Bool). x || false) f)
+  pub found-hit : (n : ℕ) → 0 < n → sameArc (arcOf before (n - 1)) a ≡ true → Found n ≡ true
+  found-hit n h f = found-last n h ∙ or-right (Found (n - 1)) _ (ap (λ (x : Bool). x || false) f)
 
-  pub found-miss : (at : ℕ) → 4 ≤ at → at ≡ 4 * (at / 4) → sameArc (arcHere before (at - 4)) a ≡ false → Found at ≡ Found (at - 4)
-  found-miss at h e f = found-last at h e ∙ ap (λ (x : Bool). Found (at - 4) || (x || false)) f ∙ or-false (Found (at - 4))
+  pub found-miss : (n : ℕ) → 0 < n → sameArc (arcOf before (n - 1)) a ≡ false → Found n ≡ Found (n - 1)
+  found-miss n h f = found-last n h ∙ ap (λ (x : Bool). Found (n - 1) || (x || false)) f ∙ or-false (Found (n - 1))
 
-  pub found-none : (at : ℕ) → at < 4 → Found at ≡ false
+  pub found-none : (n : ℕ) → n ≤ 0 → Found n ≡ false
   unfolding arcsIn
-  found-none at h = at-equal (λ n. any (λ b. sameArc b a) (arcsIn n before)) (at / 4) 0 (omega arith)
+  found-none n h = at-equal Found n 0 (omega arith)
 
-  pub found-stop : (at : ℕ) → Whole before → SourcesRise before (a .source) → 4 ≤ at → at ≤ length before → at ≡ 4 * (at / 4)
-      → (getD before (at - 4) 0 ≡ a .source → ⊥) → Found at ≡ false
-  found-stop at W S h g e n = any-none (λ b. sameArc b a) noArc (arcsIn (at / 4) before) none
+  pub found-stop : (n : ℕ) → SourcesRise before (a .source) → 0 < n → n ≤ arcCount before → (arcOf before (n - 1) .source ≡ a .source → ⊥) → Found n ≡ false
+  found-stop n S g h apart = any-none (λ b. sameArc b a) noArc (arcsIn n before) none
     where
-      top : ℕ
-      top = at / 4 - 1
-
       count : ℕ
-      count = length before / 4
+      count = arcCount before
 
-      source-at : (k : ℕ) → k < count → getD (arcsAs before) k noArc .source ≡ getD before (4 * k) 0
+      source-at : (k : ℕ) → k < count → getD (arcsAs before) k noArc .source ≡ arcOf before k .source
       source-at k q = ap (λ (b : Arc). b .source) (getD-arcs count before k noArc q)
 
-      last-is : getD before (4 * (count - 1)) 0 ≤ a .source
-      last-is = omega (arith, S .1, at-equal (λ n. lastSource (arcsIn n before)) count (suc (count - 1)) (omega arith), last-source before (count - 1))
+      last-is : arcOf before (count - 1) .source ≤ a .source
+      last-is = omega (arith, S .1, at-equal (λ m. lastSource (arcsIn m before)) count (suc (count - 1)) (omega arith), last-source before (count - 1))
 
-      none : (k : ℕ) → k < length (arcsIn (at / 4) before) → sameArc (getD (arcsIn (at / 4) before) k noArc) a ≡ false
+      none : (k : ℕ) → k < length (arcsIn n before) → sameArc (getD (arcsIn n before) k noArc) a ≡ false
       none k q =
-          let q₁ : k < at / 4 = omega (arith, length-arcs (at / 4) before) in
-          let low = sources-rise (arcsAs before) (S .0) k top (omega arith) (omega (arith, length-arcs count before)) in
-          let high = sources-rise (arcsAs before) (S .0) top (count - 1) (omega arith) (omega (arith, length-arcs count before)) in
-          let here = at-equal (λ m. getD before m 0) (4 * top) (at - 4) (omega arith) in
-          let apart : getD before (4 * k) 0 ≡ a .source → ⊥ = λ z. n (omega (arith, source-at k (omega arith), source-at top (omega arith), source-at (count - 1) (omega arith), last-is)) in
-          ap (λ (b : Arc). sameArc b a) (getD-arcs (at / 4) before k noArc q₁) ∙ sources-differ (arcAt before k) a apart
+          let q₁ : k < n = omega (arith, length-arcs n before) in
+          let low = sources-rise (arcsAs before) (S .0) k (n - 1) (omega arith) (omega (arith, length-arcs count before)) in
+          let high = sources-rise (arcsAs before) (S .0) (n - 1) (count - 1) (omega arith) (omega (arith, length-arcs count before)) in
+          let differ : arcOf before k .source ≡ a .source → ⊥ = λ z. apart (omega (arith, source-at k (omega arith), source-at (n - 1) (omega arith), source-at (count - 1) (omega arith), last-is)) in
+          ap (λ (b : Arc). sameArc b a) (getD-arcs n before k noArc q₁) ∙ sources-differ (arcOf before k) a differ
 
 -- What an item earns.
 

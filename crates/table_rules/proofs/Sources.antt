@@ -1,22 +1,22 @@
 -- The source of the last arc, against which rule 7 holds the next.
-use Prim.Native.Nat.{ℕ, suc, _*_, _<_, _≤_}
+use Prim.Native.Nat.{ℕ, suc, _<_, _≤_}
 use native.Mathlib.Omega.{arith}
 use mathlib.Core.Path.{_≡_, refl, sym, ap, _∙_}
 use mathlib.Core.List.{List, [], _∷_, _++_}
 use lib.Dec.{leb}
 use borrow.Author.Tests.{le-leb, lt-leb}
-use lib.ListN.{getD}
 use mathlib.Core.Bool.{true, false}
 use Rattle.table_format.specs.Table.{Arc}
 use Rattle.table_format.specs.Rules.{sourceHolds}
 use Rattle.table_format.specs.Loaded.{arcsIn}
 use Rattle.table_rules.specs.Judge.{lastSource}
-use Rattle.table_format.proofs.Arcs.{arcAt, arcs-snoc}
+use Rattle.table_format.specs.Cells.{arcOf}
+use Rattle.table_format.proofs.Arcs.{arcs-snoc}
 
-pub last-source : (cells : List ℕ) (k : ℕ) → lastSource (arcsIn (suc k) cells) ≡ getD cells (4 * k) 0
+pub last-source : (cells : List ℕ) (k : ℕ) → lastSource (arcsIn (suc k) cells) ≡ arcOf cells k .source
 last-source cells k = ap lastSource (arcs-snoc k cells) ∙ last-of (arcsIn k cells)
   where
-    last-of : (arcs : List Arc) → lastSource (arcs ++ (arcAt cells k ∷ [])) ≡ getD cells (4 * k) 0
+    last-of : (arcs : List Arc) → lastSource (arcs ++ (arcOf cells k ∷ [])) ≡ arcOf cells k .source
     last-of [] = refl
     last-of (a ∷ []) = refl
     last-of (a ∷ b ∷ rest) = last-of (b ∷ rest)

@@ -1,8 +1,8 @@
 -- One turn of a loop that judges the items of a list: the items so far keep the rules, and no key of theirs is above the top.
-use Prim.Native.Nat.{ℕ, _+_, _*_, _/_, _<_, _≤_, max}
+use Prim.Native.Nat.{ℕ, _+_, _<_, _≤_, max}
 use native.Mathlib.Omega.{arith}
 use native.Mathlib.Numerals.{add-one}
-use mathlib.Core.Path.{_≡_, refl, sym, ap, _∙_}
+use mathlib.Core.Path.{_≡_, refl, ap, _∙_}
 use mathlib.Core.Bool.{true, false}
 use mathlib.Core.List.{List, [], _∷_, _++_}
 use lib.ListN.{length, getD, take}
@@ -10,12 +10,11 @@ use lib.Seq.{take-suc}
 use Rattle.refusal.specs.declared.InputCause.{InputCause}
 use Rattle.table_rules.specs.declared.Judged.the-variants.{Kept, Broken}
 use Rattle.table_format.specs.Rules.{isEmpty, each, arcFaults, arcsKeep}
-use Rattle.table_format.specs.Table.{Arc}
 use Rattle.table_format.specs.Loaded.{arcsIn}
 use Rattle.table_rules.specs.Judge.{judged, largest, arcKey}
-use Rattle.table_format.specs.Cells.{arcsAs}
+use Rattle.table_format.specs.Cells.{arcOf}
 use Rattle.table_format.proofs.Tests.{and-both}
-use Rattle.table_format.proofs.Arcs.{arcHere, arc-here, arcs-here, front, arcs-fail}
+use Rattle.table_format.proofs.Arcs.{arcs-next, arcs-fail}
 use Rattle.table_format.proofs.Each.{each-snoc, each-fails}
 
 -- judged as kept, or not
@@ -56,22 +55,14 @@ module _ {A : Type 0} (key : A → ℕ) where
   pub top-more : (d : A) (xs : List A) (k top : ℕ) → k < length xs → largest key (take k xs) ≤ top → key (getD xs k d) ≤ top → largest key (take (k + 1) xs) ≤ top
   top-more d xs k top h l g = omega (arith, ap (largest key) (ap (λ (n : ℕ). take n xs) (add-one k) ∙ take-suc xs k d h), largest-snoc key (take k xs) (getD xs k d))
 
--- The same for arcs in cells, at the place of a cell.
+-- The same for arcs in cells, at arc k.
 
-module _ (n : ℕ) (cells : List ℕ) (at : ℕ) (e : at ≡ 4 * (at / 4)) (h : at ≤ length cells) where
-  judged-front : judged (arcFaults n (arcsIn (at / 4) cells) (arcHere cells at)) ≡ judged (arcFaults n (arcsAs (take at cells)) (arcHere cells at))
-  judged-front = ap (λ (l : List Arc). judged (arcFaults n l (arcHere cells at))) (sym (front cells at e h))
+module _ (n : ℕ) (cells : List ℕ) (k : ℕ) where
+  pub keep-arc : arcsKeep n (arcsIn k cells) ≡ true → judged (arcFaults n (arcsIn k cells) (arcOf cells k)) ≡ Kept → arcsKeep n (arcsIn (k + 1) cells) ≡ true
+  keep-arc K e = ap (arcsKeep n) (arcs-next k cells) ∙ keep-snoc (arcFaults n) (arcsIn k cells) (arcOf cells k) K e
 
-  pub keep-arc : arcsKeep n (arcsIn (at / 4) cells) ≡ true → judged (arcFaults n (arcsAs (take at cells)) (arcHere cells at)) ≡ Kept
-      → arcsKeep n (arcsIn ((at + 4) / 4) cells) ≡ true
-  keep-arc K k = ap (arcsKeep n) (arcs-here cells at e) ∙ keep-snoc (arcFaults n) (arcsIn (at / 4) cells) (arcHere cells at) K (judged-front ∙ k)
+  pub fail-arc : (f : InputCause) (m : ℕ) → k < m → judged (arcFaults n (arcsIn k cells) (arcOf cells k)) ≡ Broken f → arcsKeep n (arcsIn m cells) ≡ false
+  fail-arc f m h e = arcs-fail (λ before a. isEmpty (arcFaults n before a)) cells m k h (broken-some (arcFaults n (arcsIn k cells) (arcOf cells k)) f e)
 
-  pub fail-arc : (f : InputCause) (m : ℕ) → at / 4 < m → judged (arcFaults n (arcsAs (take at cells)) (arcHere cells at)) ≡ Broken f
-      → arcsKeep n (arcsIn m cells) ≡ false
-  fail-arc f m g k =
-      arcs-fail (λ before a. isEmpty (arcFaults n before a)) cells m (at / 4) g
-      (ap (λ (a : Arc). isEmpty (arcFaults n (arcsIn (at / 4) cells) a)) (arc-here cells at e)
-      ∙ broken-some (arcFaults n (arcsIn (at / 4) cells) (arcHere cells at)) f (judged-front ∙ k))
-
-  pub top-arc : (top : ℕ) → largest arcKey (arcsIn (at / 4) cells) ≤ top → arcKey (arcHere cells at) ≤ top → largest arcKey (arcsIn ((at + 4) / 4) cells) ≤ top
-  top-arc top l g = omega (arith, ap (largest arcKey) (arcs-here cells at e), top-snoc arcKey (arcsIn (at / 4) cells) (arcHere cells at) top l g)
+  pub top-arc : (top : ℕ) → largest arcKey (arcsIn k cells) ≤ top → arcKey (arcOf cells k) ≤ top → largest arcKey (arcsIn (k + 1) cells) ≤ top
+  top-arc top l g = omega (arith, ap (largest arcKey) (arcs-next k cells), top-snoc arcKey (arcsIn k cells) (arcOf cells k) top l g)

@@ -1,11 +1,14 @@
 // The rules of a table, 3 to 8, on a header and on one item, with the items of its kind before it.
 use refusal::InputCause;
+use table_format::ARC_WIDTH;
+use table_format::Arc;
+use table_format::arc_at;
 ghost use mathlib.Core.Path.{_≡_};
 ghost use Prim.Native.Nat.{_≤_};
 ghost use mathlib.Core.Bool.{true};
 ghost use Rattle.table_format.specs.Rules.{countsHold, initialFaults, terminalFaults, arcFaults, arcsKeep};
 ghost use Rattle.table_rules.specs.Judge.{judged, hasState, largest, stateKey, arcKey, lastSource, SourcesRise, repeated};
-ghost use Rattle.table_format.specs.Cells.{countsAs, arcAs, arcsAs, Whole};
+ghost use Rattle.table_format.specs.Cells.{countsAs, arcSaid, arcsAs};
 
 // How a rule judges an item: kept, or the lowest refusal that it earns.
 pub enum Judged {
@@ -93,39 +96,39 @@ pub fn terminal_fault(before: &[u16], states: u16, state: u16) -> Judged
 }
 
 // A number for an arc, to the same end.
-pub fn arc_key(source: u16, upper: u16, lower: u16, target: u16) -> u64
-    ensures { λ r. ⌜ r ≡ arcKey (arcAs source upper lower target) ⌝ }
+pub fn arc_key(arc: Arc) -> u64
+    ensures { λ r. ⌜ r ≡ arcKey (arcSaid arc) ⌝ }
 {
-    source as u64 * 4294967296 + lower as u64 * 16777216 + upper as u64 * 65536 + target as u64 + 1
+    arc.source as u64 * 4294967296 + arc.lower as u64 * 16777216 + arc.upper as u64 * 65536 + arc.target as u64 + 1
 }
 
 // The source of the last of some arcs, 0 where there is none.
 fn last_source(before: &[u16]) -> u16
-    requires { ⌜ Whole (now before) ⌝ }
     ensures { λ r. ⌜ r ≡ lastSource (arcsAs (now (before .entry))) ⌝ }
 {
-    let n = before.len();
-    if n < 4 {
+    let count = before.len() / ARC_WIDTH;
+    if count == 0 {
         return 0;
     }
-    before[n - 4]
+    let last = arc_at(before, count - 1);
+    last.source
 }
 
-// Whether an arc is in a list of whole arcs whose sources rise to at most its own: it is looked for among the last ones, of its source.
-fn is_repeated(before: &[u16], source: u16, upper: u16, lower: u16, target: u16) -> bool
-    requires { ⌜ Whole (now before) ⌝ }
-    requires { ⌜ SourcesRise (now before) source ⌝ }
-    ensures { λ r. ⌜ r ≡ repeated (arcsAs (now (before .entry))) (arcAs source upper lower target) ⌝ }
+// Whether an arc is in a list of arcs whose sources rise to at most its own: it is looked for among the last ones, of its source.
+fn is_repeated(before: &[u16], arc: Arc) -> bool
+    requires { ⌜ SourcesRise (now before) (arc .source) ⌝ }
+    ensures { λ r. ⌜ r ≡ repeated (arcsAs (now (before .entry))) (arcSaid arc) ⌝ }
 {
-    let mut at = before.len();
-    while 4 <= at {
-        at -= 4;
-        if before[at] != source {
+    let mut n = before.len() / ARC_WIDTH;
+    while 0 < n {
+        n -= 1;
+        let other = arc_at(before, n);
+        if other.source != arc.source {
             return false;
         }
-        if before[at + 1] == upper {
-            if before[at + 2] == lower {
-                if before[at + 3] == target {
+        if other.upper == arc.upper {
+            if other.lower == arc.lower {
+                if other.target == arc.target {
                     return true;
                 }
             }
@@ -135,39 +138,30 @@ fn is_repeated(before: &[u16], source: u16, upper: u16, lower: u16, target: u16)
 }
 
 // An arc, after arcs that keep the rules. One whose key is above `top`, which no key before it is, is new.
-pub fn arc_fault(
-    before: &[u16],
-    states: u16,
-    source: u16,
-    upper: u16,
-    lower: u16,
-    target: u16,
-    top: u64,
-) -> Judged
-    requires { ⌜ Whole (now before) ⌝ }
+pub fn arc_fault(before: &[u16], states: u16, arc: Arc, top: u64) -> Judged
     requires { ⌜ arcsKeep states (arcsAs (now before)) ≡ true ⌝ }
     requires { ⌜ largest arcKey (arcsAs (now before)) ≤ top ⌝ }
-    ensures { λ r. ⌜ r ≡ judged (arcFaults states (arcsAs (now (before .entry))) (arcAs source upper lower target)) ⌝ }
+    ensures { λ r. ⌜ r ≡ judged (arcFaults states (arcsAs (now (before .entry))) (arcSaid arc)) ⌝ }
 {
-    if states <= source {
+    if states <= arc.source {
         return Judged::Broken(InputCause::StateNumber);
     }
-    if states <= target {
+    if states <= arc.target {
         return Judged::Broken(InputCause::StateNumber);
     }
-    if 63 < upper {
+    if 63 < arc.upper {
         return Judged::Broken(InputCause::LetterLimit);
     }
-    if 63 < lower {
+    if 63 < arc.lower {
         return Judged::Broken(InputCause::LetterLimit);
     }
-    if source < last_source(before) {
+    if arc.source < last_source(before) {
         return Judged::Broken(InputCause::SourceOrder);
     }
-    if top < arc_key(source, upper, lower, target) {
+    if top < arc_key(arc) {
         return Judged::Kept;
     }
-    if is_repeated(before, source, upper, lower, target) {
+    if is_repeated(before, arc) {
         Judged::Broken(InputCause::ArcRepeated)
     } else {
         Judged::Kept

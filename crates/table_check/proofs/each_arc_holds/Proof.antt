@@ -1,71 +1,54 @@
-use Prim.Native.Nat.{_*_, _/_, _≤_, _-_}
+use Prim.Native.Nat.{_≤_, _-_}
 use native.Mathlib.Omega.{arith}
-use mathlib.Core.Path.{_≡_, refl, sym, ap, _∙_}
+use mathlib.Core.Path.{_≡_, refl, sym, ap, ap₂, _∙_}
 use mathlib.Core.Bool.{true}
+use mathlib.Core.List.{List}
 use mathlib.Core.Logic.{⊎-elim}
 use denote.Ref.{now}
-use lib.ListN.{length}
 use lib.Seq.{length-take-le}
 use borrow.Author.Needs.{needs}
-use Rattle.table_format.specs.Rules.{each, arcsKeep}
+use Rattle.table_format.specs.declared.Arc as Held
+use Rattle.table_format.specs.Table.{Arc}
+use Rattle.table_format.specs.Rules.{each, arcFaults, arcsKeep}
 use Rattle.table_format.specs.Loaded.{arcsIn}
-use Rattle.table_rules.specs.Judge.{largest, arcKey}
-use Rattle.table_format.proofs.Arcs.{at-equal, arcHere, front, whole}
+use Rattle.table_format.specs.Cells.{arcCount, arcOf, arcSaid}
+use Rattle.table_rules.specs.Judge.{judged, largest, arcKey}
+use Rattle.table_format.proofs.Arcs.{at-equal, front}
 use Rattle.table_rules.proofs.Turn.{keep-arc, fail-arc, top-arc}
 use Rattle.table_check.proofs.each_arc_holds.Statement.{statement}
 use Rattle.table_check.proofs.each_arc_holds.Tie as tie
 
 abbrev Inv-loop : tie.InvT-loop
-Inv-loop cells states top₀ at₀ top at = (at ≤ length cells) × (at ≡ 4 * (at / 4)) × (largest arcKey (arcsIn (at / 4) cells) ≤ top) × (arcsKeep states (arcsIn (at / 4) cells) ≡ true)
+Inv-loop cells states count top₀ n₀ top n =
+    (count ≡ arcCount cells) × (n ≤ count) × (largest arcKey (arcsIn n cells) ≤ top) × (arcsKeep states (arcsIn n cells) ≡ true)
 
 abbrev μ-loop : tie.MeasureT-loop
-μ-loop cells states top₀ at₀ top at = length cells - at
+μ-loop cells states count top₀ n₀ top n = count - n
+
+-- how the arc is judged, after the arcs before it
+judged-here : (c : tie.After-arc-fault Inv-loop μ-loop)
+    → c .arc-fault .result ≡ judged (arcFaults (c .before .before .before .before .before .before .args .states) (arcsIn (c .before .before .before .before .loop .n) (now (c .before .before .before .before .before .before .args .cells))) (arcOf (now (c .before .before .before .before .before .before .args .cells)) (c .before .before .before .before .loop .n)))
+judged-here c =
+    c .arc-fault .ensures
+    ∙ ap₂ (λ (l : List Arc) (a : Held.Arc). judged (arcFaults (c .before .before .before .before .before .before .args .states) l (arcSaid a))) (front (now (c .before .before .before .before .before .before .args .cells)) (c .before .before .before .before .loop .n) (omega arith)) (c .before .before .arc-at .ensures)
 
 loop-holds : tie.Need-loop-holds Inv-loop μ-loop
 unfolding largest each arcsIn
-loop-holds c = (omega arith, omega arith, omega arith, refl)
+loop-holds c = (refl, omega arith, omega arith, refl)
 
-mul-source : tie.Need-mul-source Inv-loop μ-loop
-mul-source c = search needs
+arc-at-requires : tie.Need-arc-at-requires Inv-loop μ-loop
+arc-at-requires c κs = omega arith
 
-shared-slice-read-source : tie.Need-shared-slice-read-source Inv-loop μ-loop
-shared-slice-read-source c = search needs
-
-add-upper : tie.Need-add-upper Inv-loop μ-loop
-add-upper c = search needs
-
-mul-upper : tie.Need-mul-upper Inv-loop μ-loop
-mul-upper c = search needs
-
-shared-slice-read-upper : tie.Need-shared-slice-read-upper Inv-loop μ-loop
-shared-slice-read-upper c = search needs
-
-add-lower : tie.Need-add-lower Inv-loop μ-loop
-add-lower c = search needs
-
-mul-lower : tie.Need-mul-lower Inv-loop μ-loop
-mul-lower c = search needs
-
-shared-slice-read-lower : tie.Need-shared-slice-read-lower Inv-loop μ-loop
-shared-slice-read-lower c = search needs
-
-add-target : tie.Need-add-target Inv-loop μ-loop
-add-target c = search needs
-
-mul-target : tie.Need-mul-target Inv-loop μ-loop
-mul-target c = search needs
-
-shared-slice-read-target : tie.Need-shared-slice-read-target Inv-loop μ-loop
-shared-slice-read-target c = search needs
+mul-arc-fault : tie.Need-mul-arc-fault Inv-loop μ-loop
+mul-arc-fault c = omega arith
 
 slice-aggregate-arc-fault : tie.Need-slice-aggregate-arc-fault Inv-loop μ-loop
-slice-aggregate-arc-fault c = sym (length-take-le (c .before .before .before .before .before .before .loop .at) (now (c .before .before .before .before .before .before .before .before .args .cells)) (omega arith))
+slice-aggregate-arc-fault c = sym (length-take-le _ (now (c .before .before .before .before .before .args .cells)) (omega arith))
 
 arc-fault-requires : tie.Need-arc-fault-requires Inv-loop μ-loop
 arc-fault-requires c κs =
-    let w = whole (now (c .before .before .before .before .before .before .before .before .args .cells)) (c .before .before .before .before .before .before .loop .at) (omega arith) (omega arith) in
-    let f = front (now (c .before .before .before .before .before .before .before .before .args .cells)) (c .before .before .before .before .before .before .loop .at) (omega arith) (omega arith) in
-    (w, (ap (arcsKeep (c .before .before .before .before .before .before .before .before .args .states)) f ∙ c .before .before .before .before .before .before .loop .inv .3, omega (arith, ap (largest arcKey) f)))
+    let f = front (now (c .before .before .before .before .before .args .cells)) (c .before .before .before .loop .n) (omega arith) in
+    (ap (arcsKeep (c .before .before .before .before .before .args .states)) f ∙ c .before .before .before .loop .inv .3, omega (arith, ap (largest arcKey) f))
 
 enum-told : tie.Need-enum-told Inv-loop μ-loop
 enum-told c = search needs
@@ -75,32 +58,35 @@ enum-told-2 c = search needs
 
 returns : tie.Need-returns Inv-loop μ-loop
 returns c =
-    sym
-    (fail-arc (c .before .before .before .before .before .before .before .before .before .before .before .args .states) (now (c .before .before .before .before .before .before .before .before .before .before .before .args .cells)) (c .before .before .before .before .before .before .before .before .before .loop .at) (omega arith) (omega arith) (c .enum-told2 .given .0 .0) (length (now (c .before .before .before .before .before .before .before .before .before .before .before .args .cells)) / 4) (omega (arith, c .before .before .before .before .before .before .before .before .before .before .before .pre))
-    (sym (c .before .before .arc-fault .ensures) ∙ c .enum-told2 .given .1))
+    let a = c .before .before .before .before .before .before .before .before .args in
+    sym (fail-arc (a .states) (now (a .cells)) (c .before .before .before .before .before .before .loop .n) (c .enum-told2 .given .0 .0) (arcCount (now (a .cells))) (omega arith) (sym (judged-here (c .before .before)) ∙ c .enum-told2 .given .1))
 
 arc-key-requires : tie.Need-arc-key-requires Inv-loop μ-loop
 arc-key-requires c κs = search needs
 
-add-at : tie.Need-add-at Inv-loop μ-loop
-add-at c = search needs
+add-n : tie.Need-add-n Inv-loop μ-loop
+add-n c = search needs
 
 loop-less : tie.Need-loop-less Inv-loop μ-loop
 loop-less c = search needs
 
 loop-again : tie.Need-loop-again Inv-loop μ-loop
 loop-again c =
-    let below : largest arcKey (arcsIn (c .before .before .before .before .before .before .before .before .before .before .before .loop .at / 4) (now (c .before .before .before .before .before .before .before .before .before .before .before .before .before .args .cells))) ≤ c .if1 .top = ⊎-elim (λ w. omega arith) (λ w. omega arith) (c .if1 .came) in
-    let own : arcKey (arcHere (now (c .before .before .before .before .before .before .before .before .before .before .before .before .before .args .cells)) (c .before .before .before .before .before .before .before .before .before .before .before .loop .at)) ≤ c .if1 .top =
-    ⊎-elim (λ w. omega (arith, c .before .arc-key .ensures)) (λ w. omega (arith, c .before .arc-key .ensures)) (c .if1 .came) in (
+    let a = c .before .before .before .before .before .before .before .before .before .before .args in
+    let l = c .before .before .before .before .before .before .before .before .loop in
+    let key : c .before .arc-key .result ≡ arcKey (arcOf (now (a .cells)) (l .n)) = c .before .arc-key .ensures ∙ ap (λ (x : Held.Arc). arcKey (arcSaid x)) (c .before .before .before .before .before .before .arc-at .ensures) in
+    let below : largest arcKey (arcsIn (l .n) (now (a .cells))) ≤ c .if1 .top = ⊎-elim (λ w. omega arith) (λ w. omega arith) (c .if1 .came) in
+    let own : arcKey (arcOf (now (a .cells)) (l .n)) ≤ c .if1 .top = ⊎-elim (λ w. omega arith) (λ w. omega arith) (c .if1 .came) in (
+      l .inv .0,
       omega arith,
-      omega arith,
-      top-arc (c .before .before .before .before .before .before .before .before .before .before .before .before .before .args .states) (now (c .before .before .before .before .before .before .before .before .before .before .before .before .before .args .cells)) (c .before .before .before .before .before .before .before .before .before .before .before .loop .at) (omega arith) (omega arith) (c .if1 .top) below own,
-      keep-arc (c .before .before .before .before .before .before .before .before .before .before .before .before .before .args .states) (now (c .before .before .before .before .before .before .before .before .before .before .before .before .before .args .cells)) (c .before .before .before .before .before .before .before .before .before .before .before .loop .at) (omega arith) (omega arith) (c .before .before .before .before .before .before .before .before .before .before .before .loop .inv .3) (sym (c .before .before .before .before .arc-fault .ensures) ∙ c .before .before .enum-told .given .1),
+      top-arc (a .states) (now (a .cells)) (l .n) (c .if1 .top) below own,
+      keep-arc (a .states) (now (a .cells)) (l .n) (l .inv .3) (sym (judged-here (c .before .before .before .before)) ∙ c .before .before .enum-told .given .1),
     )
 
 returns-2 : tie.Need-returns-2 Inv-loop μ-loop
-returns-2 c = sym (sym (at-equal (λ n. arcsKeep (c .before .before .before .args .states) (arcsIn n (now (c .before .before .before .args .cells)))) (c .before .loop .at / 4) (length (now (c .before .before .before .args .cells)) / 4) (omega arith)) ∙ c .before .loop .inv .3)
+returns-2 c =
+    let a = c .before .before .before .args in
+    sym (at-equal (λ m. arcsKeep (a .states) (arcsIn m (now (a .cells)))) (arcCount (now (a .cells))) (c .before .loop .n) (omega arith) ∙ c .before .loop .inv .3)
 
 pub each-arc-holds-spec : {M : Type 1} → statement M
 each-arc-holds-spec =
@@ -109,24 +95,15 @@ each-arc-holds-spec =
     Inv-loop
     μ-loop
     loop-holds
-    mul-source
-    shared-slice-read-source
-    add-upper
-    mul-upper
-    shared-slice-read-upper
-    add-lower
-    mul-lower
-    shared-slice-read-lower
-    add-target
-    mul-target
-    shared-slice-read-target
+    arc-at-requires
+    mul-arc-fault
     slice-aggregate-arc-fault
     arc-fault-requires
     enum-told
     enum-told-2
     returns
     arc-key-requires
-    add-at
+    add-n
     loop-less
     loop-again
     returns-2)

@@ -1,91 +1,95 @@
-use Prim.Native.Nat.{ℕ, suc, _+_, _*_, _/_, _≤_, _-_}
+use Prim.Native.Nat.{ℕ, _+_, _<_, _≤_, _-_}
 use native.Mathlib.Omega.{arith}
-use mathlib.Core.Path.{_≡_, refl, sym, subst, _∙_}
+use mathlib.Core.Path.{_≡_, refl, sym, ap, subst}
 use mathlib.Core.List.{List}
 use denote.Ref.{now}
-use lib.ListN.{length, getD, set}
+use lib.ListN.{getD, set}
 use borrow.Author.Needs.{needs}
+use Rattle.table_format.specs.declared.Arc as Held
 use Rattle.table_format.specs.Table.{Arc}
 use Rattle.table_format.specs.Loaded.{arcsIn}
-use Rattle.table_format.specs.Cells.{arcsAs}
-use Rattle.table_format.proofs.Arcs.{at-equal, arcAt, arcs-snoc, length-arcs}
+use Rattle.table_format.specs.Cells.{arcCount, arcOf, arcsAs}
+use Rattle.table_format.proofs.Arcs.{arcs-next, length-arcs}
 use Rattle.table_format.proofs.Index.{ending-few, below-few, source-inside, Counts, Sums, counts-none, counts-more, sums-none, sums-more, sums-all}
 use Rattle.table_check.proofs.first_arcs.Statement.{statement}
 use Rattle.table_check.proofs.first_arcs.Tie as tie
 
 abbrev Inv-loop : tie.InvT-loop
-Inv-loop cells states first₀ count k₀ first k = (count ≡ length cells / 4) × (k ≤ count) × Counts (arcsIn k cells) first
+Inv-loop cells states first₀ count n₀ first n = (count ≡ arcCount cells) × (n ≤ count) × Counts (arcsIn n cells) first
 
 abbrev μ-loop : tie.MeasureT-loop
-μ-loop cells states first₀ count k₀ first k = count - k
+μ-loop cells states first₀ count n₀ first n = count - n
 
 abbrev Inv-loop2 : tie.InvT-loop2
-Inv-loop2 cells states first₀ count k q₀ first q = (q ≤ states) × Sums (arcsAs cells) q first
+Inv-loop2 cells states first₀ count n q₀ first q = (q ≤ states) × Sums (arcsAs cells) q first
 
 abbrev μ-loop2 : tie.MeasureT-loop2
-μ-loop2 cells states first₀ count k q₀ first q = states - q
+μ-loop2 cells states first₀ count n q₀ first q = states - q
+
+-- the source of the arc looked at, which is a state
+source-is : (c : tie.After-arc-at Inv-loop μ-loop Inv-loop2 μ-loop2) → arcOf (now (c .before .before .before .before .args .cells)) (c .before .before .loop .n) .source ≡ c .arc-at .result .source
+source-is c = sym (ap (λ (a : Held.Arc). a .source) (c .arc-at .ensures))
+
+inside : (c : tie.After-arc-at Inv-loop μ-loop Inv-loop2 μ-loop2) → c .arc-at .result .source < c .before .before .before .before .args .states
+inside c =
+    omega (arith, source-is c, source-inside (c .before .before .before .before .args .states) (now (c .before .before .before .before .args .cells)) (arcCount (now (c .before .before .before .before .args .cells))) (c .before .before .loop .n) (omega arith) (c .before .before .before .before .pre .1))
 
 loop-holds : tie.Need-loop-holds Inv-loop μ-loop Inv-loop2 μ-loop2
 unfolding arcsIn
 loop-holds c = (refl, omega arith, counts-none)
 
-mul-next : tie.Need-mul-next Inv-loop μ-loop Inv-loop2 μ-loop2
-mul-next c = search needs
-
-mul-next-2 : tie.Need-mul-next-2 Inv-loop μ-loop Inv-loop2 μ-loop2
-mul-next-2 c = search needs
-
-shared-slice-read-next : tie.Need-shared-slice-read-next Inv-loop μ-loop Inv-loop2 μ-loop2
-shared-slice-read-next c = search needs
+arc-at-requires : tie.Need-arc-at-requires Inv-loop μ-loop Inv-loop2 μ-loop2
+arc-at-requires c κs = omega arith
 
 cast-next : tie.Need-cast-next Inv-loop μ-loop Inv-loop2 μ-loop2
-cast-next c = omega (arith, source-inside (c .before .before .before .args .states) (now (c .before .before .before .args .cells)) (length (now (c .before .before .before .args .cells)) / 4) (4 * c .before .before .loop .k) (omega arith) (omega (arith, c .before .before .before .pre .0)) (c .before .before .before .pre .1 .1))
+cast-next c = omega (arith, inside (c .before))
 
 add-next : tie.Need-add-next Inv-loop μ-loop Inv-loop2 μ-loop2
-add-next c = omega (arith, source-inside (c .before .before .before .args .states) (now (c .before .before .before .args .cells)) (length (now (c .before .before .before .args .cells)) / 4) (4 * c .before .before .loop .k) (omega arith) (omega (arith, c .before .before .before .pre .0)) (c .before .before .before .pre .1 .1))
+add-next c = omega (arith, inside (c .before))
 
 mul-first : tie.Need-mul-first Inv-loop μ-loop Inv-loop2 μ-loop2
-mul-first c = omega (arith, source-inside (c .before .before .before .args .states) (now (c .before .before .before .args .cells)) (length (now (c .before .before .before .args .cells)) / 4) (4 * c .before .before .loop .k) (omega arith) (omega (arith, c .before .before .before .pre .0)) (c .before .before .before .pre .1 .1))
+mul-first c = omega (arith, inside (c .before))
 
 array-read-first : tie.Need-array-read-first Inv-loop μ-loop Inv-loop2 μ-loop2
-array-read-first c = omega (arith, source-inside (c .before .before .before .args .states) (now (c .before .before .before .args .cells)) (length (now (c .before .before .before .args .cells)) / 4) (4 * c .before .before .loop .k) (omega arith) (omega (arith, c .before .before .before .pre .0)) (c .before .before .before .pre .1 .1))
+array-read-first c = omega (arith, inside (c .before))
 
 add-first : tie.Need-add-first Inv-loop μ-loop Inv-loop2 μ-loop2
 add-first c =
-    omega (
-      arith,
-      source-inside (c .before .before .before .args .states) (now (c .before .before .before .args .cells)) (length (now (c .before .before .before .args .cells)) / 4) (4 * c .before .before .loop .k) (omega arith) (omega (arith, c .before .before .before .pre .0)) (c .before .before .before .pre .1 .1),
-      c .before .before .loop .inv .2 .1 (getD (now (c .before .before .before .args .cells)) (4 * c .before .before .loop .k) 0 + 1) (omega (arith, source-inside (c .before .before .before .args .states) (now (c .before .before .before .args .cells)) (length (now (c .before .before .before .args .cells)) / 4) (4 * c .before .before .loop .k) (omega arith) (omega (arith, c .before .before .before .pre .0)) (c .before .before .before .pre .1 .1))),
-      ending-few (arcsIn (c .before .before .loop .k) (now (c .before .before .before .args .cells))) (getD (now (c .before .before .before .args .cells)) (4 * c .before .before .loop .k) 0 + 1),
-      length-arcs (c .before .before .loop .k) (now (c .before .before .before .args .cells)),
-    )
+    let cells = now (c .before .before .before .before .before .args .cells) in
+    let next = c .before .arc-at .result .source + 1 in
+    let in-reach = inside (c .before) in
+    omega (arith, c .before .before .before .loop .inv .2 .1 next (omega arith), ending-few (arcsIn (c .before .before .before .loop .n) cells) next, length-arcs (c .before .before .before .loop .n) cells)
 
 mul-first-2 : tie.Need-mul-first-2 Inv-loop μ-loop Inv-loop2 μ-loop2
-mul-first-2 c = omega (arith, source-inside (c .before .before .before .args .states) (now (c .before .before .before .args .cells)) (length (now (c .before .before .before .args .cells)) / 4) (4 * c .before .before .loop .k) (omega arith) (omega (arith, c .before .before .before .pre .0)) (c .before .before .before .pre .1 .1))
+mul-first-2 c = omega (arith, inside (c .before))
 
 array-write-first : tie.Need-array-write-first Inv-loop μ-loop Inv-loop2 μ-loop2
-array-write-first c = omega (arith, source-inside (c .before .before .before .args .states) (now (c .before .before .before .args .cells)) (length (now (c .before .before .before .args .cells)) / 4) (4 * c .before .before .loop .k) (omega arith) (omega (arith, c .before .before .before .pre .0)) (c .before .before .before .pre .1 .1))
+array-write-first c = omega (arith, inside (c .before))
 
-add-k : tie.Need-add-k Inv-loop μ-loop Inv-loop2 μ-loop2
-add-k c = search needs
+add-n : tie.Need-add-n Inv-loop μ-loop Inv-loop2 μ-loop2
+add-n c = search needs
 
 loop-less : tie.Need-loop-less Inv-loop μ-loop Inv-loop2 μ-loop2
 loop-less c = search needs
 
 loop-again : tie.Need-loop-again Inv-loop μ-loop Inv-loop2 μ-loop2
-loop-again c = (
-  c .before .before .loop .inv .0,
-  omega arith,
-  subst (λ (l : List Arc). Counts l (set (c .before .before .loop .first) (getD (now (c .before .before .before .args .cells)) (4 * c .before .before .loop .k) 0 + 1) (getD (c .before .before .loop .first) (getD (now (c .before .before .before .args .cells)) (4 * c .before .before .loop .k) 0 + 1) 0 + 1))) (sym (at-equal (λ n. arcsIn n (now (c .before .before .before .args .cells))) (c .before .before .loop .k + 1) (suc (c .before .before .loop .k)) (omega arith) ∙ arcs-snoc (c .before .before .loop .k) (now (c .before .before .before .args .cells))))
-      (counts-more (arcsIn (c .before .before .loop .k) (now (c .before .before .before .args .cells))) (arcAt (now (c .before .before .before .args .cells)) (c .before .before .loop .k)) (c .before .before .loop .first) (omega (arith, source-inside (c .before .before .before .args .states) (now (c .before .before .before .args .cells)) (length (now (c .before .before .before .args .cells)) / 4) (4 * c .before .before .loop .k) (omega arith) (omega (arith, c .before .before .before .pre .0)) (c .before .before .before .pre .1 .1))) (c .before .before .loop .inv .2)),
-)
+loop-again c =
+    let cells = now (c .before .before .before .before .before .args .cells) in
+    let l = c .before .before .before .loop in
+    let first : List ℕ = l .first in
+    let a : Arc = arcOf cells (l .n) in
+    let is = source-is (c .before) in
+    let in-reach = inside (c .before) in (
+      l .inv .0,
+      omega arith,
+      subst (λ (s : ℕ). Counts (arcsIn (l .n + 1) cells) (set first (s + 1) (getD first (s + 1) 0 + 1))) is
+          (subst (λ (arcs : List Arc). Counts arcs (set first (a .source + 1) (getD first (a .source + 1) 0 + 1))) (sym (arcs-next (l .n) cells)) (counts-more (arcsIn (l .n) cells) a first (omega arith) (l .inv .2))),
+    )
 
 loop2-holds : tie.Need-loop2-holds Inv-loop μ-loop Inv-loop2 μ-loop2
-loop2-holds c = (
-  omega arith,
-  sums-none (arcsAs (now (c .before .before .args .cells))) (c .before .loop .first)
-      (subst (λ (n : ℕ). Counts (arcsIn n (now (c .before .before .args .cells))) (c .before .loop .first)) (omega (arith, c .before .before .pre .0)) (c .before .loop .inv .2)),
-)
+loop2-holds c =
+    let cells = now (c .before .before .before .args .cells) in
+    (omega arith, sums-none (arcsAs cells) (c .before .loop .first) (subst (λ (n : ℕ). Counts (arcsIn n cells) (c .before .loop .first)) (omega arith) (c .before .loop .inv .2)))
 
 add-first-2 : tie.Need-add-first-2 Inv-loop μ-loop Inv-loop2 μ-loop2
 add-first-2 c = search needs
@@ -104,14 +108,9 @@ array-read-first-3 c = omega arith
 
 add-first-3 : tie.Need-add-first-3 Inv-loop μ-loop Inv-loop2 μ-loop2
 add-first-3 c =
-    omega (
-      arith,
-      c .before .loop2 .inv .1 .counted (c .before .loop2 .q + 1) (omega arith) (omega arith),
-      c .before .loop2 .inv .1 .summed (c .before .loop2 .q) (omega arith),
-      ending-few (arcsAs (now (c .before .before .before .before .args .cells))) (c .before .loop2 .q + 1),
-      below-few (arcsAs (now (c .before .before .before .before .args .cells))) (c .before .loop2 .q),
-      length-arcs (length (now (c .before .before .before .before .args .cells)) / 4) (now (c .before .before .before .before .args .cells)),
-    )
+    let cells = now (c .before .before .before .before .before .args .cells) in
+    let l = c .before .loop2 in
+    omega (arith, l .inv .1 .counted (l .q + 1) (omega arith) (omega arith), l .inv .1 .summed (l .q) (omega arith), ending-few (arcsAs cells) (l .q + 1), below-few (arcsAs cells) (l .q), length-arcs (arcCount cells) cells)
 
 add-first-4 : tie.Need-add-first-4 Inv-loop μ-loop Inv-loop2 μ-loop2
 add-first-4 c = search needs
@@ -129,12 +128,12 @@ loop2-less : tie.Need-loop2-less Inv-loop μ-loop Inv-loop2 μ-loop2
 loop2-less c = search needs
 
 loop2-again : tie.Need-loop2-again Inv-loop μ-loop Inv-loop2 μ-loop2
-loop2-again c = (omega arith, sums-more (arcsAs (now (c .before .before .before .before .args .cells))) (c .before .loop2 .q) (c .before .loop2 .first) (omega arith) (c .before .loop2 .inv .1))
+loop2-again c = (omega arith, sums-more (arcsAs (now (c .before .before .before .before .before .args .cells))) (c .before .loop2 .q) (c .before .loop2 .first) (omega arith) (c .before .loop2 .inv .1))
 
 returns : tie.Need-returns Inv-loop μ-loop Inv-loop2 μ-loop2
 returns c =
-    sums-all (c .before .before .before .before .args .states) (arcsAs (now (c .before .before .before .before .args .cells))) (c .before .loop2 .first) (omega arith) (c .before .before .before .before .pre .1 .1)
-    (subst (λ (n : ℕ). Sums (arcsAs (now (c .before .before .before .before .args .cells))) n (c .before .loop2 .first)) (omega arith) (c .before .loop2 .inv .1))
+    let arcs = arcsAs (now (c .before .before .before .before .before .args .cells)) in
+    sums-all (c .before .before .before .before .before .args .states) arcs (c .before .loop2 .first) (omega arith) (c .before .before .before .before .before .pre .1) (subst (λ (n : ℕ). Sums arcs n (c .before .loop2 .first)) (omega arith) (c .before .loop2 .inv .1))
 
 pub first-arcs-spec : {M : Type 1} → statement M
 first-arcs-spec =
@@ -145,9 +144,7 @@ first-arcs-spec =
     Inv-loop2
     μ-loop2
     loop-holds
-    mul-next
-    mul-next-2
-    shared-slice-read-next
+    arc-at-requires
     cast-next
     add-next
     mul-first
@@ -155,7 +152,7 @@ first-arcs-spec =
     add-first
     mul-first-2
     array-write-first
-    add-k
+    add-n
     loop-less
     loop-again
     loop2-holds

@@ -1,7 +1,7 @@
 use mathlib.Core.Path.{sym, _∙_}
 use denote.Ref.{now}
 use borrow.Author.Needs.{needs}
-use Rattle.table_check.proofs.Parts.{rules-parts, arcs-whole}
+use Rattle.table_check.proofs.Parts.{rules-parts}
 use Rattle.table_check.proofs.keeps_rules.Statement.{statement}
 use Rattle.table_check.proofs.keeps_rules.Tie as tie
 
@@ -57,7 +57,7 @@ part-arcs-hold-end : tie.Need-part-arcs-hold-end
 part-arcs-hold-end c = search needs
 
 arcs-hold-requires : tie.Need-arcs-hold-requires
-arcs-hold-requires c κs = arcs-whole (now (c .before .before .before .before .before .before .before .before .before .before .before .before .before .args .cells)) (c .before .before .before .before .before .before .before .before .before .before .before .before .before .args .at) (c .before .before .before .before .before .before .before .before .before .before .before .before .before .pre)
+arcs-hold-requires c κs = search needs
 
 returns : tie.Need-returns
 returns c =

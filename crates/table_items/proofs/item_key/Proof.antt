@@ -3,7 +3,7 @@ use mathlib.Core.Path.{_≡_, sym, ap, _∙_}
 use borrow.Author.Needs.{needs}
 use Rattle.table_format.specs.declared.Arc.{Arc}
 use Rattle.table_rules.specs.Judge.{arcKey}
-use Rattle.table_format.specs.Cells.{arcAs}
+use Rattle.table_format.specs.Cells.{arcSaid}
 use Rattle.table_format.specs.Parse.{arcFrom}
 use Rattle.table_items.specs.Draft.{itemKey}
 use Rattle.table_scanner.proofs.Padded.{number-as, arc-as}
@@ -33,7 +33,7 @@ returns-2 : tie.Need-returns-2
 returns-2 c =
     let bytes = c .before .before .before .before .args .bytes in
     λ k b e i p.
-    let told : c .arc-key .result ≡ arcKey (arcFrom bytes) = c .arc-key .ensures ∙ ap (λ (a : Arc). arcKey (arcAs (a .source) (a .upper) (a .lower) (a .target))) (c .before .arc-in .ensures) in
+    let told : c .arc-key .result ≡ arcKey (arcFrom bytes) = c .arc-key .ensures ∙ ap (λ (a : Arc). arcKey (arcSaid a)) (c .before .arc-in .ensures) in
     omega (arith, ap (λ j. itemKey j b) (kind-one 4 k (sym (c .before .before .if2 .taken) ∙ e)), told, ap arcKey (arc-as bytes b p))
 
 returns-3 : tie.Need-returns-3

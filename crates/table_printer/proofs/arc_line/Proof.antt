@@ -11,11 +11,11 @@ high-requires c κs = search needs
 low-requires : tie.Need-low-requires
 low-requires c κs = search needs
 
-cast-t13 : tie.Need-cast-t13
-cast-t13 c = search needs
+cast-t10 : tie.Need-cast-t10
+cast-t10 c = search needs
 
-cast-t14 : tie.Need-cast-t14
-cast-t14 c = search needs
+cast-t11 : tie.Need-cast-t11
+cast-t11 c = search needs
 
 high-requires-2 : tie.Need-high-requires-2
 high-requires-2 c κs = search needs
@@ -33,7 +33,9 @@ same-length : tie.Need-same-length
 same-length c = search needs
 
 returns : tie.Need-returns
-returns c = line-as _ _ _ _ _ (λ i. 4 ∷ c .before .before .before .before .before .before .before .high .ensures i ∷ c .before .before .before .before .before .before .low .ensures i ∷ c .before .before .before .before .before .before .before .before .before .before .args .upper ∷ c .before .before .before .before .before .before .before .before .before .before .args .lower ∷ c .before .before .before .before .before .high2 .ensures i ∷ c .before .before .before .before .low2 .ensures i ∷ []) (c .before .before .put-line .ensures .1)
+returns c =
+    let arc = c .before .before .before .before .before .before .before .before .before .before .before .before .args .arc in
+    line-as _ _ _ _ _ (λ i. 4 ∷ c .before .before .before .before .before .before .before .before .before .high .ensures i ∷ c .before .before .before .before .before .before .before .before .low .ensures i ∷ arc .upper ∷ arc .lower ∷ c .before .before .before .before .before .high2 .ensures i ∷ c .before .before .before .before .low2 .ensures i ∷ []) (c .before .before .put-line .ensures .1)
 
 pub arc-line-spec : {M : Type 1} → statement M
 arc-line-spec =
@@ -41,8 +43,8 @@ arc-line-spec =
     (tie.spec
     high-requires
     low-requires
-    cast-t13
-    cast-t14
+    cast-t10
+    cast-t11
     high-requires-2
     low-requires-2
     slice-aggregate-put-line

@@ -8,7 +8,7 @@ use lib.ListN.{length, drop}
 use lib.Seq.{sets}
 use Rattle.table_format.specs.Line.{charsOf}
 use Rattle.table_format.specs.Text.{number, joinLines}
-use Rattle.table_printer.proofs.Lines.{states-turn, states-end}
+use Rattle.table_printer.proofs.Lines.{lines-turn, lines-end}
 use Rattle.table_printer.proofs.state_lines.Statement.{statement}
 use Rattle.table_printer.proofs.state_lines.Tie as tie
 
@@ -53,7 +53,7 @@ loop-again c =
         omega arith,
         (
           omega arith,
-          states-turn (λ s. args .kind ∷ number s) (was .text) _ (was .to) (was .to + 7) (now (args .list)) (was .k) (c .before .before .before .before .before .loop-test .taken) (c .before .before .number-line .ensures) refl
+          lines-turn (λ s. args .kind ∷ number s) 0 (was .text) _ (was .to) (was .to + 7) (now (args .list)) (was .k) (c .before .before .before .before .before .loop-test .taken) (c .before .before .number-line .ensures) refl
               ∙ was .inv .1 .1 .1,
         ),
       ),
@@ -66,7 +66,7 @@ returns : tie.Need-returns Inv-loop μ-loop
 returns c =
     let was = c .before .loop in
     let args = c .before .before .before .before .args in
-    (omega arith, sym (states-end (λ s. args .kind ∷ number s) (was .text) (was .to) (now (args .list)) (was .k) (c .loop-test .left)) ∙ was .inv .1 .1 .1)
+    (omega arith, sym (lines-end (λ s. args .kind ∷ number s) 0 (was .text) (was .to) (now (args .list)) (was .k) (c .loop-test .left)) ∙ was .inv .1 .1 .1)
 
 pub state-lines-spec : {M : Type 1} → statement M
 state-lines-spec =

@@ -76,7 +76,7 @@ part-arc-lines-end : tie.Need-part-arc-lines-end
 part-arc-lines-end c = let h = parts (c .before .before .before .before .before .before .before .before .before .before .before .before .before .before .before) in omega arith
 
 arc-lines-requires : tie.Need-arc-lines-requires
-arc-lines-requires c κs = let h = parts (c .before .before .before .before .before .before .before .before .before .before .before .before .before .before .before .before) in (omega arith, (omega arith, h .bytes))
+arc-lines-requires c κs = let h = parts (c .before .before .before .before .before .before .before .before .before .before .before .before .before .before .before .before) in (omega arith, h .bytes)
 
 number-line-requires : tie.Need-number-line-requires
 number-line-requires c κs = let h = parts (c .before .before .before .before .before .before .before .before .before .before .before .before .before .before .before .before .before .before .before .before) in omega arith
