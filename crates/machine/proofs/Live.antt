@@ -3,20 +3,19 @@ use Prim.Native.Nat.{ℕ, zero, suc, _+_, _*_, _≤_, _<_}
 use native.Mathlib.Omega.{arith}
 use mathlib.Core.Path.{_≡_, refl, sym, ap, subst, _∙_}
 use mathlib.Core.Logic.{_⊎_, inl, inr, ⊎-elim}
-use mathlib.Core.Bool.{Bool, true, false, cond}
 use mathlib.Core.List.{List, [], _∷_}
-use lib.Dec.{eqb}
 use lib.ListN.{length}
 use Rattle.table_format.specs.Table.{Table}
-use Rattle.refusal.specs.Told.{Told}
 use Rattle.machine.specs.declared.Run.{Run}
+use Rattle.machine.specs.declared.Answer.{Answer}
+use Rattle.machine.specs.declared.Answer.the-variants.{Found, Paused, Ended, Refused}
 use Rattle.machine.specs.Query.{Task, recognition, synthesis, analysis, upperSide, lowerSide, reads, Query}
 use Rattle.machine.specs.Machine.{Path, size, output, Allowed, Bounded}
 use Rattle.machine.specs.Tour.{treeSize}
 use Rattle.machine.specs.Call.{at-end, at-reading, at-allowance, at-refusal}
 use Rattle.machine.specs.Transducer.{Passed, passed, sideWritten, lettersToRead, machine}
 use Rattle.machine.specs.Stack.{framesIn}
-use Rattle.machine.specs.Answer.{endedKind, refusedKind}
+use Rattle.machine.specs.Answer.{endedKind, refusedKind, told}
 use Rattle.machine.specs.Reading.{Outcome, toldBy, CallBy, no-place, goes-on}
 use Rattle.machine.specs.Demand.{Lent, CallTells, Ample, AmpleCalls, none, ample, other, oneUnlessEnded, callOn, stepsOn, runAfter, stepsTold, unended, LastEnds, Tells, Demand3}
 use Rattle.machine.proofs.Transducer.{written-length, passed-size}
@@ -57,15 +56,11 @@ module _ (t : Table) (q : Query) where
       none : toldBy o .kind ≡ refusedKind → ⊥
       none e = ⊎-elim (T .never-short (A .frames) .0) (⊎-elim (T .never-short (A .frames) .1) (T .never-full (A .letters))) (T .refusals e)
 
-  one-at-most : (d : Told) → oneUnlessEnded d ≤ 1
-  one-at-most d = go (eqb (d .kind) endedKind)
-    where
-      go : (b : Bool) → cond b 0 1 ≤ 1
-      go true = omega arith
-      go false = omega arith
-
-  none-ended : (d : Told) → d .kind ≡ endedKind → oneUnlessEnded d ≡ 0
-  none-ended d e = ap (λ (k : ℕ). cond (eqb k endedKind) 0 1) e
+  one-at-most : (a : Answer) → oneUnlessEnded (told a .kind) ≤ 1
+  one-at-most (Found steps length) = omega arith
+  one-at-most (Paused steps) = omega arith
+  one-at-most (Ended steps) = omega arith
+  one-at-most (Refused steps refusal) = omega arith
 
   -- no more calls have room enough than there are
   pub no-more : {m : ℕ} {xs : List Lent} → AmpleCalls t q m xs → m ≤ length xs
@@ -78,11 +73,11 @@ module _ (t : Table) (q : Query) where
     steps-enough : (xs : List Lent) (n m : ℕ) (r : Run) → Tells upper lower t q n r xs → AmpleCalls t q m xs → m + unended upper lower r xs ≤ length xs + stepsTold upper lower r xs
     steps-enough [] n zero r T none = omega arith
     steps-enough (x ∷ xs) n (suc m) r T (ample A C) =
-        let k : oneUnlessEnded (toldBy (callOn upper lower r x)) ≤ stepsOn upper lower r x = ⊎-elim (λ h. omega (arith, one-at-most (toldBy (callOn upper lower r x)))) (λ e. omega (arith, none-ended (toldBy (callOn upper lower r x)) e))
+        let k : oneUnlessEnded (toldBy (callOn upper lower r x) .kind) ≤ stepsOn upper lower r x = ⊎-elim (λ h. omega (arith, one-at-most (callOn upper lower r x .called .answer))) (λ e. omega (arith, ap oneUnlessEnded e))
         (progress n r x (callOn upper lower r x) A (T .0)) in
         omega (arith, steps-enough xs (n + stepsOn upper lower r x) m (runAfter upper lower r x) (T .1) C)
     steps-enough (x ∷ xs) n m r T (other C) =
-        omega (arith, one-at-most (toldBy (callOn upper lower r x)), steps-enough xs (n + stepsOn upper lower r x) m (runAfter upper lower r x) (T .1) C)
+        omega (arith, one-at-most (callOn upper lower r x .called .answer), steps-enough xs (n + stepsOn upper lower r x) m (runAfter upper lower r x) (T .1) C)
 
     -- where n steps are the whole tree, every further call answers Ended, and so the last
     still-ends : (x : Lent) (xs : List Lent) (n : ℕ) (r : Run) → Tells upper lower t q n r (x ∷ xs) → n + stepsTold upper lower r (x ∷ xs) ≤ treeSize (machine t q) → treeSize (machine t q) ≤ n

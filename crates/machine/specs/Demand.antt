@@ -6,7 +6,6 @@ use mathlib.Core.Bool.{true, cond}
 use mathlib.Core.List.{List, [], _∷_, _++_}
 use lib.ListN.{length, take}
 use lib.Dec.{eqb, leb}
-use Rattle.refusal.specs.Told.{Told}
 use Rattle.table_format.specs.Table.{Table}
 use Rattle.table_format.specs.Loaded.{loaded}
 use Rattle.machine.specs.declared.Run.{Run}
@@ -57,9 +56,9 @@ module _ (t : Table) (q : Query) where
     ample : {n : ℕ} {x : Lent} {xs : List Lent} → Ample x → AmpleCalls n xs → AmpleCalls (suc n) (x ∷ xs)
     other : {n : ℕ} {x : Lent} {xs : List Lent} → AmpleCalls n xs → AmpleCalls n (x ∷ xs)
 
--- 0 for Ended, 1 for any other
-abbrev pub oneUnlessEnded : Told → ℕ
-oneUnlessEnded d = cond (eqb (d .kind) endedKind) 0 1
+-- by the kind of an answer: 0 for Ended, 1 for any other
+abbrev pub oneUnlessEnded : ℕ → ℕ
+oneUnlessEnded kind = cond (eqb kind endedKind) 0 1
 
 -- "Every call gets the start's .. words."
 module _ (upper lower : List ℕ) where
@@ -102,7 +101,7 @@ module _ (upper lower : List ℕ) where
   -- how many calls do not answer Ended
   abbrev pub unended : Run → List Lent → ℕ
   unended r [] = 0
-  unended r (x ∷ xs) = oneUnlessEnded (toldBy (callOn r x)) + unended (runAfter r x) xs
+  unended r (x ∷ xs) = oneUnlessEnded (toldBy (callOn r x) .kind) + unended (runAfter r x) xs
 
   -- the last call answers Ended
   abbrev pub LastEnds : Run → List Lent → Type 0
