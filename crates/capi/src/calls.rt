@@ -2,7 +2,6 @@
 use capi_numbers::Reply;
 use capi_numbers::answer_numbers;
 use engine_reading::next_reading;
-use machine::Run;
 ghost use Rattle.machine.specs.Reading.{outcome, OutcomeIs};
 ghost use Rattle.capi_numbers.specs.Numbers.{replyTold};
 
@@ -13,7 +12,7 @@ pub extern "C" fn rd_next(
     table: &[u16],
     upper: &[u8],
     lower: &[u8],
-    run: &mut Run,
+    run: &mut machine::Run,
     stack: &mut [u32],
     allowance: u32,
     output: &mut [u8],

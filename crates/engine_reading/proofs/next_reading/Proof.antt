@@ -25,10 +25,9 @@ use types.Part.{agg, whole, sub, look-in}
 use sound.WpLaws.{FmC}
 use denote.RattleType.{owns}
 use denote.Laws.{Is, shows}
-use denote.Plain.{uint-vals, uint-tells}
 use denote.Builtin.{u8, u16, u32}
-use denote.Ref.{RefT, MutRef, ptr-vals, mut-tells}
-use denote.Slice.{ShrSlice, MutSlice, Room, slice-vals, shr-slice-tells, mut-slice-tells}
+use denote.Ref.{RefT}
+use denote.Slice.{ShrSlice, MutSlice, Room, slice-vals}
 use denote.Steps.{only, opens, closes, owned, peeks, heard, nothing}
 use denote.Struct.Steps.{spelt}
 use denote.Struct.Laws as LL
@@ -44,6 +43,7 @@ use Rattle.machine.specs.Answer.{told}
 use Rattle.machine.specs.Reading.{outcome, OutcomeIs}
 use Rattle.machine.specs.declared.Run.{Run}
 use Rattle.machine.specs.declared.Called.{Called}
+use Rattle.engine_reading.proofs.Parameters.{parameters, spells, tells}
 use Rattle.engine_reading.proofs.Walking as Walking
 use Rattle.engine_reading.proofs.Walking.{slice, exits, ends, fm, by-hand}
 use Rattle.machine.proofs.Run as R
@@ -123,9 +123,7 @@ module _ {M : Type 1} (𝓤 : URA M) (H : Heap 𝓤) (A : Atoms 𝓤) (W : Given
 
   -- what the parameters own
   abbrev Params-own : Item 𝓤
-  Params-own =
-      ‵ (owns (ShrSlice (named 0) (κs .0) u16 ∷ ShrSlice (named 1) (κs .1 .0) u8 ∷ ShrSlice (named 2) (κs .1 .1 .0) u8 ∷ MutRef (named 3) (κs .1 .1 .1 .0) R.the-row
-      ∷ MutSlice (named 4) (κs .1 .1 .1 .1 .0) u32 ∷ u32 ∷ MutSlice (named 5) (κs .1 .1 .1 .1 .1 .0) u8 ∷ []) a vals)
+  Params-own = ‵ (owns (parameters κs) a vals)
 
   goes : ent 𝓤 (⋆ 𝓤 H A (Five ∷ Args-own ∷ [])) (Advance 𝓤 H A mem run .pre to)
   goes = qed W (Five ∷ Args-own ∷ []) ∵ join ! $ frame ! $ done !
@@ -213,17 +211,7 @@ module _ {M : Type 1} (𝓤 : URA M) (H : Heap 𝓤) (A : Atoms 𝓤) (W : Given
   next-walks : (C : Calls 𝓤 H) (Λ : Loops 𝓤 H) → FmC 𝓤 H (W .laws) C → Triple 𝓤 (C #advance) (Advance 𝓤 H A mem run)
       → Walks 𝓤 H A next.ended (exits next.ended) (WpFn 𝓤 H C Λ code.function) (next.clauses 𝓤 H A mem run)
   next-walks C Λ fm known = walked 𝓤 H A next.ended (exits next.ended) (next.clauses 𝓤 H A mem run) (WpFn 𝓤 H C Λ code.function)
-      (λ κs. (slice-vals, (slice-vals, (slice-vals, (ptr-vals, (slice-vals, (uint-vals w32, (slice-vals, tt))))))))
-      (λ κs. (
-        shr-slice-tells (named 0) (κs .0) u16,
-        (
-          shr-slice-tells (named 1) (κs .1 .0) u8,
-          (
-            shr-slice-tells (named 2) (κs .1 .1 .0) u8,
-            (mut-tells (named 3) (κs .1 .1 .1 .0) R.the-row, (mut-slice-tells (named 4) (κs .1 .1 .1 .1 .0) u32, (uint-tells w32, (mut-slice-tells (named 5) (κs .1 .1 .1 .1 .1 .0) u8, tt)))),
-          ),
-        ),
-      ))
+      spells tells
       (λ κs qs bounds a g are. via 𝓤 _ (fst∗ 𝓤 _ (emp 𝓤)) (walk 𝓤 H A W mem run κs qs bounds
       (a .0) (a .1 .0) (a .1 .1 .0) (a .1 .1 .1 .0) (a .1 .1 .1 .1 .0) (a .1 .1 .1 .1 .1 .0) (a .1 .1 .1 .1 .1 .1 .0) C Λ fm known
       (are .0 .0 .1) (are .1 .0 .0 .1) (are .1 .1 .0 .0 .1) (are .1 .1 .1 .1 .0 .0 .1) (are .1 .1 .1 .1 .1 .0 .1) (are .1 .1 .1 .1 .1 .1 .0 .0 .1)))
