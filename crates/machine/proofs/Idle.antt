@@ -13,10 +13,10 @@ use Rattle.graph.specs.Walk.{Among, Tells}
 use Rattle.graph.proofs.Walk.{cycle-in}
 use Rattle.graph.proofs.Cycle.{has-walk, walk-has}
 use Rattle.machine.specs.Query.{Task}
-use Rattle.machine.specs.Idle.{idle, Leads, leads, IdleArc, IdleWalk, NoIdleCycle, CycleStates, hasIdleCycle}
+use Rattle.machine.specs.Idle.{idle, Leads, leadsBy, IdleArc, IdleWalk, NoIdleCycle, CycleStates, hasIdleCycle}
 
 -- the test tells the arcs
-tells : (arcs : List Arc) (test : Arc → Bool) → Tells (Leads arcs test) (leads arcs test)
+tells : (arcs : List Arc) (test : Arc → Bool) → Tells (Leads arcs test) (leadsBy arcs test)
 tells arcs test s r = (
   λ e. let R = any-found (λ a. test a && (eqb (a .source) s && eqb (a .target) r)) arcs e in
       let a : Arc = R .0 in
@@ -47,7 +47,7 @@ module _ (t : Table) (k : Task) where
   pub cycle-there : hasIdleCycle t k ≡ true → (c : List ℕ) × CycleStates t k c
   unfolding hasIdleCycle
   cycle-there e =
-      let W = has-walk (IdleArc t k) (leads (t .arcs) (idle k)) (t .states) (tells (t .arcs) (idle k)) e in
+      let W = has-walk (IdleArc t k) (leadsBy (t .arcs) (idle k)) (t .states) (tells (t .arcs) (idle k)) e in
       let C = cycle-in (IdleArc t k) (W .0) (W .1) in
       (W .0 ∷ C .0, C .1)
 
@@ -60,4 +60,4 @@ module _ (t : Table) (k : Task) where
 
   pub none-found : Ruled t → hasIdleCycle t k ≡ false → NoIdleCycle t k
   unfolding hasIdleCycle
-  none-found U e s w = true≢false (sym (walk-has (IdleArc t k) (leads (t .arcs) (idle k)) (t .states) (tells (t .arcs) (idle k)) (among t U (idle k)) s w) ∙ e)
+  none-found U e s w = true≢false (sym (walk-has (IdleArc t k) (leadsBy (t .arcs) (idle k)) (t .states) (tells (t .arcs) (idle k)) (among t U (idle k)) s w) ∙ e)

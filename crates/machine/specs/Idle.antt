@@ -34,8 +34,8 @@ pub record Leads (arcs : List Arc) (test : Arc → Bool) (s r : ℕ) : Type 0 wh
   pub passes : test arc ≡ true
 
 -- the same, computed
-abbrev pub leads : List Arc → (Arc → Bool) → ℕ → ℕ → Bool
-leads arcs test s r = any (λ a. test a && (eqb (a .source) s && eqb (a .target) r)) arcs
+abbrev pub leadsBy : List Arc → (Arc → Bool) → ℕ → ℕ → Bool
+leadsBy arcs test s r = any (λ a. test a && (eqb (a .source) s && eqb (a .target) r)) arcs
 
 module _ (t : Table) (k : Task) where
   -- an idle arc leads from s to r
@@ -56,4 +56,4 @@ module _ (t : Table) (k : Task) where
 
   -- whether there is one (cycle-test)
   unfoldable pub hasIdleCycle : Bool
-  hasIdleCycle = hasCycle (leads (t .arcs) (idle k)) (t .states)
+  hasIdleCycle = hasCycle (leadsBy (t .arcs) (idle k)) (t .states)
