@@ -8,7 +8,7 @@ use Rattle.table_format.specs.Rules.{any}
 use Rattle.table_format.proofs.Any.{any-found, any-mem}
 use Rattle.graph.specs.Lists.{upTo}
 use Rattle.graph.specs.Walk.{Through, Walk, Among, Tells}
-use Rattle.graph.specs.Cycle.{backIn, backAfter, onCycle, hasCycle}
+use Rattle.graph.specs.Cycle.{enough, backIn, backAfter, onCycle, hasCycle}
 use Rattle.graph.proofs.Lists.{member-mem, mem-member, upTo-mem, keep-mem, mem-keep}
 use Rattle.graph.proofs.Walk.{Steps, freed, freed-short, walk-below}
 
@@ -22,7 +22,7 @@ module _ (E : ℕ → ℕ → Type 0) (e : ℕ → ℕ → Bool) (n : ℕ) (D : 
 
   on-walk : (s : ℕ) → onCycle e n s ≡ true → Walk E s s
   on-walk s h =
-      let R = any-found (backAfter e n s) (upTo n) h in
+      let R = any-found (backAfter e n s) (enough n) h in
       let S = back-steps s (R .0) s (member-mem s (backIn e n s (R .0)) (R .2)) in
       (S .0, S .1)
 
@@ -44,7 +44,7 @@ module _ (E : ℕ → ℕ → Type 0) (e : ℕ → ℕ → Bool) (n : ℕ) (D : 
     pub walk-on : (s : ℕ) → Walk E s s → onCycle e n s ≡ true
     walk-on s w =
         let F = freed E s (w .0) s (w .1) in
-        any-mem (backAfter e n s) (upTo n) (length (F .states)) (upTo-mem n (length (F .states)) (freed-short E n G F))
+        any-mem (backAfter e n s) (enough n) (length (F .states)) (upTo-mem n (length (F .states)) (freed-short E n G F))
         (mem-member s (backIn e n s (length (F .states))) (through-back s s (F .states) (F .leads)))
 
     -- where a walk comes back, the test says so

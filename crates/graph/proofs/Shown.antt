@@ -11,7 +11,7 @@ use Rattle.table_format.proofs.Tests.{and-left, and-right, and-both}
 use Rattle.table_format.proofs.Any.{any-found, any-mem}
 use Rattle.graph.specs.Lists.{Distinct, AllBelow, member, upTo, lowest}
 use Rattle.graph.specs.Walk.{Through, Walk, CycleStates, Among, Tells}
-use Rattle.graph.specs.Cycle.{backIn, backAfter, onCycle}
+use Rattle.graph.specs.Cycle.{enough, backIn, backAfter, onCycle}
 use Rattle.graph.specs.Reached.{Reached, NoReachedCycle, reached}
 use Rattle.graph.specs.Shown.{ShownFrom, Shown, nextThrough, firstThrough, looped, hasReachedCycle, shownCycle}
 use Rattle.graph.proofs.Lists.{member-mem, mem-member, upTo-mem, mem-upTo, Lowest, lowest-is, before-trans, before-never}
@@ -95,7 +95,7 @@ module _ (E : ℕ → ℕ → Type 0) (e : ℕ → ℕ → Bool) (n : ℕ) (D : 
     size = lowest (backAfter e n s) n
 
     least-size : Lowest (backAfter e n s) n size
-    least-size = let R = any-found (backAfter e n s) (upTo n) h in lowest-is (backAfter e n s) n (R .0) (mem-upTo n (R .0) (R .1)) (R .2)
+    least-size = let R = any-found (backAfter e n s) (enough n) h in lowest-is (backAfter e n s) n (R .0) (mem-upTo n (R .0) (R .1)) (R .2)
 
     first-cycle : FirstIs size s
     first-cycle = first-is size s (back-steps E e n D s size s (member-mem s (backIn e n s size) (least-size .passes)))

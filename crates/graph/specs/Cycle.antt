@@ -5,6 +5,10 @@ use mathlib.Core.List.{List}
 use Rattle.table_format.specs.Rules.{any}
 use Rattle.graph.specs.Lists.{member, keep, upTo}
 
+-- how many states a walk that comes back goes through: fewer than n are enough
+abbrev pub enough : ℕ → List ℕ
+enough n = upTo n
+
 module _ (e : ℕ → ℕ → Bool) (n : ℕ) where
   -- the states from which a walk through m states leads to s
   abbrev pub backIn : ℕ → ℕ → List ℕ
@@ -15,9 +19,9 @@ module _ (e : ℕ → ℕ → Bool) (n : ℕ) where
   abbrev pub backAfter : ℕ → ℕ → Bool
   backAfter s m = member s (backIn s m)
 
-  -- some walk leads from s to s: one through fewer than n states is enough
+  -- some walk leads from s to s
   abbrev pub onCycle : ℕ → Bool
-  onCycle s = any (backAfter s) (upTo n)
+  onCycle s = any (backAfter s) (enough n)
 
   -- some walk comes back to its start
   abbrev pub hasCycle : Bool
