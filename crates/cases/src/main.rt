@@ -1,7 +1,7 @@
 // Runs the cases of a script, its standard input, and prints a line for each. The file `stdin` beside this folder is the script, and
 // says how a case is written.
+mod answers;
 mod searches;
-mod tables;
 
 use bytes::scan;
 use cases_script::numbers;
@@ -9,13 +9,10 @@ use cases_script::show;
 
 // What a case does by its sign, with its line from the colon on and the numbers of it, on the cells of the table.
 fn act(sign: u8, line: &[u8], list: &[u32], cells: &mut [u16]) {
-    match sign {
-        b'<' => tables::read(line, list, cells),
-        b'>' => tables::load(list, cells),
-        b'"' => tables::again(list, cells),
-        b'=' => show::cells(cells, 0, numbers::amount(list, 0, 0, cells.len())),
-        b'@' => tables::index(list, cells),
-        _ => searches::query(sign, line, list, cells),
+    if cases_tables::has(sign) {
+        cases_tables::act(sign, line, list, cells);
+    } else {
+        searches::query(sign, line, list, cells);
     }
 }
 
@@ -43,7 +40,7 @@ fn each(script: &[u8], cells: &mut [u16]) {
 
 fn run(script: &mut [u8]) {
     numbers::make_plain(script);
-    let mut cells = [tables::CELL_MARK; 4700];
+    let mut cells = [cases_tables::CELL_MARK; 4700];
     each(script, &mut cells);
 }
 

@@ -1,16 +1,11 @@
-// Starts and calls of the engine, on the cells of one table.
+// The cases that start a search and call for readings, on the cells of one table.
+use crate::answers;
 use cases_script::numbers;
 use cases_script::show;
 use engine::advance;
-use machine::Answer;
 use machine::Called;
 use machine::Run;
-use machine::StartAnswer;
-use machine::Started;
 ghost use Prim.Native.Nat.{_≤_};
-
-// What an output is filled with: no letter is this.
-const LETTER_MARK: u8 = 255;
 
 // Cells of a frame.
 const FRAME_CELLS: usize = 4;
@@ -18,69 +13,18 @@ const FRAME_CELLS: usize = 4;
 // Cells of a stack of 33,025 frames.
 const STACK_CELLS: usize = 132100;
 
-// What an answer tells: its steps, and how many letters were written.
-struct Counts {
-    steps: u32,
-    length: usize,
-}
-
 // Where calls left a run, and their steps in all.
 struct Tally {
     run: Run,
     steps: u32,
 }
 
-fn counted(answer: Answer) -> Counts {
-    match answer {
-        Answer::Found { steps, length } => Counts {
-            steps,
-            length: length as usize,
-        },
-        Answer::Paused { steps } => Counts { steps, length: 0 },
-        Answer::Ended { steps } => Counts { steps, length: 0 },
-        Answer::Refused { steps, refusal: _ } => Counts { steps, length: 0 },
-    }
-}
-
-fn name(answer: Answer) {
-    match answer {
-        Answer::Found {
-            steps: _,
-            length: _,
-        } => show::say(b" Found"),
-        Answer::Paused { steps: _ } => show::say(b" Paused"),
-        Answer::Ended { steps: _ } => show::say(b" Ended"),
-        Answer::Refused { steps: _, refusal } => show::refused(refusal),
-    }
-}
-
-// The letters of a reading, each after a blank, or with `~` as one word.
-fn spell(sign: u8, letters: &[u8]) {
-    if sign == b'~' {
-        show::say(b" ");
-    }
-    show::letters(letters, sign == b'~');
-}
-
-// An answer, with the output as the call left it.
-fn tell(sign: u8, answer: Answer, output: &[u8]) {
-    let told = counted(answer);
-    let length = told.length;
-    name(answer);
-    if 0 < length {
-        if length <= output.len() {
-            spell(sign, &output[0..length]);
-        }
-    }
-    show::number(b" after ", told.steps as u64);
-    show::touched(show::is_marked(output, length, LETTER_MARK));
-    if sign != b'!' {
-        show::say(b",");
-    }
-}
-
 fn letter(n: u32) -> u8 {
-    if n < 256 { n as u8 } else { LETTER_MARK }
+    if n < 256 {
+        n as u8
+    } else {
+        answers::LETTER_MARK
+    }
 }
 
 // A word of the list, of at most 80 letters: its count of letters, and the letters.
@@ -108,7 +52,7 @@ fn made(
 ) -> Called {
     let called = advance::advance(table, upper, lower, run, stack, allowance, output);
     let answer = called.answer;
-    tell(sign, answer, output);
+    answers::tell(sign, answer, output);
     called
 }
 
@@ -126,7 +70,7 @@ fn call(
     let allowance = numbers::at(list, at, 0);
     let frames = numbers::amount(list, at, 1, stack.len() / FRAME_CELLS);
     let room = numbers::amount(list, at, 2, 100);
-    let mut output = [LETTER_MARK; 100];
+    let mut output = [answers::LETTER_MARK; 100];
     made(
         sign,
         run,
@@ -161,7 +105,7 @@ fn calls(
         let called = call(sign, list, k, run, table, upper, lower, stack);
         run = called.run;
         let answer = called.answer;
-        let told = counted(answer);
+        let told = answers::counted(answer);
         steps = numbers::plus(steps, told.steps);
         k = numbers::skip(k, 3);
         left -= 1;
@@ -218,32 +162,25 @@ fn begun(sign: u8, list: &[u32], rest: usize, first: Run) -> Run {
     }
 }
 
-fn ready(run: Run) {
-    show::number(b" ready, run ", run.task as u64);
-    show::number(b" ", run.started as u64);
-    show::number(b" ", run.depth as u64);
+// The calls after a start, on a stack that begins with the numbers of the line from a place on.
+fn follow(
+    sign: u8,
+    line: &[u8],
+    list: &[u32],
+    rest: usize,
+    first: Run,
+    table: &[u16],
+    upper: &[u8],
+    lower: &[u8],
+) {
+    let from = numbers::skip(rest, 5);
+    let mut stack = [numbers::NONE; STACK_CELLS];
+    numbers::read(line, from, &mut stack);
+    let last = calls(sign, list, rest, first, table, upper, lower, &mut stack);
+    finish(sign, list, from, first, last, &stack);
 }
 
-// What a start answered: the run, or the refusal and with 12 the states of the cycle.
-fn started(started: Started) {
-    let answer = started.answer;
-    match answer {
-        StartAnswer::Ready => {
-            let run = started.run;
-            ready(run);
-        }
-        StartAnswer::Refused(refusal) => {
-            show::refused(refusal);
-            if started.length > 0 {
-                show::say(b", cycle");
-                let states = started.cycle;
-                show::cells(&states, 0, started.length as usize);
-            }
-        }
-    }
-}
-
-// A start, which is told, or the calls after it, on a stack that begins with the numbers of the line from a place on.
+// A start, which is told, or the calls after it.
 fn search(
     sign: u8,
     line: &[u8],
@@ -255,16 +192,12 @@ fn search(
 ) {
     let begin = engine_start::start(table, numbers::at(list, 1, 0), upper, lower);
     if sign == b'?' {
-        started(begin);
-        return;
+        answers::started(begin);
+    } else {
+        let run = begin.run;
+        let first = begun(sign, list, rest, run);
+        follow(sign, line, list, rest, first, table, upper, lower);
     }
-    let run = begin.run;
-    let first = begun(sign, list, rest, run);
-    let from = numbers::skip(rest, 5);
-    let mut stack = [numbers::NONE; STACK_CELLS];
-    numbers::read(line, from, &mut stack);
-    let last = calls(sign, list, rest, first, table, upper, lower, &mut stack);
-    finish(sign, list, from, first, last, &stack);
 }
 
 // CELLS TASK, UPPER, LOWER: the query of a case, on so many cells of the table.

@@ -1,10 +1,10 @@
--- `cases::tables::fill` is safe and ends: the cells keep their count, and the measure is what is left of them. Assumes nothing.
+-- `cases_tables::fill` is safe and ends: the cells keep their count, and the measure is what is left of them. Assumes nothing.
 use borrow.Author.Needs.{needs}
 use mathlib.Core.Path.{_≡_}
 use Prim.Native.Nat.{_-_}
 use lib.ListN.{length}
-use Rattle.cases.proofs.tables.fill.Statement.{statement}
-use Rattle.cases.proofs.tables.fill.Tie as tie
+use Rattle.cases_tables.proofs.fill.Statement.{statement}
+use Rattle.cases_tables.proofs.fill.Tie as tie
 
 abbrev Inv-loop : tie.InvT-loop
 Inv-loop cells₀ list from i₀ cells i = length cells ≡ length cells₀

@@ -1,9 +1,9 @@
--- `cases::tables::is_marked` is safe and ends: the measure is what is left of the cells. Assumes nothing.
+-- `cases_tables::is_marked` is safe and ends: the measure is what is left of the cells. Assumes nothing.
 use borrow.Author.Needs.{needs}
 use Prim.Native.Nat.{_-_}
 use lib.ListN.{length}
-use Rattle.cases.proofs.tables.is_marked.Statement.{statement}
-use Rattle.cases.proofs.tables.is_marked.Tie as tie
+use Rattle.cases_tables.proofs.is_marked.Statement.{statement}
+use Rattle.cases_tables.proofs.is_marked.Tie as tie
 
 abbrev Inv-loop : tie.InvT-loop
 Inv-loop cells from i₀ i = Unit {0}

@@ -1,4 +1,4 @@
-// Calls of the crate `table`, on the cells of one table.
+// The cases that call the crate `table`, on the cells of one table.
 use bytes::scan;
 use cases_script::numbers;
 use cases_script::show;
@@ -84,7 +84,7 @@ fn read_into(text: &[u8], cells: &mut [u16]) {
 }
 
 // `<` CELLS | TEXT: reads the text into so many cells.
-pub fn read(line: &[u8], list: &[u32], cells: &mut [u16]) {
+fn read(line: &[u8], list: &[u32], cells: &mut [u16]) {
     fill(cells, list, 1);
     let bar = scan::find(line, 0, line.len(), b'|');
     if bar < line.len() {
@@ -94,7 +94,7 @@ pub fn read(line: &[u8], list: &[u32], cells: &mut [u16]) {
 }
 
 // `"`: the table's own text is read, and its last line told.
-pub fn again(list: &[u32], cells: &mut [u16]) {
+fn again(list: &[u32], cells: &mut [u16]) {
     let mut text = [BYTE_MARK; TEXT_BYTES];
     let size = done(writer::write(cells, &mut text));
     fill(cells, list, 0);
@@ -121,7 +121,7 @@ fn write_into(cells: &[u16], text: &mut [u8]) {
 }
 
 // `>` CELLS BYTES, TABLE: checks the first cells of a table, and writes them into so many bytes.
-pub fn load(list: &[u32], cells: &mut [u16]) {
+fn load(list: &[u32], cells: &mut [u16]) {
     fill(cells, list, 2);
     let size = numbers::amount(list, 0, 0, cells.len());
     let room = numbers::amount(list, 0, 1, TEXT_BYTES);
@@ -130,10 +130,30 @@ pub fn load(list: &[u32], cells: &mut [u16]) {
 }
 
 // `@` CELLS FROM TO: the index of first arcs that the check of so many cells tells, from one state to another.
-pub fn index(list: &[u32], cells: &[u16]) {
+fn index(list: &[u32], cells: &[u16]) {
     let size = numbers::amount(list, 0, 0, cells.len());
     let checked = table_check::check(&cells[0..size]);
     let first = checked.first;
     let from = numbers::amount(list, 0, 1, 257);
     show::cells(&first, from, numbers::amount(list, 0, 2, 257));
+}
+
+// Whether a sign is that of a case here.
+pub fn has(sign: u8) -> bool {
+    match sign {
+        b'<' | b'>' | b'"' | b'=' | b'@' => true,
+        _ => false,
+    }
+}
+
+// What a case does by its sign, with its line from the colon on and the numbers of it, on the cells of the table. `=` COUNT tells the
+// first cells.
+pub fn act(sign: u8, line: &[u8], list: &[u32], cells: &mut [u16]) {
+    match sign {
+        b'<' => read(line, list, cells),
+        b'>' => load(list, cells),
+        b'"' => again(list, cells),
+        b'@' => index(list, cells),
+        _ => show::cells(cells, 0, numbers::amount(list, 0, 0, cells.len())),
+    }
 }
