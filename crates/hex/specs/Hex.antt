@@ -1,6 +1,6 @@
 -- Document 01, "Lines of the text": capital digits, two digits a byte. 0-9 are the characters 48 to 57, A-F are 65 to 70.
 use Prim.Native.Nat.{ℕ, _+_, _-_, _*_, _/_, _%_}
-use mathlib.Core.Bool.{Bool, true, false, cond, _&&_}
+use mathlib.Core.Bool.{cond, _&&_}
 use lib.Dec.{leb, ltb}
 use Rattle.hex.specs.declared.Decoded.{Decoded}
 use Rattle.hex.specs.declared.Decoded.the-variants.{Value, Invalid}

@@ -1,3 +1,4 @@
+-- Two digits that both have a value make a byte; where one has none, there is none.
 use borrow.Author.Needs.{needs}
 use native.Mathlib.Omega.{arith}
 use mathlib.Core.Path.{sym, ap, ap₂, _∙_}
@@ -6,9 +7,6 @@ use Rattle.hex.specs.Hex.{valueOf, joined, decoded}
 use Rattle.hex.proofs.Hex.{value-small, decoded-of}
 use Rattle.hex.proofs.decode.Statement.{statement}
 use Rattle.hex.proofs.decode.Tie as tie
-use Rattle.hex.proofs.decode.Reads as reads
-use Rattle.hex.proofs.decode.Lts as lts
-use Rattle.hex.proofs.value.Reads as value-reads
 
 value-requires : tie.Need-value-requires
 value-requires c κs = search needs

@@ -1,10 +1,9 @@
+-- A value below ten has a digit of 0-9, another one of A-F.
 use borrow.Author.Needs.{needs}
 use mathlib.Core.Path.{sym}
 use Rattle.hex.proofs.Hex.{digit-low, digit-high}
 use Rattle.hex.proofs.digit.Statement.{statement}
 use Rattle.hex.proofs.digit.Tie as tie
-use Rattle.hex.proofs.digit.Reads as reads
-use Rattle.hex.proofs.digit.Lts as lts
 
 add-result : tie.Need-add-result
 add-result c = search needs

@@ -1,10 +1,9 @@
+-- Each part of the characters, by the law of its value.
 use borrow.Author.Needs.{needs}
 use mathlib.Core.Path.{sym}
 use Rattle.hex.proofs.Hex.{value-low, value-high, value-below, value-between, value-above}
 use Rattle.hex.proofs.value.Statement.{statement}
 use Rattle.hex.proofs.value.Tie as tie
-use Rattle.hex.proofs.value.Reads as reads
-use Rattle.hex.proofs.value.Lts as lts
 
 returns : tie.Need-returns
 returns c = sym (value-low _ (c .before .if1 .taken) (c .if2 .taken))
