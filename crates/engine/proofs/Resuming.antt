@@ -2,12 +2,14 @@
 use Prim.Native.Nat.{ℕ, _-_, _≤_}
 use native.Mathlib.Omega.{arith}
 use mathlib.Core.Path.{_≡_, refl, sym, ap, ap₂, subst, _∙_}
-use mathlib.Core.Bool.{Bool, true, _||_}
+use mathlib.Core.Bool.{Bool, true, false, _||_}
 use mathlib.Core.Option.{Option}
-use mathlib.Core.List.{List}
+use mathlib.Core.List.{List, []}
 use lib.ListN.{length, take, drop}
 use Rattle.table_check.specs.declared.Layout.{Layout}
 use Rattle.refusal.specs.declared.Refusal.{Refusal}
+use Rattle.refusal.specs.declared.Refusal.the-variants.{State}
+use Rattle.refusal.specs.declared.StateCause.the-variants.{Place}
 use Rattle.table_format.specs.Table.{Table}
 use Rattle.table_format.specs.Rules.{keepsRules}
 use Rattle.table_format.specs.Loaded.{countsIn, tableIn}
@@ -19,9 +21,11 @@ use Rattle.machine.specs.declared.Called.{Called}
 use Rattle.machine.specs.declared.Answer.the-variants.{Refused}
 use Rattle.machine.specs.Query.{Task, recognition, synthesis, analysis, upperSide, lowerSide, reads, Query}
 use Rattle.machine.specs.Machine.{Machine}
-use Rattle.machine.specs.Call.{call}
+use Rattle.machine.specs.Frames.{placeHolds}
+use Rattle.machine.specs.Call.{advance, call}
+use Rattle.machine.specs.Place.{Good}
 use Rattle.machine.specs.Transducer.{machine}
-use Rattle.machine.specs.Stack.{store}
+use Rattle.machine.specs.Stack.{roomIn, store}
 use Rattle.machine.specs.Answer.{told}
 use Rattle.machine.specs.Asked.{Asked, turned, asked}
 use Rattle.machine.specs.Reading.{Outcome, heldOf, outcomeAs, outcomeOf, outcome, OutcomeIs}
@@ -32,6 +36,7 @@ use Rattle.engine_search.specs.Searching.{calledWith, SearchIs}
 use Rattle.engine_admission.specs.Admission.{readsAt}
 use Rattle.engine_admission.proofs.Words.{Asks, reads-of}
 use Rattle.engine.specs.Admitted.{Admitted}
+use Rattle.engine.proofs.Placed.{place-refused, place-good, place-searched}
 
 -- 20, 11 and 10 leave all as it was
 pub turned-outcome : (cells upper lower : List ℕ) (run : Run) (stack : List ℕ) (n : ℕ) (buffer : List ℕ) (r : Refusal) → asked cells (run .task) upper lower ≡ turned r
@@ -114,9 +119,24 @@ module _ (cells upper lower first : List ℕ) (run : Run) (P : Admitted cells (r
       ap₂ (λ (t : Table) (q : Query). outcomeAs (run .task) buffer (call (machine t q) store n (length buffer) (heldOf run stack))) table-is query-is
       ∙ ap (λ (w : Asked). outcomeOf w run stack n buffer) (sym (P .runs-is))
 
-  pub call-outcome : (stack : List ℕ) (n : ℕ) (buffer : List ℕ) (r : Called) (c o : List ℕ)
+  call-outcome : (stack : List ℕ) (n : ℕ) (buffer : List ℕ) (r : Called) (c o : List ℕ)
       → SearchIs (run .task) buffer (call M store n (length buffer) (heldOf run stack)) r c o → OutcomeIs (outcome cells upper lower run stack n buffer) (told (r .answer)) (r .run) c o
   call-outcome stack n buffer r c o S = subst (λ (x : Outcome). OutcomeIs x (told (r .answer)) (r .run) c o) (outcome-is stack n buffer) (called-outcome (S .0) (S .1) (S .2))
+
+  -- by whether the run is a place in a search
+  module _ (stack : List ℕ) (n : ℕ) (buffer : List ℕ) where
+    abbrev placed : Bool
+    placed = placeHolds (machineBy setup initials [] arcs upper lower) store (heldOf run stack)
+
+    pub refused-outcome : placed ≡ false → (r : Called) → r ≡ calledWith (Refused 0 (State Place)) run → OutcomeIs (outcome cells upper lower run stack n buffer) (told (r .answer)) (r .run) stack buffer
+    refused-outcome e r k = call-outcome stack n buffer r stack buffer (place-refused setup initials terminals arcs upper lower run stack n buffer e r k)
+
+    pub good-place : placed ≡ true → Good M store (roomIn stack) (heldOf run stack)
+    good-place e = place-good setup initials terminals arcs upper lower run stack n buffer e
+
+    pub search-outcome : placed ≡ true → (r : Called) (c o : List ℕ) → SearchIs (run .task) buffer (advance M store (length buffer) n (heldOf run stack)) r c o
+        → OutcomeIs (outcome cells upper lower run stack n buffer) (told (r .answer)) (r .run) c o
+    search-outcome e r c o S = call-outcome stack n buffer r c o (place-searched setup initials terminals arcs upper lower run stack n buffer e r c o S)
 
 -- what the table check and the query tell
 pub admitted-by : (cells : List ℕ) (task : ℕ) (upper lower first : List ℕ) → Asks cells task upper lower → first ≡ checked cells .first → Admitted cells task upper lower first

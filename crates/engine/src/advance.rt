@@ -4,6 +4,8 @@ use engine_admission::Side;
 use engine_frames::Setup;
 use machine::Called;
 use machine::Run;
+use refusal::Refusal;
+use refusal::StateCause;
 use table_check::Layout;
 ghost use mathlib.Core.Path.{_≡_};
 ghost use Rattle.table_format.specs.Loaded.{countsIn};
@@ -17,11 +19,11 @@ fn resume(
     table: &[u16],
     at: Layout,
     first: &[u16],
-    upper: &[u8],
-    lower: &[u8],
     run: Run,
     stack: &mut [u32],
     allowance: u32,
+    upper: &[u8],
+    lower: &[u8],
     output: &mut [u8],
 ) -> Called
     requires { ⌜ Admitted (now table) (run .task) (now upper) (now lower) (now first) ⌝ }
@@ -39,17 +41,29 @@ fn resume(
         up: engine_admission::reads(task, Side::Upper),
         low: engine_admission::reads(task, Side::Lower),
     };
-    engine_search::call(
+    if !engine_place::place_holds(
         setup,
         first,
         &table[initials..terminals],
-        &table[terminals..arcs],
         &table[arcs..end],
         upper,
         lower,
         run,
         stack,
+    ) {
+        return engine_search::refused(0, Refusal::State(StateCause::Place), run);
+    }
+    engine_search::take_steps(
+        setup,
+        first,
+        &table[initials..terminals],
+        &table[terminals..arcs],
+        &table[arcs..end],
         allowance,
+        run,
+        stack,
+        upper,
+        lower,
         output,
     )
 }
@@ -78,11 +92,11 @@ pub fn advance(
                 table,
                 at,
                 &checked.first,
-                upper,
-                lower,
                 run,
                 stack,
                 allowance,
+                upper,
+                lower,
                 output,
             )
         }

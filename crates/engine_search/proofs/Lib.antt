@@ -1,3 +1,2 @@
--- Laws of a call on a table that keeps the rules: 21, and the loop of its steps.
+-- Laws of the loop of a call's steps.
 pub mod Looping
-pub mod Placed

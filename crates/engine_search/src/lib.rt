@@ -1,17 +1,16 @@
-// A call on a table that keeps the rules: 21, then steps until the end, a reading, the allowance or a refusal.
+// The steps of a call on a table that keeps the rules: until the end, a reading, the allowance or a refusal.
 use engine_frames::Setup;
 use engine_step::Turn;
 use machine::Answer;
 use machine::Called;
 use machine::Run;
 use refusal::Refusal;
-use refusal::StateCause;
 ghost use mathlib.Core.Path.{_≡_};
 ghost use mathlib.Core.Bool.{_&&_};
 ghost use lib.Dec.{eqb, leb};
 ghost use lib.ListN.{length};
 ghost use Rattle.machine.specs.declared.Answer.the-variants.{Found, Refused};
-ghost use Rattle.machine.specs.Call.{advance, call};
+ghost use Rattle.machine.specs.Call.{advance};
 ghost use Rattle.machine.specs.Reading.{heldOf};
 ghost use Rattle.machine.specs.Stack.{roomIn, store};
 ghost use Rattle.machine.specs.Place.{Good};
@@ -50,17 +49,17 @@ pub fn refused(steps: u32, refusal: Refusal, run: Run) -> Called
 }
 
 // The steps of a call from a place in a search. The end is looked for before the allowance, the allowance before the next step.
-fn take_steps(
+pub fn take_steps(
     setup: Setup,
     first: &[u16],
     initials: &[u16],
     terminals: &[u16],
     arcs: &[u16],
-    upper: &[u8],
-    lower: &[u8],
+    allowance: u32,
     run: Run,
     stack: &mut [u32],
-    allowance: u32,
+    upper: &[u8],
+    lower: &[u8],
     output: &mut [u8],
 ) -> Called
     requires { ⌜ Prepared setup (now first) (now initials) (now terminals) (now arcs) ⌝ }
@@ -98,39 +97,4 @@ fn take_steps(
         steps += 1;
     }
     called(Answer::Ended { steps }, at)
-}
-
-// 21, then the steps.
-pub fn call(
-    setup: Setup,
-    first: &[u16],
-    initials: &[u16],
-    terminals: &[u16],
-    arcs: &[u16],
-    upper: &[u8],
-    lower: &[u8],
-    run: Run,
-    stack: &mut [u32],
-    allowance: u32,
-    output: &mut [u8],
-) -> Called
-    requires { ⌜ Prepared setup (now first) (now initials) (now terminals) (now arcs) ⌝ }
-    ensures { λ r. ⌜ SearchIs (run .task) (now (output .entry)) (call (machineBy setup (now (initials .entry)) (now (terminals .entry)) (now (arcs .entry)) (now (upper .entry)) (now (lower .entry))) store allowance (length (now (output .entry))) (heldOf run (now (stack .entry)))) r (now (stack .exit)) (now (output .exit)) ⌝ }
-{
-    if !engine_place::place_holds(setup, first, initials, arcs, upper, lower, run, stack) {
-        return refused(0, Refusal::State(StateCause::Place), run);
-    }
-    take_steps(
-        setup,
-        first,
-        initials,
-        terminals,
-        arcs,
-        upper,
-        lower,
-        run,
-        stack,
-        allowance,
-        output,
-    )
 }

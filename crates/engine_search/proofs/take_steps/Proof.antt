@@ -12,11 +12,11 @@ use Rattle.engine_search.proofs.take_steps.Statement.{statement}
 use Rattle.engine_search.proofs.take_steps.Tie as tie
 
 abbrev Inv-loop : tie.InvT-loop
-Inv-loop setup first initials terminals arcs upper lower stack₀ allowance output₀ at₀ steps₀ stack output at steps =
+Inv-loop setup first initials terminals arcs allowance stack₀ upper lower output₀ at₀ steps₀ stack output at steps =
     Going (tableBy setup initials terminals arcs) (queryBy setup upper lower) (at₀ .task) output₀ allowance (heldOf at₀ stack₀) stack₀ stack output at steps
 
 abbrev μ-loop : tie.MeasureT-loop
-μ-loop setup first initials terminals arcs upper lower stack₀ allowance output₀ at₀ steps₀ stack output at steps = allowance - steps
+μ-loop setup first initials terminals arcs allowance stack₀ upper lower output₀ at₀ steps₀ stack output at steps = allowance - steps
 
 loop-holds : tie.Need-loop-holds Inv-loop μ-loop
 loop-holds c = let a = c .before .before .before .before .before .before .before .before .args in going-first (tableBy (a .setup) (now (a .initials)) (now (a .terminals)) (now (a .arcs))) (queryBy (a .setup) (now (a .upper)) (now (a .lower))) (a .run .task) (now (a .output)) (a .allowance) (heldOf (a .run) (now (a .stack))) (now (a .stack)) (now (a .output)) (a .run) refl refl refl (c .before .before .before .before .before .before .before .before .pre .1)
