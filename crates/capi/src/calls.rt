@@ -1,7 +1,7 @@
 // The call for a reading.
 use capi_numbers::Reply;
 use capi_numbers::answer_numbers;
-use engine_reading::next_reading;
+use engine::next_reading;
 ghost use Rattle.machine.specs.Reading.{outcome, OutcomeIs};
 ghost use Rattle.capi_numbers.specs.Numbers.{replyTold};
 

@@ -2,7 +2,6 @@
 use crate::answers;
 use cases_script::numbers;
 use cases_script::show;
-use engine::advance;
 use machine::Called;
 use machine::Run;
 ghost use Prim.Native.Nat.{_≤_};
@@ -50,7 +49,7 @@ fn made(
     allowance: u32,
     output: &mut [u8],
 ) -> Called {
-    let called = advance::advance(table, upper, lower, run, stack, allowance, output);
+    let called = engine_advance::advance(table, upper, lower, run, stack, allowance, output);
     let answer = called.answer;
     answers::tell(sign, answer, output);
     called

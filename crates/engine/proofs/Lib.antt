@@ -1,3 +1,3 @@
--- Laws of the call for a reading.
-pub mod Placed
-pub mod Resuming
+-- Proofs by hand, and the parameters of a call for a reading.
+pub mod Walking
+pub mod Parameters

@@ -21,7 +21,7 @@ use Rattle.machine.specs.Frames.{Held}
 use Rattle.machine.specs.Step as S
 use Rattle.machine.specs.Step.{Stepped, ends, moves, finds, refuses, moveStart, move, step}
 use Rattle.machine.specs.Call as R
-use Rattle.machine.specs.Call.{Told, still, advance}
+use Rattle.machine.specs.Call.{Replied, still, advance}
 use Rattle.machine.specs.Transducer.{machine}
 use Rattle.machine.specs.Stack.{roomIn, store}
 use Rattle.machine.proofs.Held.{GoodStep, step-good, move-start}
@@ -87,7 +87,7 @@ pub over-zero : (d n m : ℕ) → d ≡ 0 → leb m n ≡ (eqb d 0 && leb m n)
 over-zero d n m h = ap (λ (v : Bool). v && leb m n) (sym (eq-eqb d 0 h))
 
 module _ (t : Table) (q : Query) (task : ℕ) (b : List ℕ) (allowance : ℕ) (h₀ : Held (List ℕ)) where
-  abbrev total : Told (List ℕ)
+  abbrev total : Replied (List ℕ)
   total = advance (machine t q) store (length b) allowance h₀
 
   -- at the loop's head, after k steps
@@ -115,10 +115,10 @@ module _ (t : Table) (q : Query) (task : ℕ) (b : List ℕ) (allowance : ℕ) (
   runOf v = record { task = task; started = v .started; depth = v .depth }
 
   -- the answer a after the run v is the one of a call that is told x
-  search-by : (x : Told (List ℕ)) (v : Run) (a : Answer) (r : Called) (e o : List ℕ) → x ≡ total → v .task ≡ task → r ≡ calledWith a v
+  search-by : (x : Replied (List ℕ)) (v : Run) (a : Answer) (r : Called) (e o : List ℕ) → x ≡ total → v .task ≡ task → r ≡ calledWith a v
       → SearchIs task b x (calledWith a (runOf v)) e o → SearchIs task b total r e o
   search-by x v a r e o z s k S =
-      subst (λ (y : Told (List ℕ)). SearchIs task b y r e o) z
+      subst (λ (y : Replied (List ℕ)). SearchIs task b y r e o) z
       (subst (λ (y : Called). SearchIs task b x y e o) (ap (λ (y : ℕ). calledWith a (record { task = y; started = v .started; depth = v .depth })) (sym s) ∙ sym k) S)
 
   module _ (c₀ c o : List ℕ) (at : Run) (k : ℕ) (I : Going c₀ c o at k) where
@@ -151,7 +151,7 @@ module _ (t : Table) (q : Query) (task : ℕ) (b : List ℕ) (allowance : ℕ) (
         T : TurnIs task (step M store (length b) h) c b r e x
         T = subst (λ (j : ℕ). TurnIs j (step M store (length b) h) c b r e x) (I .same-task) (subst (λ (y : List ℕ). TurnIs (at .task) (step M store (length y) h) c y r e x) (I .untouched) T₀)
 
-        again : (m : Told (List ℕ)) → advance M store (length b) (suc (allowance - (k + 1))) h ≡ m → plus k m ≡ total
+        again : (m : Replied (List ℕ)) → advance M store (length b) (suc (allowance - (k + 1))) h ≡ m → plus k m ≡ total
         again m z = ap (plus k) (sym z ∙ ap (λ (j : ℕ). advance M store (length b) j h) (let y : suc (allowance - (k + 1)) ≡ allowance - k = omega (arith, more) in y)) ∙ I .told
 
         pub going-more : length e ≡ length c → (v : Run) → r ≡ Moved v → Going c₀ e x v (k + 1)

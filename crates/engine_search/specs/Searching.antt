@@ -5,7 +5,7 @@ use mathlib.Core.List.{List}
 use Rattle.machine.specs.declared.Run.{Run}
 use Rattle.machine.specs.declared.Answer.{Answer}
 use Rattle.machine.specs.declared.Called.{Called}
-use Rattle.machine.specs.Call.{Told}
+use Rattle.machine.specs.Call.{Replied}
 use Rattle.machine.specs.Reading.{outcomeAs}
 
 -- an answer and a run
@@ -13,5 +13,5 @@ abbrev pub calledWith : Answer → Run → Called
 calledWith answer run = record { answer = answer; run = run }
 
 -- the answer with the run, the cells e and the output o, where the task's number is k and the buffer was b
-abbrev pub SearchIs : ℕ → List ℕ → Told (List ℕ) → Called → List ℕ → List ℕ → Type 0
+abbrev pub SearchIs : ℕ → List ℕ → Replied (List ℕ) → Called → List ℕ → List ℕ → Type 0
 SearchIs k b told r e o = (r ≡ outcomeAs k b told .called) × (e ≡ outcomeAs k b told .stack) × (o ≡ outcomeAs k b told .output)

@@ -14,7 +14,7 @@ use Rattle.refusal.specs.declared.StateCause.the-variants.{Place, StackFull, Ou
 use Rattle.machine.specs.Machine.{Machine, Path, accepts, output, Bounded}
 use Rattle.machine.specs.Frames.{Frame, Store, framesOf, Held, viewOf, pathOf, walkOf, walkTo, untried, placeHolds}
 use Rattle.machine.specs.Step.{Move, over, drops, begins, skips, pushes, Stepped, ends, moves, finds, refuses, move, effect, offered, arrived, pushed, made, step}
-use Rattle.machine.specs.Call.{Reply, found, paused, ended, refused, Told, still, tell, spent, advance, entered, call, Stops, at-end, at-reading, at-allowance, at-refusal}
+use Rattle.machine.specs.Call.{Reply, found, paused, ended, refused, Replied, still, tell, spent, advance, entered, call, Stops, at-end, at-reading, at-allowance, at-refusal}
 use Rattle.machine.specs.Tour.{Entry, reading, readings, readingIf}
 use Rattle.machine.proofs.Frames.{SameIs, StoreLaws, frames-length, depth-law, placed-place, short-place}
 use Rattle.machine.specs.Place.{Placed, Good}
@@ -71,7 +71,7 @@ readings-append M (e ∷ a) b = rw (readings-append M a b, ← append-assoc)
 
 module _ (M : Machine) (S : Store (Frame (M .D))) where
   -- a call that is refused in a step: the next one is refused so
-  stops-refused : {l n : ℕ} {h : Held (S .Cells)} {r : Told (S .Cells)} → Stops M S l n h r → (c : Refusal) → r .reply ≡ refused c → step M S l (r .after) ≡ refuses c
+  stops-refused : {l n : ℕ} {h : Held (S .Cells)} {r : Replied (S .Cells)} → Stops M S l n h r → (c : Refusal) → r .reply ≡ refused c → step M S l (r .after) ≡ refuses c
   stops-refused (at-end s k e) c z = absurd (let y : _≡_ {A = ℕ} 0 1 = cc in omega arith)
   stops-refused (at-reading o s k e) c z = absurd (let y : _≡_ {A = ℕ} 0 1 = cc in omega arith)
   stops-refused (at-allowance s e) c z = absurd (let y : _≡_ {A = ℕ} 0 1 = cc in omega arith)
@@ -94,7 +94,7 @@ module _ (M : Machine) (S : Store (Frame (M .D))) where
   -- from a place in a search a call gives 22 and 23 alone
   pub place-call : (n l : ℕ) (h : Held (S .Cells)) → placeHolds M S h ≡ true → (c : Refusal) → call M S n l h .reply ≡ refused c → FullOnly M S c
   place-call n l h e c z =
-      let r : advance M S l n h .reply ≡ refused c = ap (λ (v : Told (S .Cells)). v .reply) (sym (in-place-call n l h e)) ∙ z in
+      let r : advance M S l n h .reply ≡ refused c = ap (λ (v : Replied (S .Cells)). v .reply) (sym (in-place-call n l h e)) ∙ z in
       step-full M S l (advance M S l n h .after) c (stops-refused (advance-stops M S l n h) c r)
 
   abbrev pub rest : (Path → List Entry) → Held (S .Cells) → List Entry
@@ -124,7 +124,7 @@ module _ (M : Machine) (S : Store (Frame (M .D))) where
     SteppedLaw N es (refuses r) = Open es × StepRefusal (M .limit) N r
 
     -- a call takes as many entries as it tells steps, and tells their readings
-    pub record CallLaw (N : ℕ) (es : List Entry) (r : Told (S .Cells)) : Type 0 where
+    pub record CallLaw (N : ℕ) (es : List Entry) (r : Replied (S .Cells)) : Type 0 where
       pub taken : List Entry
       pub splits : es ≡ taken ++ rest g (r .after)
       pub counted : length taken ≡ r .steps
@@ -134,7 +134,7 @@ module _ (M : Machine) (S : Store (Frame (M .D))) where
       pub refusal : RefusedBy (StepRefusal (M .limit) N) (r .reply)
 
     -- one call on a run whose used frames, as they were left, are used, and after it used′
-    pub record OneLaw (h : Held (S .Cells)) (used : List (Frame (M .D))) (c : Told (S .Cells)) (used′ : List (Frame (M .D))) : Type 0 where
+    pub record OneLaw (h : Held (S .Cells)) (used : List (Frame (M .D))) (c : Replied (S .Cells)) (used′ : List (Frame (M .D))) : Type 0 where
       pub taken : List Entry
       pub splits : restBy M g (h .started) used ≡ taken ++ restBy M g (c .after .started) used′
       pub counted : length taken ≡ c .steps
@@ -218,7 +218,7 @@ module _ (M : Machine) (S : Store (Frame (M .D))) where
         unfolding readings
         still-law N h G a o E A = record { taken = []; splits = refl; counted = refl; read = sym o; good = G; ending = E; refusal = A }
 
-        tell-law : (N : ℕ) (h : Held (S .Cells)) → Good M S N h → (s : Stepped (S .Cells)) → SteppedLaw N (rest g h) s → (k : Held (S .Cells) → Told (S .Cells))
+        tell-law : (N : ℕ) (h : Held (S .Cells)) → Good M S N h → (s : Stepped (S .Cells)) → SteppedLaw N (rest g h) s → (k : Held (S .Cells) → Replied (S .Cells))
             → ((d : Held (S .Cells)) → Good M S N d → CallLaw N (rest g d) (k d)) → CallLaw N (rest g h) (tell h s k)
         unfolding readings
         tell-law N h G ends T k C = still-law N h G ended refl T tt
@@ -274,7 +274,7 @@ module _ (M : Machine) (S : Store (Frame (M .D))) where
           short-law : (used : List (Frame (M .D))) → Placed M (h .started) used → length used ≡ h .depth → S .room (h .cells) < h .depth → OneLaw h used (call M S n l h) used
           unfolding readings
           short-law used P e k =
-              subst (λ (c : Told (S .Cells)). OneLaw h used c used) (sym (short-call I n l h k))
+              subst (λ (c : Replied (S .Cells)). OneLaw h used c used) (sym (short-call I n l h k))
               (record { taken = []; splits = refl; counted = refl; read = refl; placed = P; as-deep = e; ending = deep-open used (omega arith); refusal = too-short k })
             where
               deep-open : (fs : List (Frame (M .D))) → 0 < length fs → Open (restBy M g (h .started) fs)

@@ -18,11 +18,12 @@ use Rattle.machine.specs.declared.Run.{Run}
 use Rattle.machine.specs.Query.{Query}
 use Rattle.machine.specs.Machine.{Machine, Bounded}
 use Rattle.machine.specs.Frames.{Frame, framesOf}
-use Rattle.machine.specs.Call.{Reply, Told, call}
+use Rattle.machine.specs.Call.{Reply, Replied, call}
 use Rattle.machine.specs.Tour.{Entry, after, tour, tourFrom, readings, treeSize}
 use Rattle.machine.specs.Transducer.{Passed, lettersToRead, machine}
 use Rattle.machine.specs.Stack.{mostFrames, framesIn, roomIn, store}
-use Rattle.machine.specs.Answer.{refusedKind, told, outputTold}
+use Rattle.refusal.specs.Told.{refusedKind}
+use Rattle.machine.specs.Answer.{told, outputTold}
 use Rattle.machine.specs.Asked.{Asked, runs, asked}
 use Rattle.machine.specs.Start.{firstRun}
 use Rattle.machine.specs.Reading.{Outcome, toldBy, heldOf, answerAs, outcomeAs, outcomeOf, outcome, CallBy}
@@ -86,7 +87,7 @@ module _ (t : Table) (q : Query) (B : Bounded (machine t q)) (F : (lettersToRead
     pub tells : (n : ℕ) → n + length es ≡ treeSize M → CallTells t q n r x o
 
   module _ (es : List Entry) (r : Run) (used : List ℕ) (x : Lent) (A : At r used es) (J : r .depth ≤ framesIn (x .stack) → usedOf (r .depth) (x .stack) ≡ used) where
-    abbrev T : Told (List ℕ)
+    abbrev T : Replied (List ℕ)
     T = call M store (x .allowance) (length (x .buffer)) (heldOf r (x .stack))
 
     abbrev o : Outcome
@@ -163,7 +164,7 @@ module _ (t : Table) (q : Query) (B : Bounded (machine t q)) (F : (lettersToRead
 
         short-from : framesIn (x .stack) < r .depth → toldBy o .number ≡ 21
         short-from h =
-            ap (λ (c : Told (List ℕ)). told (answerAs (c .reply) (c .steps)) .number) (short-call M store (same-is t q) (x .allowance) (length (x .buffer)) (heldOf r (x .stack)) (omega arith))
+            ap (λ (c : Replied (List ℕ)). told (answerAs (c .reply) (c .steps)) .number) (short-call M store (same-is t q) (x .allowance) (length (x .buffer)) (heldOf r (x .stack)) (omega arith))
 
         deep : r .depth ≤ M .limit
         deep = omega (arith, depth-law M B (r .started) (A .frames) (A .placed), A .as-deep)

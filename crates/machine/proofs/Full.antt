@@ -20,7 +20,7 @@ use Rattle.machine.specs.Machine.{Machine, size, accepts, output}
 use Rattle.machine.specs.Frames.{Frame, Held, framesOf, walkTo, pathOf}
 use Rattle.machine.specs.Place.{Good, InSearch}
 use Rattle.machine.specs.Step.{Move, over, drops, begins, skips, pushes, finds, refuses, move, effect, offered, arrived, pushed, made, step}
-use Rattle.machine.specs.Call.{found, Told, advance, at-end, at-reading, at-allowance, at-refusal}
+use Rattle.machine.specs.Call.{found, Replied, advance, at-end, at-reading, at-allowance, at-refusal}
 use Rattle.machine.specs.Transducer.{Passed, machine}
 use Rattle.machine.specs.Stack.{roomIn, store}
 use Rattle.machine.specs.Asked.{Asked, runs, asked}
@@ -88,7 +88,7 @@ module _ (t : Table) (q : Query) where
   enough-by run stack n buffer (goes-on I (at-reading w s j z)) e b m k a = absurd (omega arith)
   enough-by run stack n buffer (goes-on I (at-allowance s z)) e b m k a = absurd (omega arith)
   enough-by run stack n buffer (goes-on I (at-refusal {d = d} c s j z)) e b m k a =
-      (length (F .1), ap (λ (r : Told (List ℕ)). outcomeAs (run .task) b r .called .answer) (in-place-call M store m (length b) d (search-place t q after (d .cells) J) ∙ turn))
+      (length (F .1), ap (λ (r : Replied (List ℕ)). outcomeAs (run .task) b r .called .answer) (in-place-call M store m (length b) d (search-place t q after (d .cells) J) ∙ turn))
     where
       full : c ≡ State OutputFull
       full = ⊎-elim (λ x. absurd (let y : _≡_ {A = ℕ} 22 23 = ap numberOf (sym x) ∙ e in omega arith)) (λ x. x) (step-full M store (length buffer) d c z)

@@ -26,13 +26,13 @@ use Rattle.machine.specs.Machine.{Machine, Path, size, final, datum, out
 use Rattle.machine.specs.Tour.{pathsIn, trail, after, tour, readings, allowedPaths, treeSize}
 use Rattle.machine.specs.Place.{InSearch}
 use Rattle.machine.specs.Frames.{Frame, Store, Held}
-use Rattle.machine.specs.Call.{Told, Steps, Stops}
+use Rattle.machine.specs.Call.{Replied, Steps, Stops}
 use Rattle.machine.specs.Order.{accepting, outputs, ListsAllowed, Lists, Narrows}
 use Rattle.machine.specs.Denotation.{initialsTell}
 use Rattle.machine.specs.Transducer.{arcAt, Passed, lettersToRead, writtenBy, machine}
 use Rattle.machine.specs.Idle.{IdleWalk, NoIdleCycle, CycleStates, hasIdleCycle}
 use Rattle.machine.specs.Stack.{mostFrames, framesIn}
-use Rattle.machine.specs.Answer.{foundKind, refusedKind}
+use Rattle.refusal.specs.Told.{foundKind, refusedKind}
 use Rattle.machine.specs.Asked.{Asked, runs, asked}
 use Rattle.machine.specs.Start.{firstRun, started, startToldBy, StartIs}
 use Rattle.machine.specs.Reading.{Outcome, toldBy, outcome, CallBy, RefusedLeaves}
@@ -357,7 +357,7 @@ module _ (M : Machine) (C : Store (Frame (M .D))) (l : ℕ) where
   pub steps-one : (k : ℕ) (h d e : Held (C .Cells)) → Steps M C l k h d → Steps M C l k h e → d ≡ e
   steps-one k h d e a b = stops.steps-one M C l a b
 
-  pub stops-one : (n : ℕ) (h : Held (C .Cells)) (a b : Told (C .Cells)) → Stops M C l n h a → Stops M C l n h b → a ≡ b
+  pub stops-one : (n : ℕ) (h : Held (C .Cells)) (a b : Replied (C .Cells)) → Stops M C l n h a → Stops M C l n h b → a ≡ b
   stops-one n h a b x y = stops.stops-one M C l x y
 
 -- "EVERY CALL GETS THE START'S TABLE": of the cells, the loaded table alone counts; what stands behind it does not.

@@ -15,7 +15,8 @@ use Rattle.machine.specs.Tour.{treeSize}
 use Rattle.machine.specs.Call.{at-end, at-reading, at-allowance, at-refusal}
 use Rattle.machine.specs.Transducer.{Passed, passed, sideWritten, lettersToRead, machine}
 use Rattle.machine.specs.Stack.{framesIn}
-use Rattle.machine.specs.Answer.{endedKind, refusedKind, told}
+use Rattle.refusal.specs.Told.{endedKind, refusedKind}
+use Rattle.machine.specs.Answer.{told}
 use Rattle.machine.specs.Reading.{Outcome, toldBy, CallBy, no-place, goes-on}
 use Rattle.machine.specs.Demand.{Lent, CallTells, Ample, AmpleCalls, none, ample, other, oneUnlessEnded, callOn, stepsOn, runAfter, stepsTold, unended, LastEnds, Tells, Demand3}
 use Rattle.machine.proofs.Transducer.{written-length, passed-size}

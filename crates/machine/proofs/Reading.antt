@@ -26,7 +26,8 @@ use Rattle.machine.specs.Call as R
 use Rattle.machine.specs.Tour.{Entry}
 use Rattle.machine.specs.Transducer.{machine}
 use Rattle.machine.specs.Stack.{roomIn, store}
-use Rattle.machine.specs.Answer.{foundKind, endedKind, refusedKind, told, outputTold}
+use Rattle.refusal.specs.Told.{foundKind, endedKind, refusedKind}
+use Rattle.machine.specs.Answer.{told, outputTold}
 use Rattle.machine.specs.Asked.{Asked, turned, runs, asked}
 use Rattle.machine.specs.Reading.{Outcome, toldBy, heldOf, answerAs, outputAs, outcomeAs, outcomeOf, outcome, OutcomeIs, Unchanged, BeforeStep, RefusedLeaves, CallBy, no-place, goes-on}
 use Rattle.machine.proofs.Told.{told-one}

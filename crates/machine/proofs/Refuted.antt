@@ -13,7 +13,7 @@ use Rattle.machine.specs.Query.{Query, synthesis}
 use Rattle.machine.specs.Frames.{placeHolds}
 use Rattle.machine.specs.Step.{move, step}
 use Rattle.machine.specs.Call.{advance, call}
-use Rattle.machine.specs.Answer.{foundKind}
+use Rattle.refusal.specs.Told.{foundKind}
 use Rattle.machine.specs.Asked.{runs}
 use Rattle.machine.specs.Start.{firstRun}
 use Rattle.machine.specs.Reading.{Outcome, toldBy, outcomeOf, RefusedLeaves}

@@ -14,7 +14,7 @@ use Rattle.machine.specs.Machine.{Machine, accepts, output}
 use Rattle.machine.specs.Frames.{Frame, Store, Held, pathOf}
 use Rattle.machine.specs.Place.{Good}
 use Rattle.machine.specs.Step.{Move, over, drops, begins, skips, pushes, Stepped, ends, moves, finds, refuses, moveStart, move, effect, offered, arrived, pushed, made, step}
-use Rattle.machine.specs.Call.{found, paused, ended, refused, Told, still, oneMore, tell, spent, advance, Steps, here, moved, AtEnd, Stops, at-end, at-reading, at-allowance, at-refusal}
+use Rattle.machine.specs.Call.{found, paused, ended, refused, Replied, still, oneMore, tell, spent, advance, Steps, here, moved, AtEnd, Stops, at-end, at-reading, at-allowance, at-refusal}
 use Rattle.machine.proofs.Frames.{StoreLaws}
 use Rattle.machine.proofs.Held.{Possible, possible, move-start, GoodStep, step-good}
 use Rattle.machine.proofs.Turn.{plus, plus-none, ended-turn, paused-turn, step-turn}
@@ -88,7 +88,7 @@ module _ (M : Machine) (S : Store (Frame (M .D))) where
     steps-good L N here G = G
     steps-good L N (moved {h = h} p s) G = steps-good L N s (subst (GoodStep M S L N l) p (step-good M S L N l h G))
 
-    pub stops-good : StoreLaws S → (N : ℕ) {n : ℕ} {h : Held (S .Cells)} {r : Told (S .Cells)} → Stops M S l n h r → Good M S N h → Good M S N (r .after)
+    pub stops-good : StoreLaws S → (N : ℕ) {n : ℕ} {h : Held (S .Cells)} {r : Replied (S .Cells)} → Stops M S l n h r → Good M S N h → Good M S N (r .after)
     stops-good L N (at-end s k z) G = steps-good L N s G
     stops-good L N (at-reading {e = e} o s k z) G = subst (GoodStep M S L N l) z (step-good M S L N l e (steps-good L N s G)) .0
     stops-good L N (at-allowance s z) G = steps-good L N s G
@@ -96,7 +96,7 @@ module _ (M : Machine) (S : Store (Frame (M .D))) where
 
     -- THE LOOP stops as Stops says.
 
-    one-later : {n : ℕ} {h d : Held (S .Cells)} {r : Told (S .Cells)} → step M S l h ≡ moves d → Stops M S l n d r → Stops M S l (suc n) h (oneMore r)
+    one-later : {n : ℕ} {h d : Held (S .Cells)} {r : Replied (S .Cells)} → step M S l h ≡ moves d → Stops M S l n d r → Stops M S l (suc n) h (oneMore r)
     one-later e (at-end s k z) = at-end (moved e s) (omega arith) z
     one-later e (at-reading o s k z) = at-reading o (moved e s) (omega arith) z
     one-later e (at-allowance s z) = at-allowance (moved e s) z
@@ -134,11 +134,11 @@ module _ (M : Machine) (S : Store (Frame (M .D))) where
         ∙ ap (λ (j : ℕ). record { reply = advance M S l m d .reply; steps = j; after = advance M S l m d .after }) (let z : suc (k + advance M S l m d .steps) ≡ suc k + advance M S l m d .steps = omega arith in z)
 
     -- k steps, then what is told where they lead, with some steps left
-    then : {n k : ℕ} {h d : Held (S .Cells)} → Steps M S l k h d → (m : ℕ) → n ≡ k + m → (r : Told (S .Cells)) → advance M S l m d ≡ r → (j : ℕ) → k + r .steps ≡ j
+    then : {n k : ℕ} {h d : Held (S .Cells)} → Steps M S l k h d → (m : ℕ) → n ≡ k + m → (r : Replied (S .Cells)) → advance M S l m d ≡ r → (j : ℕ) → k + r .steps ≡ j
         → record { reply = r .reply; steps = j; after = r .after } ≡ advance M S l n h
     then {n} {k} s m e r x j y = sym (advance-steps s n m e ∙ ap (plus k) x ∙ ap (λ (i : ℕ). record { reply = r .reply; steps = i; after = r .after }) y)
 
-    pub stops-advance : {n : ℕ} {h : Held (S .Cells)} {r : Told (S .Cells)} → Stops M S l n h r → r ≡ advance M S l n h
+    pub stops-advance : {n : ℕ} {h : Held (S .Cells)} {r : Replied (S .Cells)} → Stops M S l n h r → r ≡ advance M S l n h
     stops-advance {n} (at-end {k} {d} s b z) = then s (n - k) (omega arith) (still ended d) (ended-turn M S l d (n - k) (end-over d z)) k (omega arith)
     stops-advance {n} (at-reading {k} {e} {d} o s b z) =
         let i : n ≡ k + suc (n - suc k) = omega arith in
@@ -147,5 +147,5 @@ module _ (M : Machine) (S : Store (Frame (M .D))) where
     stops-advance {n} (at-refusal {k} {d} c s b z) =
         let i : n ≡ k + suc (n - suc k) = omega arith in then s (suc (n - suc k)) i (still (refused c) d) (step-turn M S l d (n - suc k) (refuses c) z) k (omega arith)
 
-    pub stops-one : {n : ℕ} {h : Held (S .Cells)} {r u : Told (S .Cells)} → Stops M S l n h r → Stops M S l n h u → r ≡ u
+    pub stops-one : {n : ℕ} {h : Held (S .Cells)} {r u : Replied (S .Cells)} → Stops M S l n h r → Stops M S l n h u → r ≡ u
     stops-one a b = stops-advance a ∙ sym (stops-advance b)

@@ -7,16 +7,16 @@ use Rattle.refusal.specs.declared.Refusal.{Refusal}
 use Rattle.machine.specs.Machine.{Machine}
 use Rattle.machine.specs.Frames.{Frame, Store, Held}
 use Rattle.machine.specs.Step.{Move, over, drops, begins, skips, pushes, Stepped, moves, finds, refuses, move, made, step}
-use Rattle.machine.specs.Call.{found, paused, ended, refused, Told, still, oneMore, tell, spent, advance}
+use Rattle.machine.specs.Call.{found, paused, ended, refused, Replied, still, oneMore, tell, spent, advance}
 
 -- what is told where k steps were made before
-abbrev pub plus : {C : Type 0} → ℕ → Told C → Told C
+abbrev pub plus : {C : Type 0} → ℕ → Replied C → Replied C
 plus k r = record { reply = r .reply; steps = k + r .steps; after = r .after }
 
-pub plus-one : {C : Type 0} (k : ℕ) (r : Told C) → plus k (oneMore r) ≡ plus (suc k) r
+pub plus-one : {C : Type 0} (k : ℕ) (r : Replied C) → plus k (oneMore r) ≡ plus (suc k) r
 plus-one k r = ap (λ (n : ℕ). record { reply = r .reply; steps = n; after = r .after }) (let e : k + suc (r .steps) ≡ suc k + r .steps = omega arith in e)
 
-pub plus-none : {C : Type 0} (r : Told C) → plus 0 r ≡ r
+pub plus-none : {C : Type 0} (r : Replied C) → plus 0 r ≡ r
 plus-none r = ap (λ (n : ℕ). record { reply = r .reply; steps = n; after = r .after }) (let e : 0 + r .steps ≡ r .steps = omega arith in e)
 
 module _ (M : Machine) (S : Store (Frame (M .D))) (l : ℕ) (h : Held (S .Cells)) where

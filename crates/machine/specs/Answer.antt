@@ -5,27 +5,11 @@ use mathlib.Core.Bool.{cond}
 use mathlib.Core.List.{List, [], _∷_}
 use lib.Dec.{eqb}
 use lib.ListN.{take}
-use Rattle.refusal.specs.Told.{Told, refused, answered}
+use Rattle.refusal.specs.Told.{Told, doneKind, foundKind, pausedKind, endedKind, refused, answered}
 use Rattle.machine.specs.declared.Answer.{Answer}
 use Rattle.machine.specs.declared.Answer.the-variants.{Found, Paused, Ended, Refused}
 use Rattle.machine.specs.declared.StartAnswer.{StartAnswer}
 use Rattle.machine.specs.declared.StartAnswer.the-variants as S
-
--- the kinds of answers, by their numbers
-abbrev pub doneKind : ℕ
-doneKind = 0
-
-abbrev pub foundKind : ℕ
-foundKind = 1
-
-abbrev pub pausedKind : ℕ
-pausedKind = 2
-
-abbrev pub endedKind : ℕ
-endedKind = 3
-
-abbrev pub refusedKind : ℕ
-refusedKind = 4
 
 -- the call for a reading: "Its answer carries the number of steps made in this call, and is Found (.., its length told), Paused, Ended, or
 -- Refused"

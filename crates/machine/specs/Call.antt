@@ -20,21 +20,21 @@ pub data Reply : Type 0 where
   refused : Refusal → Reply
 
 -- a call's reply, the number of steps made in it, and the run with its cells after it
-pub record Told (C : Type 0) : Type 0 where
+pub record Replied (C : Type 0) : Type 0 where
   pub reply : Reply
   pub steps : ℕ
   pub after : Held C
 
 -- a reply before any step
-abbrev pub still : {C : Type 0} → Reply → Held C → Told C
+abbrev pub still : {C : Type 0} → Reply → Held C → Replied C
 still a h = record { reply = a; steps = 0; after = h }
 
 -- the same after one step more
-abbrev pub oneMore : {C : Type 0} → Told C → Told C
+abbrev pub oneMore : {C : Type 0} → Replied C → Replied C
 oneMore r = record { reply = r .reply; steps = suc (r .steps); after = r .after }
 
 -- a step's outcome; k says how the call goes on. A step that is refused leaves the run and the cells as they were.
-abbrev pub tell : {C : Type 0} → Held C → Stepped C → (Held C → Told C) → Told C
+abbrev pub tell : {C : Type 0} → Held C → Stepped C → (Held C → Replied C) → Replied C
 tell h ends k = still ended h
 tell h (moves d) k = oneMore (k d)
 tell h (finds d o) k = record { reply = found o; steps = 1; after = d }
@@ -50,17 +50,17 @@ spent (pushes f g) = paused
 
 module _ (M : Machine) (S : Store (Frame (M .D))) where
   -- at most n steps, with an output buffer of l letters
-  unfoldable pub advance : ℕ → ℕ → Held (S .Cells) → Told (S .Cells)
+  unfoldable pub advance : ℕ → ℕ → Held (S .Cells) → Replied (S .Cells)
   advance l zero h = still (spent (move M S h)) h
   advance l (suc n) h = tell h (step M S l h) (λ d. advance l n d)
 
   -- 21, then the steps
-  abbrev pub entered : Bool → ℕ → ℕ → Held (S .Cells) → Told (S .Cells)
+  abbrev pub entered : Bool → ℕ → ℕ → Held (S .Cells) → Replied (S .Cells)
   entered false n l h = still (refused (State Place)) h
   entered true n l h = advance l n h
 
   -- a call with n steps allowed and an output buffer of l letters
-  unfoldable pub call : ℕ → ℕ → Held (S .Cells) → Told (S .Cells)
+  unfoldable pub call : ℕ → ℕ → Held (S .Cells) → Replied (S .Cells)
   call n l h = entered (placeHolds M S h) n l h
 
   -- What a call does, without the loop: the steps it makes, and where it stops.
@@ -76,7 +76,7 @@ module _ (M : Machine) (S : Store (Frame (M .D))) where
 
   -- from h, with n steps allowed and an output buffer of l letters: "It goes on until the end, until a push makes an accepting path, until the
   -- allowance is used, or until a refusal". The four exclude each other (stops-one).
-  pub data Stops (l n : ℕ) (h : Held (S .Cells)) : Told (S .Cells) → Type 0 where
+  pub data Stops (l n : ℕ) (h : Held (S .Cells)) : Replied (S .Cells) → Type 0 where
     -- Ended: "the end is looked for before the allowance"
     at-end : {k : ℕ} {d : Held (S .Cells)} → Steps l k h d → k ≤ n → AtEnd d → Stops l n h (record { reply = ended; steps = k; after = d })
     -- Found, "even when its step was the last allowed"

@@ -15,7 +15,7 @@ use Rattle.machine.specs.Query.{sameWord}
 use Rattle.machine.specs.Tour.{treeSize}
 use Rattle.machine.specs.Transducer.{machine}
 use Rattle.machine.specs.Stack.{frameWidth}
-use Rattle.machine.specs.Answer.{doneKind, foundKind, pausedKind, endedKind, refusedKind}
+use Rattle.refusal.specs.Told.{doneKind, foundKind, pausedKind, endedKind, refusedKind}
 use Rattle.machine.specs.Asked.{Asked, turned, runs, asked}
 use Rattle.machine.specs.Start.{started, startToldBy}
 use Rattle.machine.specs.Reading.{Outcome, toldBy}

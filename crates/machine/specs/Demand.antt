@@ -14,7 +14,8 @@ use Rattle.machine.specs.Tour.{tour, readings, treeSize}
 use Rattle.machine.specs.Machine.{Path, accepts, output, Allowed}
 use Rattle.machine.specs.Transducer.{lettersToRead, machine}
 use Rattle.machine.specs.Stack.{frameWidth, framesIn}
-use Rattle.machine.specs.Answer.{endedKind, refusedKind, outputTold}
+use Rattle.refusal.specs.Told.{endedKind, refusedKind}
+use Rattle.machine.specs.Answer.{outputTold}
 use Rattle.machine.specs.Reading.{Outcome, toldBy, outcome, CallBy}
 
 -- what a caller lends to one call: the cells of the table, any stack, any allowance and any output buffer

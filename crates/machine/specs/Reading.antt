@@ -19,7 +19,7 @@ use Rattle.machine.specs.Machine.{Machine}
 use Rattle.machine.specs.Frames.{Frame, Store, Held}
 use Rattle.machine.specs.Step.{refuses, step}
 use Rattle.machine.specs.Place.{InSearch}
-use Rattle.machine.specs.Call.{Reply, found, paused, ended, refused, Told as Replied, still, call, Steps, Stops}
+use Rattle.machine.specs.Call.{Reply, found, paused, ended, refused, Replied, still, call, Steps, Stops}
 use Rattle.machine.specs.Transducer.{machine}
 use Rattle.machine.specs.Stack.{store}
 use Rattle.machine.specs.Answer.{told}

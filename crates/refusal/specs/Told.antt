@@ -3,8 +3,23 @@ use Prim.Native.Nat.{ℕ}
 use Rattle.refusal.specs.declared.Refusal.{Refusal}
 use Rattle.refusal.specs.Refusal.{numberOf}
 
--- its kind (0 done, 1 found, 2 paused, 3 ended, 4 refused), the number of its refusal, the steps made and the length told; what a case
--- does not have is 0
+-- the kinds of answers, by their numbers
+abbrev pub doneKind : ℕ
+doneKind = 0
+
+abbrev pub foundKind : ℕ
+foundKind = 1
+
+abbrev pub pausedKind : ℕ
+pausedKind = 2
+
+abbrev pub endedKind : ℕ
+endedKind = 3
+
+abbrev pub refusedKind : ℕ
+refusedKind = 4
+
+-- its kind, the number of its refusal, the steps made and the length told; what a case does not have is 0
 pub record Told : Type 0 where
   pub kind : ℕ
   pub number : ℕ
@@ -13,7 +28,7 @@ pub record Told : Type 0 where
 
 -- "A refusal carries its number"
 abbrev pub refused : Refusal → ℕ → ℕ → Told
-refused refusal steps length = record { kind = 4; number = numberOf refusal; steps = steps; length = length }
+refused refusal steps length = record { kind = refusedKind; number = numberOf refusal; steps = steps; length = length }
 
 -- an answer that is no refusal
 abbrev pub answered : ℕ → ℕ → ℕ → Told

@@ -8,6 +8,7 @@ use Rattle.table_format.specs.Text.{joinLines}
 use Rattle.machine.specs.declared.Run.{Run}
 use Rattle.machine.specs.declared.Answer.{Answer}
 use Rattle.machine.specs.declared.Answer.the-variants.{Found, Paused, Ended, Refused}
+use Rattle.machine.specs.Stack.{frameWidth}
 use Rattle.machine.specs.Reading.{Outcome, outcome}
 use Rattle.session_query.specs.Query.{upperIn, lowerIn}
 use Rattle.session_calls.specs.Calls.{callSteps, mostCalls}
@@ -24,7 +25,7 @@ stackFrames = 4096
 
 -- a frame has four cells
 abbrev pub stackCells : ℕ
-stackCells = stackFrames * 4
+stackCells = stackFrames * frameWidth
 
 -- what a call's answer adds after count readings; k says how the session goes on
 abbrev pub linesBy : Answer → Outcome → ℕ → (Run → List ℕ → List ℕ → ℕ → List (List ℕ)) → List (List ℕ)

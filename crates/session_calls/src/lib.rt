@@ -1,5 +1,4 @@
 // Calls for a reading, one after the other.
-use engine::advance;
 use machine::Answer;
 use machine::Run;
 use refusal::Refusal;
@@ -35,7 +34,7 @@ pub fn make_calls(
     let mut at = run;
     while 0 < left {
         left -= 1;
-        let called = advance::advance(table, upper, lower, at, stack, CALL_STEPS, output);
+        let called = engine_advance::advance(table, upper, lower, at, stack, CALL_STEPS, output);
         at = called.run;
         let answer = called.answer;
         match answer {

@@ -5,7 +5,7 @@ use mathlib.Core.Path.{_≡_}
 use mathlib.Core.Option.{Option, none, some}
 use mathlib.Core.List.{List, _++_}
 use lib.ListN.{length, drop}
-use Rattle.refusal.specs.Told.{Told, answered}
+use Rattle.refusal.specs.Told.{Told, doneKind, answered}
 use Rattle.refusal.specs.Told as T
 use Rattle.machine.specs.declared.Run.{Run}
 use Rattle.session_query.specs.Query.{filled}
@@ -21,7 +21,7 @@ pub record OpeningTold : Type 0 where
   pub state : Option SessionState
 
 abbrev pub openingTold : Opening → OpeningTold
-openingTold (Ready state) = record { answer = answered 0 0 0; state = some state }
+openingTold (Ready state) = record { answer = answered doneKind 0 0; state = some state }
 openingTold (Refused r) = record { answer = T.refused r 0 0; state = none }
 
 pub record OpeningOutcome : Type 0 where

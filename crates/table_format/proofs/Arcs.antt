@@ -5,13 +5,12 @@ use mathlib.Core.Path.{_≡_, refl, sym, ap, ap₂, _∙_}
 use mathlib.Core.List.{List, [], _∷_, _++_}
 use lib.ListN.{length, getD, take, drop}
 use lib.Seq.{drop-drop, getD-drop, getD-take, length-take-le}
-use mathlib.Core.Bool.{Bool, true, false}
+use mathlib.Core.Bool.{Bool, false}
 use Rattle.table_format.specs.Table.{Arc}
 use Rattle.table_format.specs.Rules.{each}
 use Rattle.table_format.specs.Loaded.{arcWidth, arcIn, arcsIn}
 use Rattle.table_format.specs.Cells.{arcAs, arcCount, arcsAs}
-use Rattle.table_format.proofs.Tests.{and-both}
-use Rattle.table_format.proofs.Each.{each-snoc, each-fails}
+use Rattle.table_format.proofs.Each.{each-fails}
 
 -- a function at equal numbers
 pub at-equal : {A : Type 0} (f : ℕ → A) (m n : ℕ) → m ≡ n → f m ≡ f n
@@ -85,12 +84,7 @@ take-arcs n zero cells h = refl
 take-arcs zero (suc k) cells h = absurd (omega arith)
 take-arcs (suc n) (suc k) cells h = ap (λ (l : List Arc). arcIn cells ∷ l) (take-arcs n k (drop 4 cells) (omega arith))
 
--- a test along the arcs of cells: one arc more, the first that fails
-
-pub arcs-more : (test : List Arc → Arc → Bool) (cells : List ℕ) (k : ℕ) → each test [] (arcsIn k cells) ≡ true → test (arcsIn k cells) (arcAt cells k) ≡ true
-    → each test [] (arcsIn (suc k) cells) ≡ true
-arcs-more test cells k e f = ap (each test []) (arcs-snoc k cells) ∙ each-snoc test (arcsIn k cells) (arcAt cells k) ∙ and-both e f
-
+-- a test along the arcs of cells fails where it fails at one
 pub arcs-fail : (test : List Arc → Arc → Bool) (cells : List ℕ) (n k : ℕ) → k < n → test (arcsIn k cells) (arcAt cells k) ≡ false → each test [] (arcsIn n cells) ≡ false
 arcs-fail test cells n k h f =
     each-fails test noArc (arcsIn n cells) k (omega (arith, length-arcs n cells))

@@ -41,17 +41,17 @@ use Rattle.machine.specs.declared.Run.{Run}
 use Rattle.machine.specs.declared.Answer.{Answer}
 use Rattle.capi_numbers.specs.declared.Reply.{Reply}
 use Rattle.capi_numbers.specs.Numbers.{replyTold}
-use Rattle.engine_reading.proofs.Parameters.{parameters, spells, tells}
-use Rattle.engine_reading.proofs.Walking as Walking
-use Rattle.engine_reading.proofs.Walking.{slice, exits, ends, fm, by-hand}
+use Rattle.engine.proofs.Parameters.{parameters, spells, tells}
+use Rattle.engine.proofs.Walking as Walking
+use Rattle.engine.proofs.Walking.{slice, exits, ends, fm, by-hand}
 use Rattle.machine.proofs.Answer as S
 use Rattle.machine.proofs.Answer.Laws as S′
 use Rattle.capi_numbers.proofs.Reply as F
 use Rattle.capi_numbers.proofs.Reply.Laws as F′
-use Rattle.engine_reading.proofs.next_reading as next
-use Rattle.engine_reading.proofs.next_reading.Symbol as next-def
-use Rattle.engine_reading.proofs.next_reading.Symbol.{name as #next}
-use Rattle.engine_reading.proofs.next_reading.Met as next-thm
+use Rattle.engine.proofs.next_reading as next
+use Rattle.engine.proofs.next_reading.Symbol as next-def
+use Rattle.engine.proofs.next_reading.Symbol.{name as #next}
+use Rattle.engine.proofs.next_reading.Met as next-thm
 use Rattle.capi_numbers.proofs.answer_numbers as nums
 use Rattle.capi_numbers.proofs.answer_numbers.Symbol as nums-def
 use Rattle.capi_numbers.proofs.answer_numbers.Symbol.{name as #nums}

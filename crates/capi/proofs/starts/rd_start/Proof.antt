@@ -40,8 +40,8 @@ use denote.Triple.Walked.{says, walkOf, Walks, walked}
 use Rattle.machine.specs.declared.Run.{Run}
 use Rattle.capi.specs.declared.Begun.{Begun}
 use Rattle.capi.specs.Start.{StartTold}
-use Rattle.engine_reading.proofs.Walking as Walking
-use Rattle.engine_reading.proofs.Walking.{slice, exits, ends, fm, by-hand}
+use Rattle.engine.proofs.Walking as Walking
+use Rattle.engine.proofs.Walking.{slice, exits, ends, fm, by-hand}
 use Rattle.machine.proofs.Run as R
 use Rattle.machine.proofs.Run.Laws as R′
 use Rattle.capi.proofs.StartReply as S

@@ -11,7 +11,7 @@ use Rattle.machine.specs.declared.Called.{Called}
 use Rattle.machine.specs.declared.Answer.the-variants.{Refused}
 use Rattle.machine.specs.Machine.{Machine}
 use Rattle.machine.specs.Frames.{Held, placeHolds}
-use Rattle.machine.specs.Call.{Told, advance, entered, call}
+use Rattle.machine.specs.Call.{Replied, advance, entered, call}
 use Rattle.machine.specs.Reading.{heldOf}
 use Rattle.machine.specs.Stack.{roomIn, store}
 use Rattle.machine.proofs.Frames.{place-placed}
@@ -42,7 +42,7 @@ module _ (s : Setup) (initials terminals arcs upper lower : List ℕ) (run : Run
 
   pub place-refused : placed ≡ false → (r : Called) → r ≡ calledWith (Refused 0 (State Place)) run
       → SearchIs (run .task) buffer (call M store n (length buffer) h) r stack buffer
-  place-refused e r k = subst (λ (x : Told (List ℕ)). SearchIs (run .task) buffer x r stack buffer) (call-by false e) (k, refl, refl)
+  place-refused e r k = subst (λ (x : Replied (List ℕ)). SearchIs (run .task) buffer x r stack buffer) (call-by false e) (k, refl, refl)
 
   module _ (e : placed ≡ true) where
     pub place-good : Good M store (roomIn stack) h
@@ -52,4 +52,4 @@ module _ (s : Setup) (initials terminals arcs upper lower : List ℕ) (run : Run
 
     pub place-searched : (r : Called) (c o : List ℕ) → SearchIs (run .task) buffer (advance M store (length buffer) n h) r c o
         → SearchIs (run .task) buffer (call M store n (length buffer) h) r c o
-    place-searched r c o S = subst (λ (x : Told (List ℕ)). SearchIs (run .task) buffer x r c o) (call-by true e) S
+    place-searched r c o S = subst (λ (x : Replied (List ℕ)). SearchIs (run .task) buffer x r c o) (call-by true e) S

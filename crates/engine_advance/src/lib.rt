@@ -12,7 +12,7 @@ ghost use Rattle.table_format.specs.Loaded.{countsIn};
 ghost use Rattle.table_check.specs.Check.{layoutOf};
 ghost use Rattle.machine.specs.Answer.{told};
 ghost use Rattle.machine.specs.Reading.{outcome, OutcomeIs};
-ghost use Rattle.engine.specs.Admitted.{Admitted};
+ghost use Rattle.engine_advance.specs.Admitted.{Admitted};
 
 // 21, then the steps, where 20, 11 and 10 are not given.
 fn resume(

@@ -35,8 +35,8 @@ use Rattle.engine_step.specs.Setting.{taskBy, queryBy, tableBy, machineBy, Prep
 use Rattle.engine_search.specs.Searching.{calledWith, SearchIs}
 use Rattle.engine_admission.specs.Admission.{readsAt}
 use Rattle.engine_admission.proofs.Words.{Asks, reads-of}
-use Rattle.engine.specs.Admitted.{Admitted}
-use Rattle.engine.proofs.Placed.{place-refused, place-good, place-searched}
+use Rattle.engine_advance.specs.Admitted.{Admitted}
+use Rattle.engine_advance.proofs.Placed.{place-refused, place-good, place-searched}
 
 -- 20, 11 and 10 leave all as it was
 pub turned-outcome : (cells upper lower : List ℕ) (run : Run) (stack : List ℕ) (n : ℕ) (buffer : List ℕ) (r : Refusal) → asked cells (run .task) upper lower ≡ turned r

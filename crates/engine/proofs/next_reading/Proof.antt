@@ -43,23 +43,23 @@ use Rattle.machine.specs.Answer.{told}
 use Rattle.machine.specs.Reading.{outcome, OutcomeIs}
 use Rattle.machine.specs.declared.Run.{Run}
 use Rattle.machine.specs.declared.Called.{Called}
-use Rattle.engine_reading.proofs.Parameters.{parameters, spells, tells}
-use Rattle.engine_reading.proofs.Walking as Walking
-use Rattle.engine_reading.proofs.Walking.{slice, exits, ends, fm, by-hand}
+use Rattle.engine.proofs.Parameters.{parameters, spells, tells}
+use Rattle.engine.proofs.Walking as Walking
+use Rattle.engine.proofs.Walking.{slice, exits, ends, fm, by-hand}
 use Rattle.machine.proofs.Run as R
 use Rattle.machine.proofs.Run.Laws as R′
 use Rattle.machine.proofs.Answer as S
 use Rattle.machine.proofs.Answer.Laws as S′
 use Rattle.machine.proofs.Called as T
 use Rattle.machine.proofs.Called.Laws as T′
-use Rattle.engine.proofs.advance.advance as advance
-use Rattle.engine.proofs.advance.advance.Symbol as advance-def
-use Rattle.engine.proofs.advance.advance.Symbol.{name as #advance}
-use Rattle.engine.proofs.advance.advance.Met as advance-thm
-use Rattle.engine_reading.proofs.next_reading.Key.{name as #next-reading}
-use Rattle.engine_reading.proofs.next_reading as next
-use Rattle.engine_reading.proofs.next_reading.Statement as stated
-use Rattle.engine_reading.proofs.next_reading.Code as code
+use Rattle.engine_advance.proofs.advance as advance
+use Rattle.engine_advance.proofs.advance.Symbol as advance-def
+use Rattle.engine_advance.proofs.advance.Symbol.{name as #advance}
+use Rattle.engine_advance.proofs.advance.Met as advance-thm
+use Rattle.engine.proofs.next_reading.Key.{name as #next-reading}
+use Rattle.engine.proofs.next_reading as next
+use Rattle.engine.proofs.next_reading.Statement as stated
+use Rattle.engine.proofs.next_reading.Code as code
 
 -- the contract that the proof cites
 abbrev Advance : {M : Type 1} (𝓤 : URA M) (H : Heap 𝓤) (A : Atoms 𝓤) (mem : Memory → SProp 𝓤) (run : Routine → Fun 𝓤) → Contract 𝓤
@@ -222,4 +222,4 @@ next-reading-spec 𝓤 H 𝓜 𝓖 𝓡 =
     by-hand 𝓤 H 𝓜 𝓖 𝓡 code.env next.ended (next.clauses 𝓤 H (𝓖 .A) (𝓜 .mem) (𝓡 .run)) #next-reading code.function (code.unfolded 𝓤 H 𝓜 𝓡)
     (next-walks 𝓤 H (𝓖 .A) (givenOf 𝓤 H 𝓜 𝓖) (𝓜 .mem) (𝓡 .run) (Walking.C 𝓤 H 𝓜 𝓖 𝓡 code.env) (Walking.Λ 𝓤 H 𝓜 𝓖 𝓡 code.env) (fm 𝓤 H 𝓜 𝓖 𝓡 code.env)
     (cited 𝓤 H (Advance 𝓤 H (𝓖 .A) (𝓜 .mem) (𝓡 .run)) 𝓜 𝓡 code.env #advance
-    advance-def.routine code.calls-engine·advance·advance (advance-thm.met 𝓤 H 𝓜 𝓖 𝓡)))
+    advance-def.routine code.calls-engine_advance·advance (advance-thm.met 𝓤 H 𝓜 𝓖 𝓡)))

@@ -4,9 +4,9 @@ use denote.Ref.{now}
 use Rattle.table_check.specs.declared.Checked.{Checked}
 use Rattle.table_check.proofs.Passing.{laid}
 use Rattle.engine_admission.proofs.Words.{asking-turned, asking-passes}
-use Rattle.engine.proofs.Resuming.{turned-outcome, admitted-by}
-use Rattle.engine.proofs.advance.advance.Statement.{statement}
-use Rattle.engine.proofs.advance.advance.Tie as tie
+use Rattle.engine_advance.proofs.Resuming.{turned-outcome, admitted-by}
+use Rattle.engine_advance.proofs.advance.Statement.{statement}
+use Rattle.engine_advance.proofs.advance.Tie as tie
 
 check-requires : tie.Need-check-requires
 check-requires c κs = search needs

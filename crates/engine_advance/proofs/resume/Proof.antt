@@ -5,9 +5,9 @@ use mathlib.Core.Path.{sym, _∙_}
 use lib.ListN.{take, drop}
 use denote.Ref.{now}
 use borrow.Author.Tests.{not-true, not-false}
-use Rattle.engine.proofs.Resuming.{within, prepared, refused-outcome, good-place, search-outcome}
-use Rattle.engine.proofs.advance.resume.Statement.{statement}
-use Rattle.engine.proofs.advance.resume.Tie as tie
+use Rattle.engine_advance.proofs.Resuming.{within, prepared, refused-outcome, good-place, search-outcome}
+use Rattle.engine_advance.proofs.resume.Statement.{statement}
+use Rattle.engine_advance.proofs.resume.Tie as tie
 
 reads-requires : tie.Need-reads-requires
 reads-requires c κs = search needs
