@@ -189,9 +189,9 @@ before-one : (M : Machine) (S : Store (Frame (M .D))) (l : ℕ) (h d e : Held (S
 before-one M S l h d e a b A B =
     let z = stops-one M S l {n = suc (told a .steps + told b .steps)} (R.at-refusal (A .refusal) (A .steps-made) (omega arith) (A .refused-there))
     (R.at-refusal (B .refusal) (B .steps-made) (omega arith) (B .refused-there)) in
-    let k : told a .steps ≡ told b .steps = ap (λ (r : R.Told (S .Cells)). r .steps) z in
-    let y : R.refused (A .refusal) ≡ R.refused (B .refusal) = ap (λ (r : R.Told (S .Cells)). r .reply) z in
-    let c : A .refusal ≡ B .refusal = cc in (A .is-refused ∙ ap₂ Refused k c ∙ sym (B .is-refused), ap (λ (r : R.Told (S .Cells)). r .after) z)
+    let k : told a .steps ≡ told b .steps = ap (λ (r : R.Replied (S .Cells)). r .steps) z in
+    let y : R.refused (A .refusal) ≡ R.refused (B .refusal) = ap (λ (r : R.Replied (S .Cells)). r .reply) z in
+    let c : A .refusal ≡ B .refusal = cc in (A .is-refused ∙ ap₂ Refused k c ∙ sym (B .is-refused), ap (λ (r : R.Replied (S .Cells)). r .after) z)
 
 pub refused-leaves-one : (w : Asked) (run : Run) (stack buffer : List ℕ) (o v : Outcome) → RefusedLeaves w run stack buffer o → RefusedLeaves w run stack buffer v → o ≡ v
 refused-leaves-one (turned c) run stack buffer o v O W = unchanged-one c run stack o v (O .1) (W .1) (O .0 ∙ sym (W .0))
