@@ -1,10 +1,10 @@
 -- What a start tells C is what the engine's start tells.
 use Prim.Native.Nat.{ℕ}
-use mathlib.Core.Path.{_≡_, ap, _∙_}
+use mathlib.Core.Path.{ap, _∙_}
 use mathlib.Core.List.{List}
 use Rattle.machine.specs.declared.Run.{Run}
 use Rattle.machine.specs.declared.Started.{Started}
-use Rattle.machine.specs.Start.{startToldBy, StartIs}
+use Rattle.machine.specs.Start.{StartIs}
 use Rattle.machine.proofs.Start.{start-is}
 use Rattle.capi.specs.declared.StartReply.{StartReply}
 use Rattle.capi.specs.Start.{runLeft, ReplyIs, StartTold}

@@ -13,7 +13,6 @@ use prog.Wp.{Heap, Calls, Loops, WpFn, Closed}
 use ghost.Atoms.{Atoms}
 use types.Kit.{Given}
 use contract.Lifetimes.{Lfts}
-use contract.Monad.{Fun, Mono}
 use contract.Running.{Running, GhostRules, givenOf, tables, tablesOf}
 use sound.WpLaws.{FmC, fmOf, WpFn-mono}
 use denote.RattleType.{Denots}

@@ -99,7 +99,11 @@ pub fn terminal_fault(before: &[u16], states: u16, state: u16) -> Judged
 pub fn arc_key(arc: Arc) -> u64
     ensures { λ r. ⌜ r ≡ arcKey (arcSaid arc) ⌝ }
 {
-    arc.source as u64 * 4294967296 + arc.lower as u64 * 16777216 + arc.upper as u64 * 65536 + arc.target as u64 + 1
+    arc.source as u64 * 4294967296
+        + arc.lower as u64 * 16777216
+        + arc.upper as u64 * 65536
+        + arc.target as u64
+        + 1
 }
 
 // The source of the last of some arcs, 0 where there is none.

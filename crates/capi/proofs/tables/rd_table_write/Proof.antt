@@ -1,5 +1,5 @@
 -- What the writer tells, in numbers; the bytes are few.
-use mathlib.Core.Path.{sym, ap, _∙_}
+use mathlib.Core.Path.{sym, _∙_}
 use denote.Ref.{now}
 use borrow.Author.Needs.{needs}
 use Rattle.destination.proofs.Told.{stored-told-one}
