@@ -3,9 +3,7 @@ use Prim.Native.Nat.{ℕ}
 use mathlib.Core.Path.{_≡_, refl, sym, ap, _∙_}
 use mathlib.Core.Bool.{cond}
 use lib.Dec.{eqb}
-use Rattle.refusal.specs.declared.InputCause.{InputCause}
 use Rattle.refusal.specs.declared.InputCause.the-variants.{Malformed, Misplaced, CountLimit, StateNumber, LetterLimit, StateOrder, SourceOrder, ArcRepeated, LineCount, WordFault, TaskFault, IdleCycle}
-use Rattle.refusal.specs.declared.StateCause.{StateCause}
 use Rattle.refusal.specs.declared.StateCause.the-variants.{LoadedTable, Place, StackFull, OutputFull, DestinationShort}
 use Rattle.refusal.specs.declared.Refusal.{Refusal}
 use Rattle.refusal.specs.declared.Refusal.the-variants.{Input, State}

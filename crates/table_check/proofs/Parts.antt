@@ -14,7 +14,7 @@ use Rattle.table_format.specs.Table.{countsOf}
 use Rattle.table_format.specs.Rules.{countsHold, initialsKeep, terminalsKeep, arcsKeep, keepsRules}
 use Rattle.table_format.specs.Loaded.{arcWidth, initialsAt, countsIn, arcsIn, extent, tableIn, loaded}
 use Rattle.table_format.specs.Index.{firstIndex, firstArcs}
-use Rattle.table_format.specs.Cells.{countsAs, arcCount, arcsAs, Whole}
+use Rattle.table_format.specs.Cells.{countsAs, arcCount, arcsAs}
 use Rattle.table_check.specs.Check.{LaidOut, layoutOf}
 use Rattle.table_format.proofs.Arcs.{at-equal, arcs-take}
 use Rattle.table_format.proofs.Rules.{header-clear, keeps-parts, counts-bounded}
@@ -36,9 +36,6 @@ module _ (cells : List ℕ) (l : Layout) (L : LaidOut cells l) where
 
   pub arcs-length : length arcsPart ≡ arcWidth * getD cells 3 0
   arcs-length = length-take-le (l .end - l .arcs) (drop (l .arcs) cells) (simp length-drop (omega arith)) ∙ omega arith
-
-  pub arcs-whole : Whole arcsPart
-  arcs-whole = let e = arcs-length in omega arith
 
   pub arcs-part : arcsAs arcsPart ≡ tableIn cells .arcs
   unfolding tableIn
