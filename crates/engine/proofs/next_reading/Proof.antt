@@ -222,4 +222,4 @@ next-reading-spec 𝓤 H 𝓜 𝓖 𝓡 =
     by-hand 𝓤 H 𝓜 𝓖 𝓡 code.env next.ended (next.clauses 𝓤 H (𝓖 .A) (𝓜 .mem) (𝓡 .run)) #next-reading code.function (code.unfolded 𝓤 H 𝓜 𝓡)
     (next-walks 𝓤 H (𝓖 .A) (givenOf 𝓤 H 𝓜 𝓖) (𝓜 .mem) (𝓡 .run) (Walking.C 𝓤 H 𝓜 𝓖 𝓡 code.env) (Walking.Λ 𝓤 H 𝓜 𝓖 𝓡 code.env) (fm 𝓤 H 𝓜 𝓖 𝓡 code.env)
     (cited 𝓤 H (Advance 𝓤 H (𝓖 .A) (𝓜 .mem) (𝓡 .run)) 𝓜 𝓡 code.env #advance
-    advance-def.routine code.calls-engine_advance·advance (advance-thm.met 𝓤 H 𝓜 𝓖 𝓡)))
+    advance-def.routine code.calls-engine-advance·advance (advance-thm.met 𝓤 H 𝓜 𝓖 𝓡)))

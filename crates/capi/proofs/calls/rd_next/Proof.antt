@@ -182,5 +182,5 @@ unfolding code.routine
 rd-next-spec 𝓤 H 𝓜 𝓖 𝓡 =
     by-hand 𝓤 H 𝓜 𝓖 𝓡 code.env f.ended (f.clauses 𝓤 H (𝓖 .A) (𝓜 .mem) (𝓡 .run)) #f code.function (code.unfolded 𝓤 H 𝓜 𝓡)
     (walks 𝓤 H (𝓖 .A) (givenOf 𝓤 H 𝓜 𝓖) (𝓜 .mem) (𝓡 .run) (Walking.C 𝓤 H 𝓜 𝓖 𝓡 code.env) (Walking.Λ 𝓤 H 𝓜 𝓖 𝓡 code.env) (fm 𝓤 H 𝓜 𝓖 𝓡 code.env)
-    (cited 𝓤 H (Next 𝓤 H (𝓖 .A) (𝓜 .mem) (𝓡 .run)) 𝓜 𝓡 code.env #next next-def.routine code.calls-engine-reading·next-reading (next-thm.met 𝓤 H 𝓜 𝓖 𝓡))
+    (cited 𝓤 H (Next 𝓤 H (𝓖 .A) (𝓜 .mem) (𝓡 .run)) 𝓜 𝓡 code.env #next next-def.routine code.calls-engine·next-reading (next-thm.met 𝓤 H 𝓜 𝓖 𝓡))
     (cited 𝓤 H (Nums 𝓤 H (𝓖 .A) (𝓜 .mem) (𝓡 .run)) 𝓜 𝓡 code.env #nums nums-def.routine code.calls-capi-numbers·answer-numbers (nums-thm.met 𝓤 H 𝓜 𝓖 𝓡)))
