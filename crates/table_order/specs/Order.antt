@@ -15,12 +15,18 @@ unfoldable pub joinedHold : ℕ → Bool
 joinedHold n = leb (n % 65536) 63 && leb (n / 65536) 63
 
 -- a number for an arc by its source and letters: where it rises from arc to arc, sources do not fall and no arc stands twice
+abbrev pub keyBy : ℕ → ℕ → ℕ
+keyBy source letters = source * 4294967296 + letters + 1
+
 abbrev pub orderKey : Arc → ℕ
-orderKey a = a .source * 4294967296 + joinedLetters a + 1
+orderKey a = keyBy (a .source) (joinedLetters a)
 
 -- a target that is a state and a key above `top`
+abbrev pub risesBy : ℕ → ℕ → ℕ → ℕ → Bool
+risesBy states top target key = stateHolds states target && ltb top key
+
 unfoldable pub rises : ℕ → ℕ → Arc → Bool
-rises states top a = stateHolds states (a .target) && ltb top (orderKey a)
+rises states top a = risesBy states top (a .target) (orderKey a)
 
 -- each arc is of that kind, over the keys before it
 abbrev pub eachRises : ℕ → List Arc → Bool

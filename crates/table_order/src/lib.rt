@@ -5,7 +5,7 @@ use table_format::arc_at;
 ghost use mathlib.Core.Path.{_≡_};
 ghost use Rattle.table_format.specs.Rules.{terminalsKeep};
 ghost use Rattle.table_format.specs.Cells.{arcSaid, arcsAs};
-ghost use Rattle.table_order.specs.Order.{joinedLetters, joinedHold, orderKey, rises, arcsRise};
+ghost use Rattle.table_order.specs.Order.{joinedLetters, joinedHold, keyBy, risesBy, arcsRise};
 
 // Terminal states that rise are states where the last one is. The loop goes through the whole list, so that several are compared at once.
 pub fn terminals_hold(list: &[u16], states: u16) -> bool
@@ -47,20 +47,20 @@ fn joined_hold(joined: u32) -> bool
 }
 
 // A number for an arc by its source and letters, which rises where arcs stand in order.
-fn order_key(arc: Arc) -> u64
-    ensures { λ r. ⌜ r ≡ orderKey (arcSaid arc) ⌝ }
+fn order_key(source: u16, letters: u32) -> u64
+    ensures { λ r. ⌜ r ≡ keyBy source letters ⌝ }
 {
-    arc.source as u64 * 4294967296 + letters(arc) as u64 + 1
+    source as u64 * 4294967296 + letters as u64 + 1
 }
 
 // Whether an arc has a target that is a state and a key above `top`.
-fn is_rising(states: u16, arc: Arc, top: u64) -> bool
-    ensures { λ r. ⌜ r ≡ rises states top (arcSaid arc) ⌝ }
+fn is_rising(states: u16, target: u16, key: u64, top: u64) -> bool
+    ensures { λ r. ⌜ r ≡ risesBy states top target key ⌝ }
 {
-    if states <= arc.target {
+    if states <= target {
         return false;
     }
-    top < order_key(arc)
+    top < key
 }
 
 // Whether the arcs stand in order: then they keep the rules, and none has to be looked for among those before it. The last source is the
@@ -74,9 +74,11 @@ pub fn arcs_rise(cells: &[u16], states: u16) -> bool
     let mut n = 0;
     while n < count {
         let arc = arc_at(cells, n);
-        if is_rising(states, arc, top) {
-            top = order_key(arc);
-            joined = joined | letters(arc);
+        let both = letters(arc);
+        let key = order_key(arc.source, both);
+        if is_rising(states, arc.target, key, top) {
+            top = key;
+            joined = joined | both;
             n += 1;
         } else {
             return false;

@@ -1,6 +1,6 @@
 use Prim.Native.Nat.{ℕ, _+_, _*_, _≤_, _-_}
 use native.Mathlib.Omega.{arith}
-use mathlib.Core.Path.{_≡_, refl, sym, ap, _∙_}
+use mathlib.Core.Path.{_≡_, refl, sym, ap, ap₂, _∙_}
 use mathlib.Core.Bool.{Bool, true, _&&_}
 use denote.Ref.{now}
 use lib.Bits.{bitOr}
@@ -11,7 +11,7 @@ use Rattle.table_format.specs.Rules.{each}
 use Rattle.table_format.specs.Loaded.{arcWidth, arcsIn}
 use Rattle.table_format.specs.Cells.{arcCount, arcOf, arcSaid}
 use Rattle.table_rules.specs.Judge.{largest}
-use Rattle.table_order.specs.Order.{joinedLetters, joinedHold, orderKey, rises, eachRises, lettersHold, arcsRise}
+use Rattle.table_order.specs.Order.{joinedLetters, joinedHold, keyBy, orderKey, risesBy, rises, eachRises, lettersHold, arcsRise}
 use Rattle.table_format.proofs.Arcs.{at-equal}
 use Rattle.table_order.proofs.Rising.{rise-more, rise-fails, rise-top, letters-more, rise-ends}
 use Rattle.table_order.proofs.arcs_rise.Statement.{statement}
@@ -28,10 +28,21 @@ Inv-loop cells states count top₀ joined₀ n₀ top joined n =
 abbrev μ-loop : tie.MeasureT-loop
 μ-loop cells states count top₀ joined₀ n₀ top joined n = count - n
 
--- what the test of an arc told, of the arc in its cells
+-- the key and the test of an arc, of the arc in its cells
+key-is : (c : tie.After-order-key Inv-loop μ-loop)
+    → c .order-key .result ≡ orderKey (arcOf (now (c .before .before .before .before .before .before .args .cells)) (c .before .before .before .before .loop .n))
+key-is c =
+    c .order-key .ensures ∙ ap (keyBy (c .before .before .arc-at .result .source)) (c .before .letters .ensures)
+    ∙ ap (λ (a : Held.Arc). orderKey (arcSaid a)) (c .before .before .arc-at .ensures)
+
 told : (c : tie.After-is-rising Inv-loop μ-loop) (b : Bool) → c .is-rising .result ≡ b
-    → rises (c .before .before .before .before .before .args .states) (c .before .before .before .loop .top) (arcOf (now (c .before .before .before .before .before .args .cells)) (c .before .before .before .loop .n)) ≡ b
-told c b e = ap (λ (a : Held.Arc). rises (c .before .before .before .before .before .args .states) (c .before .before .before .loop .top) (arcSaid a)) (sym (c .before .arc-at .ensures)) ∙ sym (c .is-rising .ensures) ∙ e
+    → rises (c .before .before .before .before .before .before .before .args .states) (c .before .before .before .before .before .loop .top) (arcOf (now (c .before .before .before .before .before .before .before .args .cells)) (c .before .before .before .before .before .loop .n)) ≡ b
+unfolding rises
+told c b e =
+    let states = c .before .before .before .before .before .before .before .args .states in
+    let top = c .before .before .before .before .before .loop .top in
+    ap₂ (λ (a : Held.Arc) (k : ℕ). risesBy states top (a .target) k) (sym (c .before .before .before .arc-at .ensures)) (sym (key-is (c .before)))
+    ∙ sym (c .is-rising .ensures) ∙ e
 
 loop-holds : tie.Need-loop-holds Inv-loop μ-loop
 unfolding largest each arcsIn joinedHold
@@ -59,13 +70,11 @@ loop-again : tie.Need-loop-again Inv-loop μ-loop
 loop-again c =
     let a = c .before .before .before .before .before .before .before .before .args in
     let l = c .before .before .before .before .before .before .loop in
-    let arc = c .before .before .before .before .arc-at .ensures in
-    let rise = told (c .before .before .before) true (c .before .before .if1 .taken) in
-    let key = c .before .order-key .ensures ∙ ap (λ (x : Held.Arc). orderKey (arcSaid x)) arc in
-    let letters = c .letters .ensures ∙ ap (λ (x : Held.Arc). joinedLetters (arcSaid x)) arc in (
+    let rise = told (c .before) true (c .if1 .taken) in
+    let letters = c .before .before .before .letters .ensures ∙ ap (λ (x : Held.Arc). joinedLetters (arcSaid x)) (c .before .before .before .before .arc-at .ensures) in (
       l .inv .0,
       omega arith,
-      key ∙ rise-top (a .states) (now (a .cells)) (l .n) (l .top) (l .inv .2) rise,
+      key-is (c .before .before) ∙ rise-top (a .states) (now (a .cells)) (l .n) (l .top) (l .inv .2) rise,
       rise-more (a .states) (now (a .cells)) (l .n) (l .top) (l .inv .2) (l .inv .3) rise,
       ap (λ (m : ℕ). joinedHold (bitOr (l .joined) m)) letters
           ∙ letters-more (a .states) (now (a .cells)) (l .n) (l .top) (l .inv .2) (l .joined) (l .inv .4) (omega (arith, c .before .before .before .before .before .before .before .shared-slice-known .given (arcWidth * l .n + 1))),
@@ -73,8 +82,8 @@ loop-again c =
 
 returns : tie.Need-returns Inv-loop μ-loop
 returns c =
-    let a = c .before .before .before .before .before .before .args in
-    let l = c .before .before .before .before .loop in
+    let a = c .before .before .before .before .before .before .before .before .args in
+    let l = c .before .before .before .before .before .before .loop in
     sym (rise-fails (a .states) (now (a .cells)) (l .n) (l .top) (l .inv .2) (arcCount (now (a .cells))) (omega arith) (told (c .before) _ (c .if1 .left)))
 
 joined-hold-requires : tie.Need-joined-hold-requires Inv-loop μ-loop
@@ -107,9 +116,9 @@ arcs-rise-spec =
     μ-loop
     loop-holds
     arc-at-requires
-    is-rising-requires
-    order-key-requires
     letters-requires
+    order-key-requires
+    is-rising-requires
     add-n
     loop-less
     loop-again
