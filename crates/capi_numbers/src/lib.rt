@@ -8,6 +8,17 @@ ghost use Rattle.machine.specs.Answer.{told, startTold};
 ghost use Rattle.destination.specs.Told.{storedTold};
 ghost use Rattle.capi_numbers.specs.Numbers.{replyTold};
 
+// The kinds of answers.
+pub const DONE: u32 = 0;
+
+pub const FOUND: u32 = 1;
+
+pub const PAUSED: u32 = 2;
+
+pub const ENDED: u32 = 3;
+
+pub const REFUSED: u32 = 4;
+
 // An answer in numbers. Kind: 0 done, 1 found, 2 paused, 3 ended, 4 refused. Number: document 01's of the refusal, else 0.
 // A field that has no meaning for an answer is 0.
 #[repr(C)]
@@ -24,7 +35,7 @@ pub fn refused(refusal: Refusal, steps: u32, length: u32) -> Reply
 {
     let number = refusal::number(refusal) as u32;
     Reply {
-        kind: 4,
+        kind: REFUSED,
         number,
         steps,
         length,
@@ -48,9 +59,9 @@ pub fn answer_numbers(answer: machine::Answer) -> Reply
     ensures { λ r. ⌜ replyTold r ≡ told answer ⌝ }
 {
     match answer {
-        machine::Answer::Found { steps, length } => answered(1, steps, length),
-        machine::Answer::Paused { steps } => answered(2, steps, 0),
-        machine::Answer::Ended { steps } => answered(3, steps, 0),
+        machine::Answer::Found { steps, length } => answered(FOUND, steps, length),
+        machine::Answer::Paused { steps } => answered(PAUSED, steps, 0),
+        machine::Answer::Ended { steps } => answered(ENDED, steps, 0),
         machine::Answer::Refused { steps, refusal } => refused(refusal, steps, 0),
     }
 }
@@ -61,7 +72,7 @@ pub fn table_numbers(answer: destination::Answer) -> Reply
     ensures { λ r. ⌜ replyTold r ≡ storedTold answer ⌝ }
 {
     match answer {
-        destination::Answer::Done(count) => answered(0, 0, count as u32),
+        destination::Answer::Done(count) => answered(DONE, 0, count as u32),
         destination::Answer::Refused(refusal) => refused(refusal, 0, 0),
     }
 }
@@ -71,7 +82,7 @@ pub fn start_numbers(answer: machine::StartAnswer, length: u32) -> Reply
     ensures { λ r. ⌜ replyTold r ≡ startTold answer length ⌝ }
 {
     match answer {
-        machine::StartAnswer::Ready => answered(0, 0, 0),
+        machine::StartAnswer::Ready => answered(DONE, 0, 0),
         machine::StartAnswer::Refused(refusal) => refused(refusal, 0, length),
     }
 }

@@ -8,7 +8,7 @@ use cases_script::numbers;
 use cases_script::show;
 
 // Cells that hold every table, and some more; numbers of a case.
-const MOST_CELLS: usize = 4700;
+const TABLE_CELLS: usize = 4700;
 
 // What a case does by its sign, with its line from the colon on and the numbers of it, on the cells of the table.
 fn act(sign: u8, line: &[u8], list: &[u32], cells: &mut [u16]) {
@@ -24,7 +24,7 @@ fn perform(line: &[u8], cells: &mut [u16]) {
     let colon = scan::find(line, 0, line.len(), b':');
     if colon < line.len() {
         show::say(&line[1..colon + 1]);
-        let mut list = [numbers::NONE; MOST_CELLS];
+        let mut list = [numbers::NONE; TABLE_CELLS];
         numbers::read(&line[colon..], 0, &mut list);
         act(line[0], &line[colon..], &list, cells);
         show::say(b"\n");
@@ -43,7 +43,7 @@ fn each(script: &[u8], cells: &mut [u16]) {
 
 fn run(script: &mut [u8]) {
     numbers::make_plain(script);
-    let mut cells = [cases_tables::CELL_MARK; MOST_CELLS];
+    let mut cells = [cases_tables::CELL_MARK; TABLE_CELLS];
     each(script, &mut cells);
 }
 

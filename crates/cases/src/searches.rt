@@ -3,14 +3,12 @@ use crate::answers;
 use cases_script::numbers;
 use cases_script::show;
 use machine::Called;
+use machine::FRAME_WIDTH;
 use machine::Run;
 ghost use Prim.Native.Nat.{_≤_};
 
-// Cells of a frame.
-const FRAME_CELLS: usize = 4;
-
 // Cells of a stack of 33,025 frames.
-const STACK_CELLS: usize = 132100;
+const LENT_CELLS: usize = 132100;
 
 // Where calls left a run, and their steps in all.
 struct Tally {
@@ -67,7 +65,7 @@ fn call(
     stack: &mut [u32],
 ) -> Called {
     let allowance = numbers::at(list, at, 0);
-    let frames = numbers::amount(list, at, 1, stack.len() / FRAME_CELLS);
+    let frames = numbers::amount(list, at, 1, stack.len() / FRAME_WIDTH);
     let room = numbers::amount(list, at, 2, 100);
     let mut output = [answers::LETTER_MARK; 100];
     made(
@@ -76,7 +74,7 @@ fn call(
         table,
         upper,
         lower,
-        &mut stack[0..FRAME_CELLS * frames],
+        &mut stack[0..FRAME_WIDTH * frames],
         allowance,
         &mut output[0..room],
     )
@@ -173,7 +171,7 @@ fn follow(
     lower: &[u8],
 ) {
     let from = numbers::skip(rest, 5);
-    let mut stack = [numbers::NONE; STACK_CELLS];
+    let mut stack = [numbers::NONE; LENT_CELLS];
     numbers::read(line, from, &mut stack);
     let last = calls(sign, list, rest, first, table, upper, lower, &mut stack);
     finish(sign, list, from, first, last, &stack);

@@ -1,4 +1,4 @@
--- What an answer tells is storedTold by no other answer.
+-- What an answer tells is told by no other answer.
 use Prim.Native.Nat.{ℕ}
 use native.Mathlib.Omega.{arith}
 use mathlib.Core.Path.{_≡_, ap}

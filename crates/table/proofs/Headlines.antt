@@ -23,7 +23,7 @@ use Rattle.table_check.proofs.Passing as passing
 use Rattle.table.proofs.Calls as calls
 
 -- THE CHECK: "20. The loaded table breaks a rule above." It passes exactly the cells that hold a table that keeps the rules (`loads`,
--- format/proofs/Headlines).
+-- table_format/proofs/Headlines).
 pub check-is : (c : List ℕ) → (checked c .ok ≡ true) ↔ ((t : Table) × (loaded c ≡ some t))
 check-is = passing.check-is
 

@@ -21,7 +21,7 @@ abbrev pub arcHere : List ℕ → ℕ → Arc
 arcHere cells at = arcAs (getD cells at 0) (getD cells (at + 1) 0) (getD cells (at + 2) 0) (getD cells (at + 3) 0)
 
 abbrev pub arcAt : List ℕ → ℕ → Arc
-arcAt cells k = arcHere cells (4 * k)
+arcAt cells k = arcHere cells (arcWidth * k)
 
 pub noArc : Arc
 noArc = arcAs 0 0 0 0
@@ -29,7 +29,7 @@ noArc = arcAs 0 0 0 0
 pub length-arcs : (n : ℕ) (cells : List ℕ) → length (arcsIn n cells) ≡ n
 unfolding arcsIn
 length-arcs zero cells = refl
-length-arcs (suc n) cells = ap suc (length-arcs n (drop 4 cells))
+length-arcs (suc n) cells = ap suc (length-arcs n (drop arcWidth cells))
 
 pub arc-dropped : (cells : List ℕ) (at : ℕ) → arcIn (drop at cells) ≡ arcHere cells at
 arc-dropped cells at =
@@ -45,8 +45,8 @@ unfolding arcsIn
 getD-arcs zero cells k d h = absurd (omega arith)
 getD-arcs (suc n) cells zero d h = refl
 getD-arcs (suc n) cells (suc k) d h =
-    getD-arcs n (drop 4 cells) k d (omega arith) ∙ sym (arc-dropped (drop 4 cells) (4 * k))
-    ∙ ap arcIn (drop-drop (4 * k) 4 cells ∙ at-equal (λ m. drop m cells) (4 + 4 * k) (4 * suc k) (omega arith)) ∙ arc-dropped cells (4 * suc k)
+    getD-arcs n (drop arcWidth cells) k d (omega arith) ∙ sym (arc-dropped (drop arcWidth cells) (arcWidth * k))
+    ∙ ap arcIn (drop-drop (arcWidth * k) arcWidth cells ∙ at-equal (λ m. drop m cells) (arcWidth + arcWidth * k) (arcWidth * suc k) (omega arith)) ∙ arc-dropped cells (arcWidth * suc k)
 
 -- one arc more
 pub arcs-snoc : (k : ℕ) (cells : List ℕ) → arcsIn (suc k) cells ≡ arcsIn k cells ++ (arcAt cells k ∷ [])
@@ -54,15 +54,15 @@ unfolding arcsIn
 arcs-snoc zero cells = refl
 arcs-snoc (suc k) cells =
     ap (λ (l : List Arc). arcIn cells ∷ l)
-    (arcs-snoc k (drop 4 cells)
-    ∙ ap (λ (a : Arc). arcsIn k (drop 4 cells) ++ (a ∷ []))
-    (sym (arc-dropped (drop 4 cells) (4 * k)) ∙ ap arcIn (drop-drop (4 * k) 4 cells ∙ at-equal (λ m. drop m cells) (4 + 4 * k) (4 * suc k) (omega arith)) ∙ arc-dropped cells (4 * suc k)))
+    (arcs-snoc k (drop arcWidth cells)
+    ∙ ap (λ (a : Arc). arcsIn k (drop arcWidth cells) ++ (a ∷ []))
+    (sym (arc-dropped (drop arcWidth cells) (arcWidth * k)) ∙ ap arcIn (drop-drop (arcWidth * k) arcWidth cells ∙ at-equal (λ m. drop m cells) (arcWidth + arcWidth * k) (arcWidth * suc k) (omega arith)) ∙ arc-dropped cells (arcWidth * suc k)))
 
 pub arcs-next : (k : ℕ) (cells : List ℕ) → arcsIn (k + 1) cells ≡ arcsIn k cells ++ (arcAt cells k ∷ [])
 arcs-next k cells = at-equal (λ n. arcsIn n cells) (k + 1) (suc k) (omega arith) ∙ arcs-snoc k cells
 
 -- the arcs of a part from the front are the first ones
-pub arcs-take : (k m : ℕ) (cells : List ℕ) → 4 * k ≤ m → m ≤ length cells → arcsIn k (take m cells) ≡ arcsIn k cells
+pub arcs-take : (k m : ℕ) (cells : List ℕ) → arcWidth * k ≤ m → m ≤ length cells → arcsIn k (take m cells) ≡ arcsIn k cells
 unfolding arcsIn
 arcs-take zero m cells h g = refl
 arcs-take (suc k) m cells h g =
@@ -71,10 +71,10 @@ arcs-take (suc k) m cells h g =
     same : arcAt (take m cells) k ≡ arcAt cells k
     same =
         λ i. record {
-          source = getD-take m cells (4 * k) 0 (omega arith) i;
-          upper = getD-take m cells (4 * k + 1) 0 (omega arith) i;
-          lower = getD-take m cells (4 * k + 2) 0 (omega arith) i;
-          target = getD-take m cells (4 * k + 3) 0 (omega arith) i;
+          source = getD-take m cells (arcWidth * k) 0 (omega arith) i;
+          upper = getD-take m cells (arcWidth * k + 1) 0 (omega arith) i;
+          lower = getD-take m cells (arcWidth * k + 2) 0 (omega arith) i;
+          target = getD-take m cells (arcWidth * k + 3) 0 (omega arith) i;
         }
 
 -- the first k of n arcs
@@ -82,7 +82,7 @@ pub take-arcs : (n k : ℕ) (cells : List ℕ) → k ≤ n → take k (arcsIn n 
 unfolding arcsIn
 take-arcs n zero cells h = refl
 take-arcs zero (suc k) cells h = absurd (omega arith)
-take-arcs (suc n) (suc k) cells h = ap (λ (l : List Arc). arcIn cells ∷ l) (take-arcs n k (drop 4 cells) (omega arith))
+take-arcs (suc n) (suc k) cells h = ap (λ (l : List Arc). arcIn cells ∷ l) (take-arcs n k (drop arcWidth cells) (omega arith))
 
 -- a test along the arcs of cells fails where it fails at one
 pub arcs-fail : (test : List Arc → Arc → Bool) (cells : List ℕ) (n k : ℕ) → k < n → test (arcsIn k cells) (arcAt cells k) ≡ false → each test [] (arcsIn n cells) ≡ false

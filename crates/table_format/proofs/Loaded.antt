@@ -13,7 +13,7 @@ use lib.Seq.{take-append-seam, drop-append-seam, drop-append-add, take-add, leng
 use borrow.Author.Tests.{leb-true, le-leb}
 use Rattle.table_format.specs.Table.{Arc, Table, Counts, countsOf}
 use Rattle.table_format.specs.Rules.{keepsRules}
-use Rattle.table_format.specs.Loaded.{countCells, arcsCells, cellsOf, countsIn, arcsIn, terminalsAt, arcsAt, extent, tableIn, loaded}
+use Rattle.table_format.specs.Loaded.{arcWidth, initialsAt, countCells, arcsCells, cellsOf, countsIn, arcsIn, terminalsAt, arcsAt, extent, tableIn, loaded}
 use Rattle.table_format.proofs.Arcs.{length-arcs}
 
 -- Arcs and their cells.
@@ -23,10 +23,10 @@ unfolding arcsIn arcsCells
 arcs-in [] rest = refl
 arcs-in (a ∷ arcs) rest = ap (λ (l : List Arc). a ∷ l) (arcs-in arcs rest)
 
-pub length-arcs-cells : (arcs : List Arc) → length (arcsCells arcs) ≡ 4 * length arcs
+pub length-arcs-cells : (arcs : List Arc) → length (arcsCells arcs) ≡ arcWidth * length arcs
 unfolding arcsCells
 length-arcs-cells [] = refl
-length-arcs-cells (a ∷ arcs) = let e : length (arcsCells arcs) ≡ 4 * length arcs = length-arcs-cells arcs in omega arith
+length-arcs-cells (a ∷ arcs) = let e : length (arcsCells arcs) ≡ arcWidth * length arcs = length-arcs-cells arcs in omega arith
 
 -- four cells are those that are looked at
 pub four : (cells : List ℕ) → 4 ≤ length cells → getD cells 0 0 ∷ getD cells 1 0 ∷ getD cells 2 0 ∷ getD cells 3 0 ∷ [] ≡ take 4 cells
@@ -36,15 +36,15 @@ four (a ∷ b ∷ []) h = absurd (omega arith)
 four (a ∷ b ∷ c ∷ []) h = absurd (omega arith)
 four (a ∷ b ∷ c ∷ d ∷ cells) h = refl
 
-arcs-of : (n : ℕ) (cells : List ℕ) → 4 * n ≤ length cells → arcsCells (arcsIn n cells) ≡ take (4 * n) cells
+arcs-of : (n : ℕ) (cells : List ℕ) → arcWidth * n ≤ length cells → arcsCells (arcsIn n cells) ≡ take (arcWidth * n) cells
 unfolding arcsIn arcsCells
 arcs-of zero cells h = refl
 arcs-of (suc n) cells h =
-    ap₂ (λ (x y : List ℕ). x ++ y) (four cells (omega arith)) (arcs-of n (drop 4 cells) (simp length-drop (omega arith)))
-    ∙ sym (take-add 4 (4 * n) cells)
+    ap₂ (λ (x y : List ℕ). x ++ y) (four cells (omega arith)) (arcs-of n (drop arcWidth cells) (simp length-drop (omega arith)))
+    ∙ sym (take-add arcWidth (arcWidth * n) cells)
     ∙ ap (λ (k : ℕ). take k cells) step
   where
-    step : 4 + 4 * n ≡ 4 * suc n
+    step : arcWidth + arcWidth * n ≡ arcWidth * suc n
     step = omega arith
 
 -- A table's cells hold the table.
@@ -61,12 +61,12 @@ module _ (t : Table) (rest : List ℕ) where
   unfolding cellsOf
   laid-cells = simp append-assoc
 
-  terminals-laid : drop (4 + length (t .initials)) laid ≡ after
+  terminals-laid : drop (initialsAt + length (t .initials)) laid ≡ after
   terminals-laid = drop-append-add (countCells (countsOf t)) (t .initials ++ after) (length (t .initials)) ∙ drop-append-seam (t .initials) after
 
-  arcs-laid : drop (4 + length (t .initials) + length (t .terminals)) laid ≡ arcsCells (t .arcs) ++ rest
+  arcs-laid : drop (initialsAt + length (t .initials) + length (t .terminals)) laid ≡ arcsCells (t .arcs) ++ rest
   arcs-laid =
-      ap (λ (k : ℕ). drop k laid) (add-assoc 4 (length (t .initials)) (length (t .terminals)))
+      ap (λ (k : ℕ). drop k laid) (add-assoc initialsAt (length (t .initials)) (length (t .terminals)))
       ∙ drop-append-add (countCells (countsOf t)) (t .initials ++ after) (length (t .initials) + length (t .terminals))
       ∙ drop-append-add (t .initials) after (length (t .terminals))
       ∙ drop-append-seam (t .terminals) (arcsCells (t .arcs) ++ rest)
@@ -111,7 +111,7 @@ module _ (cells : List ℕ) (fits : extent (countsIn cells) ≤ length cells) wh
       λ i.
       record {
         states = getD cells 0 0;
-        initials = length-take-le (getD cells 1 0) (drop 4 cells) (simp length-drop (omega arith)) i;
+        initials = length-take-le (getD cells 1 0) (drop initialsAt cells) (simp length-drop (omega arith)) i;
         terminals = length-take-le (getD cells 2 0) (drop (terminalsAt (countsIn cells)) cells) (simp length-drop (omega arith)) i;
         arcs = length-arcs (getD cells 3 0) (drop (arcsAt (countsIn cells)) cells) i;
       }
@@ -121,7 +121,7 @@ module _ (cells : List ℕ) (fits : extent (countsIn cells) ≤ length cells) wh
 
   cells-split : take (extent (countsIn cells)) cells ≡ countCells (countsIn cells) ++ items
   unfolding tableIn items
-  cells-split = take-add (4 + i + m) (4 * a) cells ∙ ap₂ _++_ to-arcs (sym arcs) ∙ simp append-assoc
+  cells-split = take-add (initialsAt + i + m) (arcWidth * a) cells ∙ ap₂ _++_ to-arcs (sym arcs) ∙ simp append-assoc
     where
       i : ℕ
       i = getD cells 1 0
@@ -132,14 +132,14 @@ module _ (cells : List ℕ) (fits : extent (countsIn cells) ≤ length cells) wh
       a : ℕ
       a = getD cells 3 0
 
-      to-terminals : take (4 + i) cells ≡ countCells (countsIn cells) ++ take i (drop 4 cells)
-      to-terminals = take-add 4 i cells ∙ ap (λ (l : List ℕ). l ++ take i (drop 4 cells)) (sym (four cells (omega arith)))
+      to-terminals : take (initialsAt + i) cells ≡ countCells (countsIn cells) ++ take i (drop initialsAt cells)
+      to-terminals = take-add initialsAt i cells ∙ ap (λ (l : List ℕ). l ++ take i (drop initialsAt cells)) (sym (four cells (omega arith)))
 
-      to-arcs : take (4 + i + m) cells ≡ countCells (countsIn cells) ++ take i (drop 4 cells) ++ take m (drop (4 + i) cells)
-      to-arcs = take-add (4 + i) m cells ∙ ap (λ (l : List ℕ). l ++ take m (drop (4 + i) cells)) to-terminals
+      to-arcs : take (initialsAt + i + m) cells ≡ countCells (countsIn cells) ++ take i (drop initialsAt cells) ++ take m (drop (initialsAt + i) cells)
+      to-arcs = take-add (initialsAt + i) m cells ∙ ap (λ (l : List ℕ). l ++ take m (drop (initialsAt + i) cells)) to-terminals
 
-      arcs : arcsCells (arcsIn a (drop (4 + i + m) cells)) ≡ take (4 * a) (drop (4 + i + m) cells)
-      arcs = arcs-of a (drop (4 + i + m) cells) (simp length-drop (omega arith))
+      arcs : arcsCells (arcsIn a (drop (initialsAt + i + m) cells)) ≡ take (arcWidth * a) (drop (initialsAt + i + m) cells)
+      arcs = arcs-of a (drop (initialsAt + i + m) cells) (simp length-drop (omega arith))
 
   cells-of : cellsOf (tableIn cells) ≡ take (extent (countsIn cells)) cells
   unfolding cellsOf items

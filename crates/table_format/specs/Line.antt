@@ -14,6 +14,10 @@ pub record Line : Type 0 where
   pub chars : List ℕ
   pub fed : Bool
 
+-- how many characters a line has, with its line feed if that is there
+abbrev pub sizeOf : Line → ℕ
+sizeOf l = length (l .chars) + cond (l .fed) 1 0
+
 abbrev pub withChar : ℕ → List Line → List Line
 withChar c [] = record { chars = c ∷ []; fed = false } ∷ []
 withChar c (l ∷ ls) = record { chars = c ∷ l .chars; fed = l .fed } ∷ ls

@@ -11,7 +11,7 @@ use Rattle.refusal.specs.declared.InputCause.the-variants.{Malformed, Misplaced
 use Rattle.table_format.specs.Table.{Arc, Table, Counts}
 use Rattle.table_format.specs.Rules.{unless, headerFaults, initialFaults, terminalFaults, arcFaults}
 use Rattle.table_format.specs.Line.{Line, linesOf, malformed, bytesOf}
-use Rattle.table_format.specs.Text.{linesBefore}
+use Rattle.table_format.specs.Text.{lineBytes, linesBefore}
 
 -- What a line's bytes say, where they are of its kind.
 
@@ -33,7 +33,7 @@ abbrev pub inPlace : Bool → List InputCause → List InputCause
 inPlace has faults = cond has faults (Misplaced ∷ [])
 
 abbrev pub isHeader : List ℕ → Bool
-isHeader b = hasForm 1 9 b
+isHeader b = hasForm 1 lineBytes b
 
 -- The kinds of the lines after the header's, each with its first byte and its length.
 

@@ -7,12 +7,12 @@ use lib.ListN.{length, drop}
 use Rattle.refusal.specs.declared.InputCause.{InputCause}
 use Rattle.refusal.specs.declared.InputCause.the-variants.{Malformed, Misplaced}
 use Rattle.table_format.specs.Table.{Table}
-use Rattle.table_format.specs.Line.{Line, linesOf, malformed, bytesOf}
+use Rattle.table_format.specs.Line.{Line, linesOf, malformed, bytesOf, sizeOf}
 use Rattle.table_format.specs.Parse.{Progress, closed, bytesFaults, lineFaults, onward, Parsed, turnedDown, decide, parseFrom}
 use Rattle.table_scanner.specs.declared.Scanned.{Scanned}
 use Rattle.table_scanner.specs.declared.Scanned.the-variants.{Says}
 use Rattle.table_scanner.specs.declared.Scanned.the-variants as Scans
-use Rattle.table_scanner.specs.Scan.{firstLine, sizeOf, scannedAs}
+use Rattle.table_scanner.specs.Scan.{firstLine, scannedAs}
 use Rattle.table_parser.specs.Gathered.{afterEnd}
 use Rattle.table_scanner.proofs.FirstLine.{lines-first}
 use Rattle.table_scanner.proofs.ScannedLine.{LineRead, LineBad}

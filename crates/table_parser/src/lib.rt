@@ -116,7 +116,7 @@ pub fn read_table(text: &[u8]) -> Gathered
     let Scanned::Says { count, next } = line else {
         return refused(InputCause::Malformed);
     };
-    if count != 9 {
+    if count != LINE_BYTES {
         return refused(InputCause::Misplaced);
     }
     if bytes[0] != 1 {

@@ -13,10 +13,10 @@ use Rattle.hex.specs.declared.Decoded.the-variants.{Value, Invalid}
 use Rattle.hex.specs.Hex.{valueOf, decoded, digitOf, encoded}
 use Rattle.hex.proofs.Hex.{decoded-of, decoded-encoded, encoded-decoded}
 use Rattle.table_format.specs.Rules.{isEmpty, any}
-use Rattle.table_format.specs.Line.{Line, isValue, malformed, bytesOf, charsOf}
+use Rattle.table_format.specs.Line.{Line, isValue, malformed, bytesOf, charsOf, sizeOf}
 use Rattle.table_scanner.specs.declared.Scanned.{Scanned}
 use Rattle.table_scanner.specs.declared.Scanned.the-variants.{Malformed, Says}
-use Rattle.table_scanner.specs.Scan.{noLine, firstLine, sizeOf, scannedAs, byteBefore, leadingBytes}
+use Rattle.table_scanner.specs.Scan.{noLine, firstLine, scannedAs, byteBefore, leadingBytes}
 use Rattle.table_format.proofs.Tests.{or-right}
 use Rattle.table_format.proofs.All.{All, all-append}
 use Rattle.table_format.proofs.Each.{any-append}

@@ -7,7 +7,7 @@ use lib.Seq.{sets}
 use Rattle.hex.specs.declared.Decoded.{Decoded}
 use Rattle.hex.specs.declared.Decoded.the-variants.{Value, Invalid}
 use Rattle.hex.specs.Hex.{decoded}
-use Rattle.table_format.specs.Line.{Line, linesOf, malformed, bytesOf}
+use Rattle.table_format.specs.Line.{Line, linesOf, malformed, bytesOf, sizeOf}
 use Rattle.table_format.specs.Text.{lineBytes}
 use Rattle.table_scanner.specs.declared.Scanned.{Scanned}
 use Rattle.table_scanner.specs.declared.Scanned.the-variants.{Malformed, Says}
@@ -19,10 +19,6 @@ noLine = record { chars = []; fed = false }
 -- the first line of a text; where the text has ended, `noLine`
 unfoldable pub firstLine : List ℕ → Line
 firstLine text = getD (linesOf text) 0 noLine
-
--- how many characters a line has, with its line feed if that is there
-abbrev pub sizeOf : Line → ℕ
-sizeOf l = length (l .chars) + cond (l .fed) 1 0
 
 -- what a line that begins at a place says: "A line is empty, has an odd count of digits, a character other than 0-9, A-F, or lacks its
 -- line feed", or its count of bytes and the place after it
