@@ -32,15 +32,34 @@ pub letter-written : (read : Bool) (x : ℕ) → read ≡ false → true ≡ sid
 letter-written read x e = ap (λ (b : Bool). sideIdle b x) (sym e)
 
 -- two tests that hold before a third; a test that fails
-pub both-then : (a b c : Bool) → a ≡ true → b ≡ true → c ≡ ((a && b) && c)
+both-then : (a b c : Bool) → a ≡ true → b ≡ true → c ≡ ((a && b) && c)
 both-then a b c p q = ap (λ (x : Bool). x && c) (sym (and-both p q))
 
-pub first-fails : (a b c : Bool) → a ≡ false → false ≡ ((a && b) && c)
+first-fails : (a b c : Bool) → a ≡ false → false ≡ ((a && b) && c)
 first-fails a b c p = ap (λ (x : Bool). (x && b) && c) (sym p)
 
-pub second-fails : (a b c : Bool) → b ≡ false → false ≡ ((a && b) && c)
+second-fails : (a b c : Bool) → b ≡ false → false ≡ ((a && b) && c)
 second-fails true b c p = ap (λ (x : Bool). x && c) (sym p)
 second-fails false b c p = refl
+
+-- an arc that is looked at twice: its upper letter, then its lower letter and its target
+module _ (upper lower : Bool) (alive : List ℕ) (a : Arc) where
+  upper-first : (r : held.Arc) (b : Bool) → r ≡ arcHeld a → sideIdle upper (r .upper) ≡ b → sideIdle upper (a .upper) ≡ b
+  upper-first r b e w = sym (ap (λ (x : held.Arc). sideIdle upper (x .upper)) e) ∙ w
+
+  lower-then : (r : held.Arc) (b : Bool) → r ≡ arcHeld a → sideIdle lower (r .lower) ≡ b → sideIdle lower (a .lower) ≡ b
+  lower-then r b e w = sym (ap (λ (x : held.Arc). sideIdle lower (x .lower)) e) ∙ w
+
+  pub leads-by-target : (r r′ : held.Arc) → r ≡ arcHeld a → r′ ≡ arcHeld a → sideIdle upper (r .upper) ≡ true → sideIdle lower (r′ .lower) ≡ true
+      → eqb (getD alive (r′ .target) 0) 1 ≡ leadsAlive upper lower alive a
+  leads-by-target r r′ e e′ u l =
+      ap (λ (x : held.Arc). eqb (getD alive (x .target) 0) 1) e′ ∙ both-then (sideIdle upper (a .upper)) (sideIdle lower (a .lower)) _ (upper-first r true e u) (lower-then r′ true e′ l)
+
+  pub lower-stops : (r : held.Arc) → r ≡ arcHeld a → sideIdle lower (r .lower) ≡ false → false ≡ leadsAlive upper lower alive a
+  lower-stops r e l = second-fails (sideIdle upper (a .upper)) (sideIdle lower (a .lower)) (eqb (getD alive (a .target) 0) 1) (lower-then r false e l)
+
+  pub upper-stops : (r : held.Arc) → r ≡ arcHeld a → sideIdle upper (r .upper) ≡ false → false ≡ leadsAlive upper lower alive a
+  upper-stops r e u = first-fails (sideIdle upper (a .upper)) (sideIdle lower (a .lower)) (eqb (getD alive (a .target) 0) 1) (upper-first r false e u)
 
 -- sums of cells
 pub total-set : (l : List ℕ) (i : ℕ) → i < length l → getD l i 0 ≡ 1 → total (set l i 0) < total l
@@ -85,7 +104,7 @@ module _ (arcs : List ℕ) (upper lower : Bool) where
 
   -- arc n is idle and leads to a state that is alive
   abbrev pub leadsAt : List ℕ → ℕ → Bool
-  leadsAt alive n = leadsAlive upper lower alive (arcHeld (arcOf arcs n))
+  leadsAt alive n = leadsAlive upper lower alive (arcOf arcs n)
 
   module _ (first alive : List ℕ) (G : Graph arcs first (length alive)) (q : ℕ) (h : q < length alive) where
     at-number : (n : ℕ) → getD first q 0 ≤ n → n < getD first (q + 1) 0 → leadsAt alive n ≡ true → Next arcs upper lower alive q (arcOf arcs n .target)
@@ -98,11 +117,9 @@ module _ (arcs : List ℕ) (upper lower : Bool) where
           leads-nowhere = λ k. absurd (omega (arith, G .target-in n (i .0), G .few));
         }
 
-    pub next-found : (n : ℕ) (r : held.Arc) → r ≡ arcHeld (arcOf arcs n) → getD first q 0 ≤ n → n < getD first (q + 1) 0 → leadsAlive upper lower alive r ≡ true
+    pub next-found : (n : ℕ) (r : held.Arc) → r ≡ arcHeld (arcOf arcs n) → getD first q 0 ≤ n → n < getD first (q + 1) 0 → leadsAt alive n ≡ true
         → Next arcs upper lower alive q (r .target)
-    next-found n r z a b t =
-        let e : leadsAt alive n ≡ true = ap (leadsAlive upper lower alive) (sym z) ∙ t in
-        subst (λ (x : held.Arc). Next arcs upper lower alive q (x .target)) (sym z) (at-number n a b e)
+    next-found n r z a b t = subst (λ (x : held.Arc). Next arcs upper lower alive q (x .target)) (sym z) (at-number n a b t)
 
     pub next-none : ((n : ℕ) → getD first q 0 ≤ n → n < getD first (q + 1) 0 → leadsAt alive n ≡ false) → Next arcs upper lower alive q 256
     next-none f = record { leads-on = λ k. absurd (omega arith); leads-nowhere = λ k x E a. clash x E a }

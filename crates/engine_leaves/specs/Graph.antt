@@ -5,7 +5,6 @@ use mathlib.Core.Bool.{Bool, true, false, _&&_}
 use mathlib.Core.List.{List, [], _∷_}
 use lib.Dec.{eqb}
 use lib.ListN.{length, getD}
-use Rattle.table_format.specs.declared.Arc as held
 use Rattle.table_format.specs.Table.{Arc}
 use Rattle.table_format.specs.Cells.{arcCount, arcOf, arcsAs}
 use Rattle.graph.specs.Walk.{Walk}
@@ -29,9 +28,9 @@ total (x ∷ xs) = x + total xs
 abbrev pub idleBy : Bool → Bool → Arc → Bool
 idleBy upper lower a = sideIdle upper (a .upper) && sideIdle lower (a .lower)
 
--- an arc, as code holds it, is idle and leads to a state that is alive
-abbrev pub leadsAlive : Bool → Bool → List ℕ → held.Arc → Bool
-leadsAlive upper lower alive a = (sideIdle upper (a .upper) && sideIdle lower (a .lower)) && eqb (getD alive (a .target) 0) 1
+-- an arc is idle and leads to a state that is alive
+abbrev pub leadsAlive : Bool → Bool → List ℕ → Arc → Bool
+leadsAlive upper lower alive a = idleBy upper lower a && eqb (getD alive (a .target) 0) 1
 
 module _ (arcs : List ℕ) (upper lower : Bool) where
   -- an idle arc leads from s to r

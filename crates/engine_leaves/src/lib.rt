@@ -1,10 +1,10 @@
 // Leaf removal in the graph of a table's idle arcs: in rounds, a state without an idle arc to a state that remains is removed, until none
 // is. A state remains ("is alive") while its cell is 1. `leads` looks at an arc, `next` at the arcs of a state, `peel` makes a round,
 // `settle` all of them.
-use table_format::Arc;
 ghost use mathlib.Core.Path.{_≡_};
 ghost use Prim.Native.Nat.{_<_};
 ghost use lib.ListN.{length};
+ghost use Rattle.table_format.specs.Cells.{arcCount, arcOf};
 ghost use Rattle.machine.specs.Idle.{sideIdle};
 ghost use Rattle.engine_leaves.specs.Graph.{Graph, leadsAlive, Next, Peeled, Settled};
 
@@ -18,14 +18,18 @@ fn side_idle(read: bool, letter: u16) -> bool
     true
 }
 
-// The arc is idle and leads to a living state.
-fn leads(arc: Arc, upper: bool, lower: bool, alive: &[u8]) -> bool
-    requires { ⌜ arc .target < length (now alive) ⌝ }
-    ensures { λ r. ⌜ r ≡ leadsAlive upper lower (now (alive .entry)) arc ⌝ }
+// Arc `n` is idle and leads to a living state. The arc is looked at again once its upper letter passes, so that the loop over arcs fetches
+// one letter of most arcs and not whole arcs.
+fn leads(arcs: &[u16], n: usize, upper: bool, lower: bool, alive: &[u8]) -> bool
+    requires { ⌜ n < arcCount (now arcs) ⌝ }
+    requires { ⌜ arcOf (now arcs) n .target < length (now alive) ⌝ }
+    ensures { λ r. ⌜ r ≡ leadsAlive upper lower (now (alive .entry)) (arcOf (now (arcs .entry)) n) ⌝ }
 {
+    let arc = table_format::arc_at(arcs, n);
     if side_idle(upper, arc.upper) {
-        if side_idle(lower, arc.lower) {
-            let target = widen::cell_as_index(arc.target);
+        let again = table_format::arc_at(arcs, n);
+        if side_idle(lower, again.lower) {
+            let target = widen::cell_as_index(again.target);
             return alive[target] == 1;
         }
     }
@@ -41,10 +45,9 @@ pub fn next(arcs: &[u16], first: &[u16], q: usize, upper: bool, lower: bool, ali
     let end = widen::cell_as_index(first[q + 1]);
     let mut n = widen::cell_as_index(first[q]);
     while n < end {
-        let arc = table_format::arc_at(arcs, n);
-        let target = arc.target;
-        if leads(arc, upper, lower, alive) {
-            return target;
+        if leads(arcs, n, upper, lower, alive) {
+            let arc = table_format::arc_at(arcs, n);
+            return arc.target;
         }
         n += 1;
     }

@@ -1,17 +1,25 @@
--- Both letters, then the target.
+-- The upper letter, then the lower letter and the target.
 use Prim.Native.Nat.{ℕ}
-use mathlib.Core.Path.{sym, ap, _∙_}
+use native.Mathlib.Omega.{arith}
+use mathlib.Core.Path.{_≡_, sym, ap, _∙_}
 use denote.Ref.{now}
 use lib.Dec.{eqb}
 use lib.ListN.{getD}
-use Rattle.machine.specs.Idle.{sideIdle}
-use Rattle.engine_leaves.proofs.Rounds.{both-then, first-fails, second-fails}
 use borrow.Author.Needs.{needs}
+use Rattle.table_format.specs.declared.Arc as held
+use Rattle.table_format.specs.Cells.{arcOf}
+use Rattle.engine_leaves.proofs.Rounds.{leads-by-target, lower-stops, upper-stops}
 use Rattle.engine_leaves.proofs.leads.Statement.{statement}
 use Rattle.engine_leaves.proofs.leads.Tie as tie
 
+arc-at-requires : tie.Need-arc-at-requires
+arc-at-requires c κs = search needs
+
 side-idle-requires : tie.Need-side-idle-requires
 side-idle-requires c κs = search needs
+
+arc-at-requires-2 : tie.Need-arc-at-requires-2
+arc-at-requires-2 c κs = search needs
 
 side-idle-requires-2 : tie.Need-side-idle-requires-2
 side-idle-requires-2 c κs = search needs
@@ -20,22 +28,24 @@ cell-as-index-requires : tie.Need-cell-as-index-requires
 cell-as-index-requires c κs = search needs
 
 shared-slice-read-result : tie.Need-shared-slice-read-result
-shared-slice-read-result c = search needs
+shared-slice-read-result c = let e : c .before .before .before .before .arc-at2 .result .target ≡ arcOf (now (c .before .before .before .before .before .before .before .before .before .before .args .arcs)) (c .before .before .before .before .before .before .before .before .before .before .args .n) .target = ap (λ (x : held.Arc). x .target) (c .before .before .before .before .arc-at2 .ensures) in omega (arith, e, c .before .cell-as-index .ensures .0, c .before .before .before .before .before .before .before .before .before .before .pre .1)
 
 returns : tie.Need-returns
-returns c = ap (λ (x : ℕ). eqb (getD (now (c .before .before .before .before .before .before .before .args .alive)) x 0) 1) (c .before .cell-as-index .ensures .0) ∙ both-then _ _ _ (sym (c .before .before .before .before .before .side-idle .ensures) ∙ c .before .before .before .before .if1 .taken) (sym (c .before .before .before .side-idle2 .ensures) ∙ c .before .before .if2 .taken)
+returns c = ap (λ (x : ℕ). eqb (getD (now (c .before .before .before .before .before .before .before .before .before .before .args .alive)) x 0) 1) (c .before .cell-as-index .ensures .0) ∙ leads-by-target (c .before .before .before .before .before .before .before .before .before .before .args .upper) (c .before .before .before .before .before .before .before .before .before .before .args .lower) (now (c .before .before .before .before .before .before .before .before .before .before .args .alive)) (arcOf (now (c .before .before .before .before .before .before .before .before .before .before .args .arcs)) (c .before .before .before .before .before .before .before .before .before .before .args .n)) (c .before .before .before .before .before .before .before .arc-at .result) (c .before .before .before .before .arc-at2 .result) (c .before .before .before .before .before .before .before .arc-at .ensures) (c .before .before .before .before .arc-at2 .ensures) (sym (c .before .before .before .before .before .before .side-idle .ensures) ∙ c .before .before .before .before .before .if1 .taken) (sym (c .before .before .before .side-idle2 .ensures) ∙ c .before .before .if2 .taken)
 
 returns-2 : tie.Need-returns-2
-returns-2 c = second-fails (sideIdle (c .before .before .before .before .before .args .upper) (c .before .before .before .before .before .args .arc .upper)) _ (eqb (getD (now (c .before .before .before .before .before .args .alive)) (c .before .before .before .before .before .args .arc .target) 0) 1) (sym (c .before .side-idle2 .ensures) ∙ c .if2 .left)
+returns-2 c = lower-stops (c .before .before .before .before .before .before .before .before .args .upper) (c .before .before .before .before .before .before .before .before .args .lower) (now (c .before .before .before .before .before .before .before .before .args .alive)) (arcOf (now (c .before .before .before .before .before .before .before .before .args .arcs)) (c .before .before .before .before .before .before .before .before .args .n)) (c .before .before .arc-at2 .result) (c .before .before .arc-at2 .ensures) (sym (c .before .side-idle2 .ensures) ∙ c .if2 .left)
 
 returns-3 : tie.Need-returns-3
-returns-3 c = first-fails _ _ _ (sym (c .before .side-idle .ensures) ∙ c .if1 .left)
+returns-3 c = upper-stops (c .before .before .before .before .before .args .upper) (c .before .before .before .before .before .args .lower) (now (c .before .before .before .before .before .args .alive)) (arcOf (now (c .before .before .before .before .before .args .arcs)) (c .before .before .before .before .before .args .n)) (c .before .before .arc-at .result) (c .before .before .arc-at .ensures) (sym (c .before .side-idle .ensures) ∙ c .if1 .left)
 
 pub leads-spec : {M : Type 1} → statement M
 leads-spec =
     tie.close
     (tie.spec
+    arc-at-requires
     side-idle-requires
+    arc-at-requires-2
     side-idle-requires-2
     cell-as-index-requires
     shared-slice-read-result

@@ -1,13 +1,11 @@
 -- The loop: no arc before n leads to a state that is alive.
 use Prim.Native.Nat.{ℕ, _+_, _-_, _<_, _≤_}
 use native.Mathlib.Omega.{arith}
-use mathlib.Core.Path.{_≡_, sym, ap, subst, _∙_}
+use mathlib.Core.Path.{_≡_, sym, _∙_}
 use mathlib.Core.Bool.{false}
 use denote.Ref.{now}
-use lib.ListN.{length, getD}
+use lib.ListN.{getD}
 use borrow.Author.Needs.{needs}
-use Rattle.table_format.specs.declared.Arc as held
-use Rattle.engine_leaves.specs.Graph.{leadsAlive}
 use Rattle.engine_leaves.proofs.Rounds.{fails-more, leadsAt, next-found, next-none}
 use Rattle.engine_leaves.proofs.next.Statement.{statement}
 use Rattle.engine_leaves.proofs.next.Tie as tie
@@ -42,23 +40,23 @@ cell-as-index-requires-2 c κs = search needs
 loop-holds : tie.Need-loop-holds Inv-loop μ-loop
 loop-holds c = (omega (arith, c .cell-as-index2 .ensures .0), omega (arith, c .before .before .cell-as-index .ensures .0), λ i h k. absurd (omega (arith, c .cell-as-index2 .ensures .0)))
 
-arc-at-requires : tie.Need-arc-at-requires Inv-loop μ-loop
-arc-at-requires c κs = c .before .before .before .before .before .before .before .before .before .pre .0 .numbered (c .before .before .before .before .before .before .before .before .before .args .q) (c .before .loop .n) (c .before .before .before .before .before .before .before .before .before .pre .1) (omega (arith, c .before .loop .inv .0)) (omega (arith, c .before .loop .inv .1)) .0
-
 leads-requires : tie.Need-leads-requires Inv-loop μ-loop
-leads-requires c κs = subst (λ (a : held.Arc). a .target < length (now (c .before .before .before .before .before .before .before .before .before .before .args .alive))) (sym (c .arc-at .ensures)) (c .before .before .before .before .before .before .before .before .before .before .pre .0 .target-in _ (c .before .before .before .before .before .before .before .before .before .before .pre .0 .numbered (c .before .before .before .before .before .before .before .before .before .before .args .q) (c .before .before .loop .n) (c .before .before .before .before .before .before .before .before .before .before .pre .1) (omega (arith, c .before .before .loop .inv .0)) (omega (arith, c .before .before .loop .inv .1)) .0))
+leads-requires c κs = let h = c .before .before .before .before .before .before .before .before .before .pre .0 .numbered (c .before .before .before .before .before .before .before .before .before .args .q) (c .before .loop .n) (c .before .before .before .before .before .before .before .before .before .pre .1) (omega (arith, c .before .loop .inv .0)) (omega (arith, c .before .loop .inv .1)) .0 in (h, c .before .before .before .before .before .before .before .before .before .pre .0 .target-in _ h)
+
+arc-at-requires : tie.Need-arc-at-requires Inv-loop μ-loop
+arc-at-requires c κs = c .before .before .before .before .before .before .before .before .before .before .before .pre .0 .numbered (c .before .before .before .before .before .before .before .before .before .before .before .args .q) (c .before .before .before .loop .n) (c .before .before .before .before .before .before .before .before .before .before .before .pre .1) (omega (arith, c .before .before .before .loop .inv .0)) (omega (arith, c .before .before .before .loop .inv .1)) .0
 
 returns : tie.Need-returns Inv-loop μ-loop
-returns c = next-found (now (c .before .before .before .before .before .before .before .before .before .before .before .before .args .arcs)) (c .before .before .before .before .before .before .before .before .before .before .before .before .args .upper) (c .before .before .before .before .before .before .before .before .before .before .before .before .args .lower) (now (c .before .before .before .before .before .before .before .before .before .before .before .before .args .first)) (now (c .before .before .before .before .before .before .before .before .before .before .before .before .args .alive)) (c .before .before .before .before .before .before .before .before .before .before .before .before .pre .0) (c .before .before .before .before .before .before .before .before .before .before .before .before .args .q) (c .before .before .before .before .before .before .before .before .before .before .before .before .pre .1) (c .before .before .before .before .loop .n) (c .before .before .arc-at .result) (c .before .before .arc-at .ensures) (omega (arith, c .before .before .before .before .loop .inv .0)) (omega (arith, c .before .before .before .before .loop .inv .1)) (sym (c .before .leads .ensures) ∙ c .if1 .taken)
+returns c = next-found (now (c .before .before .before .before .before .before .before .before .before .before .before .before .args .arcs)) (c .before .before .before .before .before .before .before .before .before .before .before .before .args .upper) (c .before .before .before .before .before .before .before .before .before .before .before .before .args .lower) (now (c .before .before .before .before .before .before .before .before .before .before .before .before .args .first)) (now (c .before .before .before .before .before .before .before .before .before .before .before .before .args .alive)) (c .before .before .before .before .before .before .before .before .before .before .before .before .pre .0) (c .before .before .before .before .before .before .before .before .before .before .before .before .args .q) (c .before .before .before .before .before .before .before .before .before .before .before .before .pre .1) (c .before .before .before .before .loop .n) (c .arc-at .result) (c .arc-at .ensures) (omega (arith, c .before .before .before .before .loop .inv .0)) (omega (arith, c .before .before .before .before .loop .inv .1)) (sym (c .before .before .leads .ensures) ∙ c .before .if1 .taken)
 
 add-n : tie.Need-add-n Inv-loop μ-loop
-add-n c = omega (arith, c .before .before .before .before .before .before .before .before .before .before .before .before .pre .0 .numbered (c .before .before .before .before .before .before .before .before .before .before .before .before .args .q) (c .before .before .before .before .loop .n) (c .before .before .before .before .before .before .before .before .before .before .before .before .pre .1) (omega (arith, c .before .before .before .before .loop .inv .0)) (omega (arith, c .before .before .before .before .loop .inv .1)) .0)
+add-n c = omega (arith, c .before .before .before .before .before .before .before .before .before .before .before .pre .0 .numbered (c .before .before .before .before .before .before .before .before .before .before .before .args .q) (c .before .before .before .loop .n) (c .before .before .before .before .before .before .before .before .before .before .before .pre .1) (omega (arith, c .before .before .before .loop .inv .0)) (omega (arith, c .before .before .before .loop .inv .1)) .0)
 
 loop-less : tie.Need-loop-less Inv-loop μ-loop
 loop-less c = search needs
 
 loop-again : tie.Need-loop-again Inv-loop μ-loop
-loop-again c = (omega (arith, c .before .before .before .before .loop .inv .0), c .before .before .before .before .loop .inv .1, fails-more (leadsAt (now (c .before .before .before .before .before .before .before .before .before .before .before .before .args .arcs)) (c .before .before .before .before .before .before .before .before .before .before .before .before .args .upper) (c .before .before .before .before .before .before .before .before .before .before .before .before .args .lower) (now (c .before .before .before .before .before .before .before .before .before .before .before .before .args .alive))) (getD (now (c .before .before .before .before .before .before .before .before .before .before .before .before .args .first)) (c .before .before .before .before .before .before .before .before .before .before .before .before .args .q) 0) (c .before .before .before .before .loop .n) (c .before .before .before .before .loop .inv .2) (ap (leadsAlive (c .before .before .before .before .before .before .before .before .before .before .before .before .args .upper) (c .before .before .before .before .before .before .before .before .before .before .before .before .args .lower) (now (c .before .before .before .before .before .before .before .before .before .before .before .before .args .alive))) (sym (c .before .before .arc-at .ensures)) ∙ sym (c .before .leads .ensures) ∙ c .if1 .left))
+loop-again c = (omega (arith, c .before .before .before .loop .inv .0), c .before .before .before .loop .inv .1, fails-more (leadsAt (now (c .before .before .before .before .before .before .before .before .before .before .before .args .arcs)) (c .before .before .before .before .before .before .before .before .before .before .before .args .upper) (c .before .before .before .before .before .before .before .before .before .before .before .args .lower) (now (c .before .before .before .before .before .before .before .before .before .before .before .args .alive))) (getD (now (c .before .before .before .before .before .before .before .before .before .before .before .args .first)) (c .before .before .before .before .before .before .before .before .before .before .before .args .q) 0) (c .before .before .before .loop .n) (c .before .before .before .loop .inv .2) (sym (c .before .leads .ensures) ∙ c .if1 .left))
 
 returns-2 : tie.Need-returns-2 Inv-loop μ-loop
 returns-2 c = next-none (now (c .before .before .before .before .before .before .before .before .before .args .arcs)) (c .before .before .before .before .before .before .before .before .before .args .upper) (c .before .before .before .before .before .before .before .before .before .args .lower) (now (c .before .before .before .before .before .before .before .before .before .args .first)) (now (c .before .before .before .before .before .before .before .before .before .args .alive)) (c .before .before .before .before .before .before .before .before .before .pre .0) (c .before .before .before .before .before .before .before .before .before .args .q) (c .before .before .before .before .before .before .before .before .before .pre .1) (λ n a b. c .before .loop .inv .2 n a (omega (arith, c .before .loop .inv .1)))
@@ -77,8 +75,8 @@ next-spec =
     shared-slice-read-cell-as-index-2
     cell-as-index-requires-2
     loop-holds
-    arc-at-requires
     leads-requires
+    arc-at-requires
     returns
     add-n
     loop-less
