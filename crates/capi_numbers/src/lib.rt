@@ -3,7 +3,7 @@ use refusal::Refusal;
 ghost use mathlib.Core.Path.{_≡_};
 ghost use Prim.Native.Nat.{ℕ, _<_, _^_};
 ghost use Rattle.destination.specs.declared.Answer.the-variants.{Done};
-ghost use Rattle.refusal.specs.Told.{refused, answered};
+ghost use Rattle.refusal.specs.Told.{refusedTold, answered};
 ghost use Rattle.machine.specs.Answer.{told, startTold};
 ghost use Rattle.destination.specs.Told.{storedTold};
 ghost use Rattle.capi_numbers.specs.Numbers.{replyTold};
@@ -31,7 +31,7 @@ pub struct Reply {
 
 // A refusal, by its number.
 pub fn refused(refusal: Refusal, steps: u32, length: u32) -> Reply
-    ensures { λ r. ⌜ replyTold r ≡ refused refusal steps length ⌝ }
+    ensures { λ r. ⌜ replyTold r ≡ refusedTold refusal steps length ⌝ }
 {
     let number = refusal::number(refusal) as u32;
     Reply {

@@ -22,7 +22,7 @@ use Rattle.machine.specs.Query.{Task, recognition, synthesis, analysis, Side, u
 use Rattle.machine.specs.Asked.{Asked, turned, runs, askedWords, askedTask, askedTable, asked}
 use Rattle.engine_admission.specs.declared.Admission.{Admission}
 use Rattle.engine_admission.specs.declared.Admission.the-variants.{Passes, Refused}
-use Rattle.engine_admission.specs.Admission.{readsBy, readsAt, admissionOf}
+use Rattle.engine_admission.specs.Admission.{taskReads, readsAt, admissionOf}
 
 -- Letters.
 
@@ -85,11 +85,11 @@ task-none n h = go (taskOf n) refl
 
 pub reads-of : (n : ℕ) (k : Task) → taskOf n ≡ some k → (s : Side) → readsAt n s ≡ reads k s
 unfolding readsAt
-reads-of n k e s = ap (λ (o : Option Task). readsBy o s) e
+reads-of n k e s = ap (λ (o : Option Task). taskReads o s) e
 
 pub reads-both : (n : ℕ) (s : Side) → n ≡ 1 → true ≡ readsAt n s
 unfolding readsAt
-reads-both n s e = ap (λ (m : ℕ). readsBy (taskOf m) s) (sym e)
+reads-both n s e = ap (λ (m : ℕ). taskReads (taskOf m) s) (sym e)
 
 -- the task that reads one side alone
 abbrev pub ownTask : Side → ℕ
@@ -100,9 +100,9 @@ pub reads-own : (n : ℕ) (s : Side) → (n ≡ 1 → ⊥) → eqb n (ownTask s)
 unfolding readsAt
 reads-own n s h =
     own (eqb n 2) (eqb n 3) refl refl s
-    ∙ sym (ap (λ (b : Bool). readsBy (cond b (some recognition) (cond (eqb n 2) (some synthesis) (cond (eqb n 3) (some analysis) none))) s) (ne-eqb n 1 h))
+    ∙ sym (ap (λ (b : Bool). taskReads (cond b (some recognition) (cond (eqb n 2) (some synthesis) (cond (eqb n 3) (some analysis) none))) s) (ne-eqb n 1 h))
   where
-    own : (b c : Bool) → eqb n 2 ≡ b → eqb n 3 ≡ c → (s : Side) → eqb n (ownTask s) ≡ readsBy (cond b (some synthesis) (cond c (some analysis) none)) s
+    own : (b c : Bool) → eqb n 2 ≡ b → eqb n 3 ≡ c → (s : Side) → eqb n (ownTask s) ≡ taskReads (cond b (some synthesis) (cond c (some analysis) none)) s
     own true c p q upperSide = p
     own true c p q lowerSide = let e = eqb-true n 2 p in ne-eqb n 3 (λ z. omega arith)
     own false true p q upperSide = p

@@ -17,13 +17,13 @@ sideOf Upper = upperSide
 sideOf Lower = lowerSide
 
 -- the sides that a task reads, if there is one
-abbrev pub readsBy : Option Task → Q.Side → Bool
-readsBy none s = false
-readsBy (some k) s = reads k s
+abbrev pub taskReads : Option Task → Q.Side → Bool
+taskReads none s = false
+taskReads (some k) s = reads k s
 
 -- the same by the task's number; a number that is no task's reads none
 unfoldable pub readsAt : ℕ → Q.Side → Bool
-readsAt n s = readsBy (taskOf n) s
+readsAt n s = taskReads (taskOf n) s
 
 abbrev pub admissionOf : Asked → Admission
 admissionOf (turned r) = Refused r

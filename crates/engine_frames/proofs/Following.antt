@@ -13,7 +13,7 @@ use Rattle.machine.specs.Transducer.{somewhen, sideFollow, sideDone, sideWritte
 use Rattle.engine_frames.specs.declared.Setup.{Setup}
 use Rattle.engine_frames.specs.declared.Count.the-variants.{Passes, Stops}
 use Rattle.engine_frames.specs.declared.Fit.the-variants.{Fits, Fails}
-use Rattle.engine_frames.specs.Sides.{countOf, fitOf, bySide, readsBy, writtenOf}
+use Rattle.engine_frames.specs.Sides.{countOf, fitOf, bySide, setupReads, writtenOf}
 
 module _ (w : List ℕ) (n : ℕ) where
   pub no-letter : (r : Bool) (x : ℕ) → x ≡ 0 → Passes n ≡ countOf (sideFollow r w x n)
@@ -68,7 +68,7 @@ both-pass (some v) (some x) u l e f = let p : u ≡ v = cc in let q : l ≡ x = 
 -- The output's length is what was passed on a side that is not read.
 
 module _ (s : Setup) (d : Passed) where
-  pub side-written : (s .up || s .low) ≡ true → (side : Side) → readsBy s side ≡ false → passed d side ≡ writtenOf s d
+  pub side-written : (s .up || s .low) ≡ true → (side : Side) → setupReads s side ≡ false → passed d side ≡ writtenOf s d
   side-written h side e = go (s .up) (s .low) side h e
     where
       go : (a b : Bool) (side : Side) → (a || b) ≡ true → bySide a b side ≡ false → passed d side ≡ sideWritten a (d .up) + sideWritten b (d .low)

@@ -7,13 +7,12 @@ use mathlib.Core.List.{List, [], _∷_, _++_, append-assoc, append-nil}
 use lib.ListN.{length, getD, set, drop, length-append, length-drop}
 use lib.Seq.{drop-cons, set-at}
 use Rattle.table_format.specs.declared.Arc as Held
-use Rattle.table_format.specs.Cells.{arcHeld, arcOf}
+use Rattle.table_format.specs.Cells.{arcHeld, arcOf, arcSaid}
 use Rattle.machine.specs.Query.{Side, letter}
 use Rattle.machine.specs.Stack.{lookAt}
 use Rattle.engine_frames.specs.declared.Setup.{Setup}
 use Rattle.engine_frames.specs.declared.Frame.{Frame}
 use Rattle.engine_frames.specs.Frames.{frameOf}
-use Rattle.engine_frames.specs.Sides.{arcFrom}
 use Rattle.engine_frames.specs.Output.{letterIn, letterAt, lettersUpTo, sideBy, lettersBy}
 
 -- what the buffer holds after n letters
@@ -76,11 +75,11 @@ module _ (arcs : List ℕ) (side : Side) (stack buffer : List ℕ) where
       omega (arith, F .0, up-to-grows (i + 1) n (omega arith), ap length (one-more i ∙ ap (λ (y : ℕ). upTo i ++ letterIn y) e), length-append (upTo i) (suc x ∷ []))
 
   -- the letter of the frame and the arc that were looked at
-  pub letter-of : (i x : ℕ) (f : Frame) (r : Held.Arc) → f ≡ frameOf (lookAt stack i) → r ≡ arcHeld (arcOf arcs (f .next - 1)) → x ≡ letter side (arcFrom r)
+  pub letter-of : (i x : ℕ) (f : Frame) (r : Held.Arc) → f ≡ frameOf (lookAt stack i) → r ≡ arcHeld (arcOf arcs (f .next - 1)) → x ≡ letter side (arcSaid r)
       → letterAt arcs side stack i ≡ x
   letter-of i x f r E A h =
       ap (λ (m : ℕ). letter side (arcOf arcs m)) (let z : pred (lookAt stack i .next) ≡ f .next - 1 = omega (arith, ap (λ (g : Frame). g .next) E) in z)
-      ∙ ap (λ (y : Held.Arc). letter side (arcFrom y)) (sym A)
+      ∙ ap (λ (y : Held.Arc). letter side (arcSaid y)) (sym A)
       ∙ sym h
 
 -- The output by the flags.

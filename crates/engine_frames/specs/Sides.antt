@@ -3,9 +3,7 @@ use Prim.Native.Nat.{ℕ, _+_}
 use mathlib.Core.Bool.{Bool, _&&_}
 use mathlib.Core.Option.{Option, none, some}
 use mathlib.Core.List.{List}
-use Rattle.table_format.specs.declared.Arc as Held
 use Rattle.table_format.specs.Table.{Arc}
-use Rattle.table_format.specs.Cells.{arcAs}
 use Rattle.machine.specs.Query.{Side, upperSide, lowerSide}
 use Rattle.machine.specs.Transducer.{sideFollow, sideDone, sideWritten, Passed, both}
 use Rattle.engine_frames.specs.declared.Setup.{Setup}
@@ -24,10 +22,6 @@ abbrev pub fitOf : Option Passed → Fit
 fitOf none = Fails
 fitOf (some d) = Fits (d .up) (d .low)
 
--- an arc, from the code's
-abbrev pub arcFrom : Held.Arc → Arc
-arcFrom a = arcAs (a .source) (a .upper) (a .lower) (a .target)
-
 -- what was passed on each side
 abbrev pub passedOf : ℕ → ℕ → Passed
 passedOf u l = record { up = u; low = l }
@@ -38,8 +32,8 @@ bySide x y upperSide = x
 bySide x y lowerSide = y
 
 -- whether a side is read
-abbrev pub readsBy : Setup → Side → Bool
-readsBy s side = bySide (s .up) (s .low) side
+abbrev pub setupReads : Setup → Side → Bool
+setupReads s side = bySide (s .up) (s .low) side
 
 -- an arc fits where it fits on both sides
 abbrev pub followBy : Setup → List ℕ → List ℕ → Arc → Passed → Option Passed

@@ -6,13 +6,13 @@ ghost use mathlib.Core.Path.{_≡_};
 ghost use mathlib.Core.List.{_++_};
 ghost use Prim.Native.Nat.{_≤_};
 ghost use lib.ListN.{length, drop};
+ghost use Rattle.table_format.specs.Cells.{arcSaid};
 ghost use Rattle.machine.specs.Query.{letter};
-ghost use Rattle.engine_frames.specs.Sides.{arcFrom};
 ghost use Rattle.engine_frames.specs.Output.{lettersUpTo, Tried, sideBy, lettersBy};
 
 // The letter of an arc on the side that is written.
 fn written_letter(setup: Setup, arc: Arc) -> u16
-    ensures { λ r. ⌜ r ≡ letter (sideBy setup) (arcFrom arc) ⌝ }
+    ensures { λ r. ⌜ r ≡ letter (sideBy setup) (arcSaid arc) ⌝ }
 {
     if setup.up { arc.lower } else { arc.upper }
 }

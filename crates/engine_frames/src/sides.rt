@@ -6,8 +6,9 @@ use table_format::Arc;
 ghost use mathlib.Core.Path.{_≡_};
 ghost use mathlib.Core.Bool.{true, _&&_, _||_};
 ghost use Prim.Native.Nat.{_<_};
+ghost use Rattle.table_format.specs.Cells.{arcSaid};
 ghost use Rattle.machine.specs.Transducer.{member, sideFollow, sideDone};
-ghost use Rattle.engine_frames.specs.Sides.{countOf, fitOf, arcFrom, passedOf, followBy, doneBy, writtenOf};
+ghost use Rattle.engine_frames.specs.Sides.{countOf, fitOf, passedOf, followBy, doneBy, writtenOf};
 
 // A letter on a side that is read (or written) after n letters.
 pub fn follow_side(read: bool, word: &[u8], letter: u16, n: u32) -> Count
@@ -32,7 +33,7 @@ pub fn follow_side(read: bool, word: &[u8], letter: u16, n: u32) -> Count
 // An arc on both sides, after so many letters on each.
 pub fn follow(setup: Setup, arc: Arc, upper: &[u8], lower: &[u8], up: u32, low: u32) -> Fit
     requires { ⌜ (up < 4294967295) × (low < 4294967295) ⌝ }
-    ensures { λ r. ⌜ r ≡ fitOf (followBy setup (now (upper .entry)) (now (lower .entry)) (arcFrom arc) (passedOf up low)) ⌝ }
+    ensures { λ r. ⌜ r ≡ fitOf (followBy setup (now (upper .entry)) (now (lower .entry)) (arcSaid arc) (passedOf up low)) ⌝ }
 {
     let Count::Passes(u) = follow_side(setup.up, upper, arc.upper, up) else {
         return Fit::Fails;

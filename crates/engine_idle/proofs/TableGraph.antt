@@ -10,7 +10,7 @@ use lib.Dec.{leb}
 use lib.ListN.{length, getD}
 use borrow.Author.Tests.{leb-true}
 use Rattle.table_check.specs.declared.Layout.{Layout}
-use Rattle.table_format.specs.Table.{Arc, Table}
+use Rattle.table_format.specs.Table.{Arc, Table, noArc}
 use Rattle.table_format.specs.Rules.{keepsRules}
 use Rattle.table_format.specs.Loaded.{countsIn, extent, tableIn, loaded}
 use Rattle.table_format.specs.Index.{below, firstIndex}
@@ -24,7 +24,7 @@ use Rattle.graph.specs.Walk as walks
 use Rattle.graph.specs.Walk.{NoCycle}
 use Rattle.machine.specs.Query.{Task, recognition, upperSide, lowerSide, reads, Query}
 use Rattle.machine.specs.Machine.{ArcOf}
-use Rattle.machine.specs.Transducer.{noArc, machine}
+use Rattle.machine.specs.Transducer.{machine}
 use Rattle.machine.specs.Idle.{idle, Leads, CycleStates, hasIdleCycle}
 use Rattle.machine.proofs.Transducer.{arc-of, at-mem}
 use Rattle.machine.proofs.Idle.{cycle-walk, none-there, none-found}

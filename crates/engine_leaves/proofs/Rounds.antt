@@ -9,13 +9,12 @@ use lib.ListN.{length, getD, set, length-set}
 use lib.Seq.{getD-set-other}
 use borrow.Author.Tests.{eqb-true, eqb-false, eq-eqb, ne-eqb}
 use Rattle.table_format.proofs.Tests.{and-left, and-right, and-both}
-use Rattle.table_format.specs.Table.{Arc}
+use Rattle.table_format.specs.Table.{Arc, noArc}
 use Rattle.table_format.specs.declared.Arc as held
 use Rattle.table_format.specs.Cells.{arcHeld, arcCount, arcOf, arcsAs}
 use Rattle.table_format.proofs.Arcs.{length-arcs, getD-arcs}
 use Rattle.graph.specs.Walk.{Among}
 use Rattle.graph.proofs.Walk.{rotated}
-use Rattle.machine.specs.Transducer.{noArc}
 use Rattle.machine.specs.Idle.{sideIdle}
 use Rattle.machine.proofs.Transducer.{at-mem, mem-at}
 use Rattle.engine_leaves.specs.Graph.{Graph, total, idleBy, leadsAlive, IdleEdge, Cyclic, Stable, Next, Peeled, Settled}

@@ -9,15 +9,15 @@ use lib.Dec.{eqb, ltb, leb}
 use lib.ListN.{length, getD}
 use borrow.Author.Tests.{eqb-true, eq-eqb, ne-eqb, ltb-true, lt-ltb, le-ltb, le-leb, lt-leb}
 use Rattle.table_format.proofs.Tests.{and-left, and-right, and-both}
-use Rattle.table_format.specs.Table.{Arc, Table}
+use Rattle.table_format.specs.Table.{Arc, Table, noArc}
 use Rattle.table_format.specs.Index.{below}
 use Rattle.table_format.specs.declared.Arc as Held
-use Rattle.table_format.specs.Cells.{arcCount, arcHeld, arcOf, arcsAs}
+use Rattle.table_format.specs.Cells.{arcCount, arcHeld, arcOf, arcsAs, arcSaid}
 use Rattle.machine.specs.Query.{Query}
 use Rattle.machine.specs.Machine.{Machine, tested}
 use Rattle.machine.specs.Frames as F
 use Rattle.machine.specs.Frames.{framesOf, nextHolds, bottomHolds, linkHolds, chainHolds, framesHold, placeHolds}
-use Rattle.machine.specs.Transducer.{noArc, Passed, followArc, machine}
+use Rattle.machine.specs.Transducer.{Passed, followArc, machine}
 use Rattle.machine.specs.Stack.{roomIn, lookAt, store}
 use Rattle.machine.proofs.Frames.{place-placed}
 use Rattle.machine.specs.Place.{Placed}
@@ -29,7 +29,7 @@ use Rattle.engine_frames.specs.declared.Frame.{Frame}
 use Rattle.engine_frames.specs.declared.Fit.{Fit}
 use Rattle.engine_frames.specs.declared.Fit.the-variants.{Fits, Fails}
 use Rattle.engine_frames.specs.Frames.{frameOf}
-use Rattle.engine_frames.specs.Sides.{fitOf, arcFrom, passedOf, followBy}
+use Rattle.engine_frames.specs.Sides.{fitOf, passedOf, followBy}
 use Rattle.engine_step.specs.Setting.{queryBy, tableBy, machineBy, held, Prepared, InBounds}
 use Rattle.engine_place.specs.Place.{nextBy, bottomBy, linkBy, Linkable}
 use Rattle.engine_push.proofs.Cells.{pred-suc}
@@ -88,10 +88,10 @@ module _ (s : Setup) (first arcs upper lower : List ℕ) (g f : Frame) where
   -- by the arc that was looked at
   module _ (a : Held.Arc) (A : a ≡ arcHeld (arcOf arcs (g .next - 1))) where
     abbrev fit : Fit
-    fit = fitOf (followBy s upper lower (arcFrom a) (passedOf (g .up) (g .low)))
+    fit = fitOf (followBy s upper lower (arcSaid a) (passedOf (g .up) (g .low)))
 
     fit-is : fit ≡ fitOf made
-    fit-is = ap (λ (x : Held.Arc). fitOf (followBy s upper lower (arcFrom x) (passedOf (g .up) (g .low)))) A
+    fit-is = ap (λ (x : Held.Arc). fitOf (followBy s upper lower (arcSaid x) (passedOf (g .up) (g .low)))) A
 
     target-is : a .target ≡ arcOf arcs (g .next - 1) .target
     target-is = ap (λ (x : Held.Arc). x .target) A

@@ -5,7 +5,7 @@ use mathlib.Core.Path.{_≡_, refl, ap, ap₂, subst, _∙_}
 use mathlib.Core.Bool.{Bool, true, false, cond, _&&_, _||_}
 use mathlib.Core.List.{List, [], _∷_, _++_, append-nil}
 use lib.ListN.{length, getD}
-use Rattle.table_format.specs.Table.{Arc, Table}
+use Rattle.table_format.specs.Table.{Arc, Table, noArc}
 use Rattle.table_format.specs.Index.{below}
 use Rattle.table_format.specs.Cells.{arcCount, arcOf, arcsAs}
 use Rattle.table_format.proofs.Arcs.{length-arcs, getD-arcs}
@@ -15,7 +15,7 @@ use Rattle.machine.specs.Query.{Query, Side, upperSide, lowerSide, letter}
 use Rattle.machine.specs.Machine.{output}
 use Rattle.machine.specs.Frames as F
 use Rattle.machine.specs.Frames.{framesOf, walkTo}
-use Rattle.machine.specs.Transducer.{noArc, arcAt, sideWrites, writesArc, sideDone, sideWritten, writtenBy, Passed, machine}
+use Rattle.machine.specs.Transducer.{arcAt, sideWrites, writesArc, sideDone, sideWritten, writtenBy, Passed, machine}
 use Rattle.machine.specs.Stack.{mostFrames, framesIn, roomIn, lookAt, store}
 use Rattle.machine.proofs.Frames.{frames-length, output-top}
 use Rattle.machine.specs.Place.{Placed, Good}

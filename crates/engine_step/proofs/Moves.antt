@@ -7,16 +7,16 @@ use mathlib.Core.Option.{Option, none, some}
 use mathlib.Core.List.{List, []}
 use lib.ListN.{length, getD}
 use Rattle.table_format.specs.declared.Arc as Held
-use Rattle.table_format.specs.Table.{Arc}
+use Rattle.table_format.specs.Table.{Arc, noArc}
 use Rattle.table_format.specs.Index.{below}
-use Rattle.table_format.specs.Cells.{arcCount, arcHeld, arcOf, arcsAs}
+use Rattle.table_format.specs.Cells.{arcCount, arcHeld, arcOf, arcsAs, arcSaid}
 use Rattle.table_format.proofs.Arcs.{getD-arcs}
 use Rattle.machine.specs.Query.{Side, upperSide, lowerSide, reads}
 use Rattle.machine.specs.Machine.{Machine}
 use Rattle.machine.specs.Frames as F
 use Rattle.machine.specs.Frames.{untried}
 use Rattle.machine.specs.Step.{tryArc, moveTop, moveStart, move}
-use Rattle.machine.specs.Transducer.{noArc, sideFollow, Passed, passed, both, followArc}
+use Rattle.machine.specs.Transducer.{sideFollow, Passed, passed, both, followArc}
 use Rattle.machine.specs.Stack.{lookAt, store}
 use Rattle.machine.proofs.Held.{move-start, move-top}
 use Rattle.machine.proofs.Range.{below-rises}
@@ -25,7 +25,7 @@ use Rattle.engine_frames.specs.declared.Fit.{Fit}
 use Rattle.engine_frames.specs.declared.Fit.the-variants.{Fits, Fails}
 use Rattle.engine_frames.specs.declared.Frame.{Frame}
 use Rattle.engine_frames.specs.Frames.{frameOf}
-use Rattle.engine_frames.specs.Sides.{fitOf, arcFrom, passedOf, readsBy, bySide, followBy}
+use Rattle.engine_frames.specs.Sides.{fitOf, passedOf, setupReads, bySide, followBy}
 use Rattle.engine_push.specs.declared.Entry.{Entry}
 use Rattle.engine_push.proofs.Cells.{pred-suc}
 use Rattle.engine_step.specs.declared.Move.the-variants.{Drops, Skips, Pushes}
@@ -34,7 +34,7 @@ use Rattle.engine_step.specs.Stepping.{moveAs}
 
 -- The sides that a task by its flags reads.
 
-pub reads-is : (s : Setup) → (s .up || s .low) ≡ true → (side : Side) → reads (taskBy (s .up) (s .low)) side ≡ readsBy s side
+pub reads-is : (s : Setup) → (s .up || s .low) ≡ true → (side : Side) → reads (taskBy (s .up) (s .low)) side ≡ setupReads s side
 reads-is s h side = go (s .up) (s .low) side h
   where
     go : (a b : Bool) (side : Side) → (a || b) ≡ true → reads (taskBy a b) side ≡ bySide a b side
@@ -150,10 +150,10 @@ module _ (s : Setup) (initials arcs upper lower : List ℕ) (n : ℕ) (c : List 
       -- and by the arc
       module _ (r : (s .up || s .low) ≡ true) (a : Held.Arc) (A : a ≡ arcHeld (arcOf arcs (g .next))) where
         abbrev fit : Fit
-        fit = fitOf (followBy s upper lower (arcFrom a) (passedOf (g .up) (g .low)))
+        fit = fitOf (followBy s upper lower (arcSaid a) (passedOf (g .up) (g .low)))
 
-        arc-was : arcFrom a ≡ arcOf arcs (lookAt c (d - 1) .next)
-        arc-was = ap arcFrom A ∙ ap (arcOf arcs) next-is
+        arc-was : arcSaid a ≡ arcOf arcs (lookAt c (d - 1) .next)
+        arc-was = ap arcSaid A ∙ ap (arcOf arcs) next-is
 
         fit-is : fit ≡ fitOf (followBy s upper lower (arcOf arcs (lookAt c (d - 1) .next)) (lookAt c (d - 1) .datum))
         fit-is = ap₂ (λ (x : Arc) (y : Passed). fitOf (followBy s upper lower x y)) arc-was (ap (λ (x : Frame). passedOf (x .up) (x .low)) E)

@@ -38,9 +38,9 @@ abbrev pub afterPush : Table → Query → ℕ → List ℕ → Entry → Held (
 afterPush t q d c e = held (e .started) (suc d) (enteredAt c d (entering (machine t q) (e .state) (passedIn e)))
 
 -- a refusal in a step is a state's
-abbrev pub RefusedBy : Refusal → Turn → Type 0
-RefusedBy (Input cause) r = ⊥
-RefusedBy (State cause) r = r ≡ Refused cause
+abbrev pub TurnRefuses : Refusal → Turn → Type 0
+TurnRefuses (Input cause) r = ⊥
+TurnRefuses (State cause) r = r ≡ Refused cause
 
 -- a run by its numbers
 abbrev pub runBy : ℕ → ℕ → ℕ → Run
@@ -51,4 +51,4 @@ abbrev pub TurnIs : ℕ → Stepped (List ℕ) → List ℕ → List ℕ → Tur
 TurnIs task ends c b r e o = ⊥
 TurnIs task (moves d) c b r e o = (r ≡ Moved (runBy task (d .started) (d .depth))) × (e ≡ d .cells) × (o ≡ b)
 TurnIs task (finds d w) c b r e o = (r ≡ Finds (runBy task (d .started) (d .depth)) (length w)) × (e ≡ d .cells) × (o ≡ w ++ drop (length w) b)
-TurnIs task (refuses x) c b r e o = RefusedBy x r × (e ≡ c) × (o ≡ b)
+TurnIs task (refuses x) c b r e o = TurnRefuses x r × (e ≡ c) × (o ≡ b)

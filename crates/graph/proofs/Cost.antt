@@ -9,13 +9,13 @@ use Rattle.graph.specs.Walk.{Among}
 use Rattle.graph.specs.Reached.{Reached, initial, byEdge, NoReachedCycle}
 use Rattle.graph.specs.Cost.{Costly, stay, freely, paying}
 use Rattle.graph.proofs.Pigeon.{pigeon}
-use Rattle.graph.proofs.Walk.{Linked, linked-more}
+use Rattle.graph.proofs.Walk.{AllLead, all-lead-more}
 
 module _ (A Free : ℕ → ℕ → Type 0) (n : ℕ) (starts : List ℕ) where
   -- x is reached; before it, since the last edge that is paid, different states from which free walks lead to x
   record Recent (x : ℕ) (l : List ℕ) : Type 0 where
     is-reached : Reached A starts x
-    linked : Linked Free x l
+    linked : AllLead Free x l
     distinct : Distinct (x ∷ l)
     below : AllBelow n (x ∷ l)
 
@@ -37,8 +37,8 @@ module _ (A Free : ℕ → ℕ → Type 0) (n : ℕ) (starts : List ℕ) where
         let reach : Reached A starts r = byEdge (R .is-reached) (free-is x r g) in
         record {
           is-reached = reach;
-          linked = linked-more Free x l r (R .linked) g;
-          distinct = (λ m. N r reach (linked-more Free x l r (R .linked) g r m), R .distinct);
+          linked = all-lead-more Free x l r (R .linked) g;
+          distinct = (λ m. N r reach (all-lead-more Free x l r (R .linked) g r m), R .distinct);
           below = λ y m. ⊎-elim (λ u. rw u (G x r (free-is x r g) .1)) (R .below y) (List·Memᴰ·cases-cons m);
         }
 

@@ -7,13 +7,13 @@ use lib.ListN.{length}
 use Rattle.table_format.specs.Rules.{any}
 use Rattle.table_format.proofs.Any.{any-found, any-mem}
 use Rattle.graph.specs.Lists.{upTo}
-use Rattle.graph.specs.Walk.{Through, Walk, Among, Tells}
+use Rattle.graph.specs.Walk.{Through, Walk, Among, Decides}
 use Rattle.graph.specs.Cycle.{enough, backIn, backAfter, onCycle, hasCycle}
 use Rattle.graph.proofs.Lists.{member-mem, mem-member, upTo-mem, keep-mem, mem-keep}
-use Rattle.graph.proofs.Walk.{Steps, freed, freed-short, walk-below}
+use Rattle.graph.proofs.Walk.{WalkThrough, freed, freed-short, walk-below}
 
-module _ (E : ℕ → ℕ → Type 0) (e : ℕ → ℕ → Bool) (n : ℕ) (D : Tells E e) where
-  pub back-steps : (s m x : ℕ) → List·Memᴰ x (backIn e n s m) → Steps E s m x
+module _ (E : ℕ → ℕ → Type 0) (e : ℕ → ℕ → Bool) (n : ℕ) (D : Decides E e) where
+  pub back-steps : (s m x : ℕ) → List·Memᴰ x (backIn e n s m) → WalkThrough E s m x
   back-steps s zero x h = ([], D x s .0 (keep-mem (λ y. e y s) (upTo n) x h .1), refl)
   back-steps s (suc m) x h =
       let R = any-found (e x) (backIn e n s m) (keep-mem (λ y. any (e y) (backIn e n s m)) (upTo n) x h .1) in
@@ -37,7 +37,7 @@ module _ (E : ℕ → ℕ → Type 0) (e : ℕ → ℕ → Bool) (n : ℕ) (D : 
         mem-keep (λ z. any (e z) (backIn e n s (length l))) (upTo n) x (upTo-mem n x (G x y (T .0) .0))
         (any-mem (e x) (backIn e n s (length l)) y (through-back s y l (T .1)) (D x y .1 (T .0)))
 
-    pub steps-back : (s m x : ℕ) → Steps E s m x → List·Memᴰ x (backIn e n s m)
+    pub steps-back : (s m x : ℕ) → WalkThrough E s m x → List·Memᴰ x (backIn e n s m)
     steps-back s m x S = subst (λ (i : ℕ). List·Memᴰ x (backIn e n s i)) (S .2) (through-back s x (S .0) (S .1))
 
     -- freed of repeats, the walk is short enough to be looked for

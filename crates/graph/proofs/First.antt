@@ -8,13 +8,13 @@ use lib.ListN.{length}
 use Rattle.graph.specs.Lists.{Before}
 use Rattle.graph.specs.Walk.{Through}
 use Rattle.graph.proofs.Lists.{same?}
-use Rattle.graph.proofs.Walk.{Steps}
+use Rattle.graph.proofs.Walk.{WalkThrough}
 
 module _ (E : ℕ → ℕ → Type 0) (s : ℕ) where
   -- y is the lowest state after x from which a walk through m states leads to s
   pub record LowestNext (m x y : ℕ) : Type 0 where
     pub edge : E x y
-    pub lowest : (z : ℕ) → E x z → Steps E s m z → y ≤ z
+    pub lowest : (z : ℕ) → E x z → WalkThrough E s m z → y ≤ z
 
   -- from x through l to s, each time by the lowest
   abbrev pub Traced : ℕ → List ℕ → Type 0

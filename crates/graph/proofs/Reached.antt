@@ -10,7 +10,7 @@ use Rattle.table_format.specs.Rules.{any}
 use Rattle.table_format.proofs.Tests.{or-cases, or-left, or-right}
 use Rattle.table_format.proofs.Any.{any-found, any-mem}
 use Rattle.graph.specs.Lists.{AllBelow, member, upTo}
-use Rattle.graph.specs.Walk.{Through, Walk, Among, Tells}
+use Rattle.graph.specs.Walk.{Through, Walk, Among, Decides}
 use Rattle.graph.specs.Reached.{Reached, initial, byEdge, reachedIn, reached}
 use Rattle.graph.proofs.Lists.{same?, member-mem, mem-member, upTo-mem, mem-upTo, keep-mem, mem-keep}
 use Rattle.graph.proofs.Walk.{edge-walk, walk-then, freed, freed-short}
@@ -24,7 +24,7 @@ pub reached-walk : (E : ℕ → ℕ → Type 0) (starts : List ℕ) {s : ℕ} �
 reached-walk E starts (initial m) = inl m
 reached-walk E starts (byEdge {s} R g) = inr (⊎-elim (λ m. (s, m, edge-walk E g)) (λ W. (W .0, W .1, walk-then E (W .2) g)) (reached-walk E starts R))
 
-module _ (E : ℕ → ℕ → Type 0) (e : ℕ → ℕ → Bool) (n : ℕ) (starts : List ℕ) (D : Tells E e) where
+module _ (E : ℕ → ℕ → Type 0) (e : ℕ → ℕ → Bool) (n : ℕ) (starts : List ℕ) (D : Decides E e) where
   abbrev test : List ℕ → ℕ → Bool
   test l r = member r l || any (λ s. e s r) l
 

@@ -12,7 +12,7 @@ use Rattle.graph.specs.Reached.{Reached, initial, byEdge}
 use Rattle.graph.specs.Shown.{ShownFrom}
 use Rattle.graph.proofs.Lists.{among?}
 use Rattle.graph.proofs.Pigeon.{pigeon}
-use Rattle.graph.proofs.Walk.{Linked, linked-more}
+use Rattle.graph.proofs.Walk.{AllLead, all-lead-more}
 use Rattle.graph.proofs.First.{LowestNext, Traced, traced-through, traced-first}
 
 -- marks that the starts have and that edges carry on are on all that is reached
@@ -23,12 +23,12 @@ closed-reached E starts Marked b c (byEdge {s} {r} R g) = c s r (closed-reached 
 
 -- where an edge leads from every state that is left to one that is, one of them is on a cycle
 module _ (E : ℕ → ℕ → Type 0) (n : ℕ) (G : Among E n) (Left : ℕ → Type 0) (stable : (x : ℕ) → Left x → (y : ℕ) × E x y × Left y) where
-  seek : (m x : ℕ) (l : List ℕ) → Left x → Linked E x l → Distinct (x ∷ l) → AllBelow n (x ∷ l) → n < suc (length l) + m → (y : ℕ) × Left y × Walk E y y
+  seek : (m x : ℕ) (l : List ℕ) → Left x → AllLead E x l → Distinct (x ∷ l) → AllBelow n (x ∷ l) → n < suc (length l) + m → (y : ℕ) × Left y × Walk E y y
   seek zero x l a L D B h = absurd (let k : suc (length l) ≤ n = pigeon n (x ∷ l) D B in omega arith)
   seek (suc m) x l a L D B h =
       let S = stable x a in
       let y : ℕ = S .0 in
-      let K : Linked E y (x ∷ l) = linked-more E x l y L (S .1) in
+      let K : AllLead E y (x ∷ l) = all-lead-more E x l y L (S .1) in
       ⊎-elim (λ i. (y, S .2, K y i))
       (λ o. seek m y (x ∷ l) (S .2) K (o, D) (λ z i. ⊎-elim (λ u. rw u (G x y (S .1) .1)) (B z) (List·Memᴰ·cases-cons i)) (omega arith))
       (among? y (x ∷ l))

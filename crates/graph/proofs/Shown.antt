@@ -10,12 +10,12 @@ use lib.ListN.{length}
 use Rattle.table_format.proofs.Tests.{and-left, and-right, and-both}
 use Rattle.table_format.proofs.Any.{any-found, any-mem}
 use Rattle.graph.specs.Lists.{Distinct, AllBelow, member, upTo, lowest}
-use Rattle.graph.specs.Walk.{Through, Walk, CycleStates, Among, Tells}
+use Rattle.graph.specs.Walk.{Through, Walk, CycleStates, Among, Decides}
 use Rattle.graph.specs.Cycle.{enough, backIn, backAfter, onCycle}
 use Rattle.graph.specs.Reached.{Reached, NoReachedCycle, reached}
 use Rattle.graph.specs.Shown.{ShownFrom, Shown, nextThrough, firstThrough, looped, hasReachedCycle, shownCycle}
 use Rattle.graph.proofs.Lists.{member-mem, mem-member, upTo-mem, mem-upTo, Lowest, lowest-is, before-trans, before-never}
-use Rattle.graph.proofs.Walk.{Steps, through-map, walk-map, freed, walk-below}
+use Rattle.graph.proofs.Walk.{WalkThrough, through-map, walk-map, freed, walk-below}
 use Rattle.graph.proofs.Cycle.{back-steps, steps-back, walk-on}
 use Rattle.graph.proofs.Reached.{reached-map, reached-is}
 use Rattle.graph.proofs.First.{Traced, traced-through, traced-first}
@@ -55,7 +55,7 @@ module _ {A E B F : ℕ → ℕ → Type 0} (starts : List ℕ) (to : (s r : ℕ
       }
 
 -- The first walk of m states from x to s.
-module _ (E : ℕ → ℕ → Type 0) (e : ℕ → ℕ → Bool) (n : ℕ) (D : Tells E e) (G : Among E n) (s : ℕ) where
+module _ (E : ℕ → ℕ → Type 0) (e : ℕ → ℕ → Bool) (n : ℕ) (D : Decides E e) (G : Among E n) (s : ℕ) where
   abbrev goesOn : ℕ → ℕ → ℕ → Bool
   goesOn m x y = e x y && member y (backIn e n s m)
 
@@ -67,14 +67,14 @@ module _ (E : ℕ → ℕ → Type 0) (e : ℕ → ℕ → Bool) (n : ℕ) (D : 
     (
       record {
         edge = D x y .0 (and-left (e x y) (member y (backIn e n s m)) (L .passes));
-        lowest = λ z g S. L .least z (and-both (D x z .1 g) (mem-member z (backIn e n s m) (steps-back E e n D G s m z (subst (λ (i : ℕ). Steps E s i z) (F .1) S))));
+        lowest = λ z g S. L .least z (and-both (D x z .1 g) (mem-member z (backIn e n s m) (steps-back E e n D G s m z (subst (λ (i : ℕ). WalkThrough E s i z) (F .1) S))));
       },
       F .0,
     ),
     ap suc (F .1),
   )
 
-  first-is : (m x : ℕ) → Steps E s m x → FirstIs m x
+  first-is : (m x : ℕ) → WalkThrough E s m x → FirstIs m x
   first-is zero x S = (go (S .0) (S .1) (S .2), refl)
     where
       go : (l : List ℕ) → Through E x l s → length l ≡ 0 → E x s
@@ -82,7 +82,7 @@ module _ (E : ℕ → ℕ → Type 0) (e : ℕ → ℕ → Bool) (n : ℕ) (D : 
       go (y ∷ l) T h = absurd (omega arith)
   first-is (suc m) x S = go (S .0) (S .1) (S .2) (λ y Y. first-is m y Y)
     where
-      go : (l : List ℕ) → Through E x l s → length l ≡ suc m → ((y : ℕ) → Steps E s m y → FirstIs m y) → FirstIs (suc m) x
+      go : (l : List ℕ) → Through E x l s → length l ≡ suc m → ((y : ℕ) → WalkThrough E s m y → FirstIs m y) → FirstIs (suc m) x
       go [] T h r = absurd (omega arith)
       go (z ∷ l) T h r =
           let y = nextThrough e n s m x in
@@ -103,7 +103,7 @@ module _ (E : ℕ → ℕ → Type 0) (e : ℕ → ℕ → Bool) (n : ℕ) (D : 
     no-shorter : (k : List ℕ) → Through E s k s → size ≤ length k
     no-shorter k T = least-size .least (length k) (mem-member s (backIn e n s (length k)) (steps-back E e n D G s (length k) s (k, T, refl)))
 
-module _ (A E : ℕ → ℕ → Type 0) (a e : ℕ → ℕ → Bool) (n : ℕ) (starts : List ℕ) (DA : Tells A a) (DE : Tells E e) (GA : Among A n) (GE : Among E n) (B : AllBelow n starts) where
+module _ (A E : ℕ → ℕ → Type 0) (a e : ℕ → ℕ → Bool) (n : ℕ) (starts : List ℕ) (DA : Decides A a) (DE : Decides E e) (GA : Among A n) (GE : Among E n) (B : AllBelow n starts) where
   looped-true : (s : ℕ) → Reached A starts s → Walk E s s → looped a e n starts s ≡ true
   looped-true s R w = and-both (mem-member s (reached a n starts) (reached-is A a n starts DA GA B s .1 R)) (walk-on E e n DE GE s w)
 

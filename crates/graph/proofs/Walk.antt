@@ -18,8 +18,8 @@ pub walk-map : {E F : ℕ → ℕ → Type 0} → ((s r : ℕ) → E s r → F s
 walk-map f s r w = (w .0, through-map f s (w .0) r (w .1))
 
 -- a walk from x through m states to s
-abbrev pub Steps : (ℕ → ℕ → Type 0) → ℕ → ℕ → ℕ → Type 0
-Steps E s m x = (l : List ℕ) × Through E x l s × (length l ≡ m)
+abbrev pub WalkThrough : (ℕ → ℕ → Type 0) → ℕ → ℕ → ℕ → Type 0
+WalkThrough E s m x = (l : List ℕ) × Through E x l s × (length l ≡ m)
 
 module _ (E : ℕ → ℕ → Type 0) where
   pub through-join : (s : ℕ) (l : List ℕ) (x : ℕ) (k : List ℕ) (r : ℕ) → Through E s l x → Through E x k r → Through E s (l ++ x ∷ k) r
@@ -36,11 +36,11 @@ module _ (E : ℕ → ℕ → Type 0) where
   walk-then w g = walk-join w (edge-walk g)
 
   -- walks lead from all of l to x; an edge from x lengthens them
-  abbrev pub Linked : ℕ → List ℕ → Type 0
-  Linked x l = (y : ℕ) → List·Memᴰ y l → Walk E y x
+  abbrev pub AllLead : ℕ → List ℕ → Type 0
+  AllLead x l = (y : ℕ) → List·Memᴰ y l → Walk E y x
 
-  pub linked-more : (x : ℕ) (l : List ℕ) (r : ℕ) → Linked x l → E x r → Linked r (x ∷ l)
-  linked-more x l r L g y m = ⊎-elim (λ u. rw u (edge-walk g)) (λ u. walk-then (L y u) g) (List·Memᴰ·cases-cons m)
+  pub all-lead-more : (x : ℕ) (l : List ℕ) (r : ℕ) → AllLead x l → E x r → AllLead r (x ∷ l)
+  all-lead-more x l r L g y m = ⊎-elim (λ u. rw u (edge-walk g)) (λ u. walk-then (L y u) g) (List·Memᴰ·cases-cons m)
 
   -- a closed walk, begun one edge later
   pub rotated : (s : ℕ) → Walk E s s → (x : ℕ) × E s x × Walk E x x

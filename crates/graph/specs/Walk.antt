@@ -30,5 +30,5 @@ module _ (E : ℕ → ℕ → Type 0) where
   Among n = (s r : ℕ) → E s r → (s < n) × (r < n)
 
   -- a test tells the edges
-  abbrev pub Tells : (ℕ → ℕ → Bool) → Type 0
-  Tells e = (s r : ℕ) → (e s r ≡ true) ↔ E s r
+  abbrev pub Decides : (ℕ → ℕ → Bool) → Type 0
+  Decides e = (s r : ℕ) → (e s r ≡ true) ↔ E s r

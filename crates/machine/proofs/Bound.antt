@@ -9,12 +9,12 @@ use native.Mathlib.Nat.{mul-le-mul-right}
 use lib.ListN.{length, getD}
 use lib.Dec.{eqb}
 use borrow.Author.Tests.{eqb-true}
-use Rattle.table_format.specs.Table.{Arc, Table}
+use Rattle.table_format.specs.Table.{Arc, Table, noArc}
 use Rattle.table_format.proofs.Ruled.{Ruled}
 use Rattle.graph.specs.Cost.{Costly, stay, freely, paying}
 use Rattle.graph.proofs.Cost.{few-edges}
 use Rattle.machine.specs.Query.{Side, upperSide, lowerSide, reads, letter, word, Query}
-use Rattle.machine.specs.Transducer.{noArc, arcAt, sideFollow, sideToRead, Passed, passed, nothingPassed, followArc, toReadOn, lettersToRead, machine}
+use Rattle.machine.specs.Transducer.{arcAt, sideFollow, sideToRead, Passed, passed, nothingPassed, followArc, toReadOn, lettersToRead, machine}
 use Rattle.machine.specs.Machine.{Path, start, more, final, datum, size, Allowed, Bounded}
 use Rattle.machine.specs.Idle.{sideIdle, idleOn, idle, Leads, IdleArc, NoIdleCycle}
 use Rattle.machine.proofs.Idle.{among}

@@ -19,10 +19,10 @@ module _ (M : Machine) where
   self p d e = ap (λ (o : Option (M .D)). readingIf M (M .terminal (final M p) && tested o (M .done)) (output M p)) e
 
   -- a path with what follows it, to c arcs more, tells what its last state does
-  abbrev Tells : ℕ → Path → Type 0
-  Tells c p = (d : M .D) → datum M p ≡ some d → readings M (some p ∷ following M c p) ≡ stateTells M c (final M p) d (output M p)
+  abbrev PathTells : ℕ → Path → Type 0
+  PathTells c p = (d : M .D) → datum M p ≡ some d → readings M (some p ∷ following M c p) ≡ stateTells M c (final M p) d (output M p)
 
-  trail-tells : (c : ℕ) (p : Path) (d : M .D) → datum M p ≡ some d → ((n : ℕ) → Tells c (more p n)) → (n k : ℕ) → readings M (trail M (λ r. following M c r) p n k) ≡ arcsTell M (λ r e w. stateTells M c r e w) d (output M p) n k
+  trail-tells : (c : ℕ) (p : Path) (d : M .D) → datum M p ≡ some d → ((n : ℕ) → PathTells c (more p n)) → (n k : ℕ) → readings M (trail M (λ r. following M c r) p n k) ≡ arcsTell M (λ r e w. stateTells M c r e w) d (output M p) n k
   unfolding readings
   trail-tells c p d e G n zero = refl
   trail-tells c p d e G n (suc k) = go (M .follow n d) refl (trail-tells c p d e G (suc n) k)
@@ -47,7 +47,7 @@ module _ (M : Machine) where
           ∙ ap₂ (λ (a b : List (List ℕ)). a ++ b) (G n y (here ∙ f) ∙ ap (λ (w : List ℕ). stateTells M c (M .target n) y w) written) r
           ∙ ap (λ (o : Option (M .D)). ifFits o (λ f. stateTells M c (M .target n) f (output M p ++ M .writes n d)) ++ arcsTell M (λ r e w. stateTells M c r e w) d (output M p) (suc n) k) (sym f)
 
-  path-tells : (c : ℕ) (p : Path) → Tells c p
+  path-tells : (c : ℕ) (p : Path) → PathTells c p
   unfolding readings following stateTells
   path-tells zero p d e = append-nil (reading M (some p)) ∙ self p d e
   path-tells (suc c) p d e = ap₂ (λ (a b : List (List ℕ)). a ++ b) (self p d e) (trail-tells c p d e (λ n. path-tells c (more p n)) (M .first (final M p)) (M .arity (final M p)))

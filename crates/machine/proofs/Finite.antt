@@ -11,7 +11,7 @@ use lib.Dec.{eqb}
 use borrow.Author.Tests.{eqb-true, eqb-false}
 use Rattle.table_format.specs.Table.{Arc}
 use Rattle.machine.specs.Query.{Task, recognition, synthesis, analysis}
-use Rattle.machine.specs.Report.{Rel, identity, _⊗_, LocallyFinite, Word, L⁻¹, reading, writing, α}
+use Rattle.machine.specs.Report.{Rel, identity, _⊗_, LocallyFinite, Word, L⁻¹, readLetter, writeLetter, α}
 
 -- PARTIAL FUNCTIONS: a datum is related to what stands in an option, and to nothing else.
 
@@ -58,7 +58,7 @@ product-function {A} {B} {C} {D} ρ σ F G x = (both (F (x .0) .0) (G (x .1) .0)
 
 -- THE RELATIONS of the three tasks.
 
-reading-function : (x : ℕ) → Function (reading x)
+reading-function : (x : ℕ) → Function (readLetter x)
 reading-function zero v = identity-function v
 reading-function (suc σ) [] = (none, λ w. (λ e. absurd (let z : _≡_ {A = ℕ} 0 1 = cc in omega arith), λ e. absurd (let z : _≡_ {A = ℕ} 0 1 = cc in omega arith)))
 reading-function (suc σ) (x ∷ v) = go (eqb x (suc σ)) refl
@@ -67,14 +67,14 @@ reading-function (suc σ) (x ∷ v) = go (eqb x (suc σ)) refl
     go true e = (some v, λ w. (λ z. cc, λ z. let h : x ≡ suc σ = eqb-true _ _ e in cc))
     go false e = (none, λ w. (λ z. absurd (eqb-false _ _ e (let h : x ≡ suc σ = cc in h)), λ z. absurd (let y : _≡_ {A = ℕ} 0 1 = cc in omega arith)))
 
-writing-function : (x : ℕ) → Function (writing x)
+writing-function : (x : ℕ) → Function (writeLetter x)
 writing-function zero v = identity-function v
 writing-function (suc γ) v = (some (v ++ (suc γ ∷ [])), λ w. (λ e. ap some (sym e), λ e. cc))
 
 pub label-finite : (k : Task) (a : Arc) → LocallyFinite (α k a)
-label-finite recognition a = function-finite (α recognition a) (product-function (reading (a .upper)) (reading (a .lower)) (reading-function (a .upper)) (reading-function (a .lower)))
-label-finite synthesis a = function-finite (α synthesis a) (product-function (reading (a .upper)) (writing (a .lower)) (reading-function (a .upper)) (writing-function (a .lower)))
-label-finite analysis a = function-finite (α analysis a) (product-function (writing (a .upper)) (reading (a .lower)) (writing-function (a .upper)) (reading-function (a .lower)))
+label-finite recognition a = function-finite (α recognition a) (product-function (readLetter (a .upper)) (readLetter (a .lower)) (reading-function (a .upper)) (reading-function (a .lower)))
+label-finite synthesis a = function-finite (α synthesis a) (product-function (readLetter (a .upper)) (writeLetter (a .lower)) (reading-function (a .upper)) (writing-function (a .lower)))
+label-finite analysis a = function-finite (α analysis a) (product-function (writeLetter (a .upper)) (readLetter (a .lower)) (writing-function (a .upper)) (reading-function (a .lower)))
 
 -- NOT LOCALLY FINITE is the relation of all words with all: a word is longer than all of a list.
 

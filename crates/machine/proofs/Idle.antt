@@ -9,14 +9,14 @@ use Rattle.table_format.specs.Table.{Arc, Table}
 use Rattle.table_format.proofs.Tests.{and-left, and-right, and-both}
 use Rattle.table_format.proofs.Any.{any-found, any-mem}
 use Rattle.table_format.proofs.Ruled.{Ruled}
-use Rattle.graph.specs.Walk.{Among, Tells}
+use Rattle.graph.specs.Walk.{Among, Decides}
 use Rattle.graph.proofs.Walk.{cycle-in}
 use Rattle.graph.proofs.Cycle.{has-walk, walk-has}
 use Rattle.machine.specs.Query.{Task}
 use Rattle.machine.specs.Idle.{idle, Leads, leadsBy, IdleArc, IdleWalk, NoIdleCycle, CycleStates, hasIdleCycle}
 
 -- the test tells the arcs
-tells : (arcs : List Arc) (test : Arc → Bool) → Tells (Leads arcs test) (leadsBy arcs test)
+tells : (arcs : List Arc) (test : Arc → Bool) → Decides (Leads arcs test) (leadsBy arcs test)
 tells arcs test s r = (
   λ e. let R = any-found (λ a. test a && (eqb (a .source) s && eqb (a .target) r)) arcs e in
       let a : Arc = R .0 in

@@ -7,13 +7,13 @@ use mathlib.Core.List.{List, [], _∷_}
 use lib.ListN.{length}
 use lib.Dec.{ltb}
 use borrow.Author.Tests.{ltb-true, ltb-false}
-use Rattle.table_format.specs.Table.{Arc, Table}
+use Rattle.table_format.specs.Table.{Arc, Table, noArc}
 use Rattle.table_format.specs.Index.{below}
 use Rattle.table_format.proofs.Ruled.{Ruled}
 use Rattle.machine.specs.Query.{Side, Query}
 use Rattle.machine.specs.Machine.{Path, start, more, final, Allowed}
 use Rattle.machine.specs.Frames.{Frame, walkTo}
-use Rattle.machine.specs.Transducer.{noArc, Passed, passed, machine}
+use Rattle.machine.specs.Transducer.{Passed, passed, machine}
 use Rattle.machine.proofs.Frames.{walk-size}
 use Rattle.machine.specs.Place.{Placed}
 use Rattle.machine.proofs.Transducer.{arc-of, at-mem, passed-size}

@@ -9,13 +9,13 @@ use lib.ListN.{length, getD, drop}
 use lib.Seq.{drop-cons}
 use lib.Dec.{eqb}
 use borrow.Author.Tests.{eqb-true, eq-eqb}
-use Rattle.table_format.specs.Table.{Arc, Table}
+use Rattle.table_format.specs.Table.{Arc, Table, noArc}
 use Rattle.table_format.proofs.Ruled.{Ruled}
 use Rattle.machine.specs.Query.{Task, recognition, synthesis, analysis, Side, upperSide, lowerSide, reads, letter, word, Query}
-use Rattle.machine.specs.Transducer.{noArc, arcAt, sideFollow, sideWrites, Passed, passed, nothingPassed, both, followOn, followArc, machine}
+use Rattle.machine.specs.Transducer.{arcAt, sideFollow, sideWrites, Passed, passed, nothingPassed, both, followOn, followArc, machine}
 use Rattle.machine.specs.Machine.{Path, start, more, final, datum, bind, Allowed}
 use Rattle.machine.specs.Agree.{place, arcsBack}
-use Rattle.machine.specs.Report.{Rel, identity, _∘_, _⊗_, upperAlone, lowerAlone, Cell, Edge, Trace, null, thence, arcsOf, Word, reading, writing, α, kernel}
+use Rattle.machine.specs.Report.{Rel, identity, _∘_, _⊗_, upperAlone, lowerAlone, Cell, Edge, Trace, null, thence, arcsOf, Word, readLetter, writeLetter, α, kernel}
 use Rattle.machine.proofs.Transducer.{arc-of, at-mem, mem-at, bind-parts, follow-parts, somewhen-parts, getD-lt}
 
 pub drop-head : (w : Word) (n x : ℕ) (v : Word) → drop n w ≡ x ∷ v → getD w n 0 ≡ x
@@ -33,8 +33,8 @@ drop-tail (y ∷ w) (suc n) x v e = drop-tail w n x v e
 -- One side: the relation of its letter, and the word that n letters passed and the letters v written stand for.
 
 abbrev pub sideRel : Bool → ℕ → Rel Word Word
-sideRel true = reading
-sideRel false = writing
+sideRel true = readLetter
+sideRel false = writeLetter
 
 abbrev pub sideData : Bool → Word → ℕ → Word → Word
 sideData true w n v = drop n w
@@ -79,9 +79,9 @@ product-is : (ρ σ : Rel Word Word) (d e : Word × Word) → _⊗_ ρ σ d e �
 product-is ρ σ d e = (λ h. ((e .0, d .1), (h .0, refl), (refl, h .1)), λ h. (subst (λ (w : Word). ρ (d .0) w) (h .2 .0) (h .1 .0), subst (λ (w : Word). σ w (e .1)) (sym (h .1 .1)) (h .2 .1)))
 
 pub label-is : (k : Task) (a : Arc) (d e : Word × Word) → α k a d e ↔ _∘_ (α k (upperAlone a)) (α k (lowerAlone a)) d e
-label-is recognition a = product-is (reading (a .upper)) (reading (a .lower))
-label-is synthesis a = product-is (reading (a .upper)) (writing (a .lower))
-label-is analysis a = product-is (writing (a .upper)) (reading (a .lower))
+label-is recognition a = product-is (readLetter (a .upper)) (readLetter (a .lower))
+label-is synthesis a = product-is (readLetter (a .upper)) (writeLetter (a .lower))
+label-is analysis a = product-is (writeLetter (a .upper)) (readLetter (a .lower))
 
 -- A trace is told by its beginning and its arcs.
 

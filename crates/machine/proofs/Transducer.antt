@@ -11,13 +11,13 @@ use mathlib.Core.List.{List, [], _∷_, List·Memᴰ, List·Memᴰ·not-nil, Lis
 use lib.ListN.{length, getD, length-append}
 use lib.Dec.{eqb, ltb}
 use borrow.Author.Tests.{ltb-true, ltb-false, le-ltb}
-use Rattle.table_format.specs.Table.{Arc, Table}
+use Rattle.table_format.specs.Table.{Arc, Table, noArc}
 use Rattle.table_format.specs.Index.{below}
 pub use Rattle.table_format.proofs.All.{at-mem}
 use Rattle.table_format.proofs.Ruled.{AtLeast}
 use Rattle.machine.specs.Query.{Side, upperSide, lowerSide, reads, letter, word, Query}
 use Rattle.machine.specs.Machine.{Path, start, more, size, bind, listed, datum, output, ArcOf}
-use Rattle.machine.specs.Transducer.{noArc, arcAt, somewhen, sideFollow, sideWrites, sideWritten, Passed, passed, nothingPassed, both, followOn, followArc, writesOn, writtenOn, writtenBy, machine}
+use Rattle.machine.specs.Transducer.{arcAt, somewhen, sideFollow, sideWrites, sideWritten, Passed, passed, nothingPassed, both, followOn, followArc, writesOn, writtenOn, writtenBy, machine}
 
 at-least : (m : ℕ) (l : List Arc) (i : ℕ) → AtLeast m l → i < length l → m ≤ getD l i noArc .source
 at-least m [] i A h = absurd (not-suc-le-zero h)

@@ -100,22 +100,22 @@ abbrev pub R : ℕ → Rel Word Word
 R γ v w = w ≡ v ++ (γ ∷ [])
 
 -- a letter that is read; 0 is the empty word ε
-abbrev pub reading : ℕ → Rel Word Word
-reading zero = identity
-reading (suc σ) = L⁻¹ (suc σ)
+abbrev pub readLetter : ℕ → Rel Word Word
+readLetter zero = identity
+readLetter (suc σ) = L⁻¹ (suc σ)
 
 -- a letter that is written, the same
-abbrev pub writing : ℕ → Rel Word Word
-writing zero = identity
-writing (suc γ) = R (suc γ)
+abbrev pub writeLetter : ℕ → Rel Word Word
+writeLetter zero = identity
+writeLetter (suc γ) = R (suc γ)
 
 -- Section 2.2: the relabelling α of each task, and its interface.
 
 -- an arc's label (σ, γ) is (σ, ε) (ε, γ), and α is a morphism: α (σ, γ) is the product of both sides' relations (label-is)
 abbrev pub α : Task → Arc → Rel (Word × Word) (Word × Word)
-α recognition a = reading (a .upper) ⊗ reading (a .lower)
-α synthesis a = reading (a .upper) ⊗ writing (a .lower)
-α analysis a = writing (a .upper) ⊗ reading (a .lower)
+α recognition a = readLetter (a .upper) ⊗ readLetter (a .lower)
+α synthesis a = readLetter (a .upper) ⊗ writeLetter (a .lower)
+α analysis a = writeLetter (a .upper) ⊗ readLetter (a .lower)
 
 -- the arc with its upper letter alone, (σ, ε)
 abbrev pub upperAlone : Arc → Arc

@@ -6,15 +6,11 @@ use mathlib.Core.Option.{Option, none, some}
 use mathlib.Core.List.{List, [], _∷_, _++_}
 use lib.ListN.{length, getD}
 use lib.Dec.{eqb}
-use Rattle.table_format.specs.Table.{Arc, Table}
+use Rattle.table_format.specs.Table.{Arc, Table, noArc}
 use Rattle.table_format.specs.Index.{below}
 pub use Rattle.graph.specs.Lists.{member}
 use Rattle.machine.specs.Query.{Side, upperSide, lowerSide, reads, letter, Query, word}
 use Rattle.machine.specs.Machine.{Machine}
-
--- what stands for an arc beyond the last
-abbrev pub noArc : Arc
-noArc = record { source = 0; upper = 0; lower = 0; target = 0 }
 
 -- "Arcs are numbered from 0 in file order"
 abbrev pub arcAt : Table → ℕ → Arc

@@ -27,8 +27,8 @@ pub record Told : Type 0 where
   pub length : ℕ
 
 -- "A refusal carries its number"
-abbrev pub refused : Refusal → ℕ → ℕ → Told
-refused refusal steps length = record { kind = refusedKind; number = numberOf refusal; steps = steps; length = length }
+abbrev pub refusedTold : Refusal → ℕ → ℕ → Told
+refusedTold refusal steps length = record { kind = refusedKind; number = numberOf refusal; steps = steps; length = length }
 
 -- an answer that is no refusal
 abbrev pub answered : ℕ → ℕ → ℕ → Told

@@ -24,12 +24,12 @@ use Rattle.session_query.specs.Query.{upperIn, lowerIn, filled}
 use Rattle.session_query.proofs.Query.{upper-filled, lower-filled}
 use Rattle.session_replies.specs.Lines.{readingLine, limitLine, refusalLine, storedLine}
 use Rattle.session_opening.specs.declared.SessionState.{SessionState}
-use Rattle.session_opening.specs.Opened.{Opened, refused, ready, opened}
+use Rattle.session_opening.specs.Opened.{Opened, unopened, ready, opened}
 use Rattle.session_opening.specs.Outcome.{firstState, openingOutcome}
 use Rattle.session.specs.Session.{mostReadings, linesBy, linesLeft, firstStack, firstOutput, linesOn, sessionLines}
 use Rattle.session_calls.specs.Calls.{callSteps, mostCalls, callsOutcomeBy, callsOutcome}
 use Rattle.session.specs.Next.{NextLine, nextLineOf, nextLine, lineOutcomeOf, lineOutcome}
-use Rattle.session.specs.Given.{following, textsBy, lineTexts, sessionTexts}
+use Rattle.session.specs.Given.{nextTexts, textsBy, lineTexts, sessionTexts}
 use Rattle.session_opening.proofs.Whole.{WholeIf, opened-whole}
 use Rattle.session.proofs.Next.{next-limit, next-calls}
 
@@ -39,8 +39,8 @@ stored-front : (b line : List ℕ) → take (length (lineText b)) (storedLine b 
 stored-front b line = take-at (lineText b) (drop (length (lineText b)) line) (length (lineText b)) refl
 
 texts-next : (s : NextLine) (line : List ℕ) (k : SessionState → List ℕ → List ℕ → List ℕ → List (List ℕ))
-    → textsBy (lineOutcomeOf s line) k ≡ lineText (s .bytes) ∷ following (s .after) (λ t. k t (s .stack) (s .output) (storedLine (s .bytes) line))
-texts-next s line k = ap (λ (x : List ℕ). x ∷ following (s .after) (λ t. k t (s .stack) (s .output) (storedLine (s .bytes) line))) (stored-front (s .bytes) line)
+    → textsBy (lineOutcomeOf s line) k ≡ lineText (s .bytes) ∷ nextTexts (s .after) (λ t. k t (s .stack) (s .output) (storedLine (s .bytes) line))
+texts-next s line k = ap (λ (x : List ℕ). x ∷ nextTexts (s .after) (λ t. k t (s .stack) (s .output) (storedLine (s .bytes) line))) (stored-front (s .bytes) line)
 
 -- the line of a refusal alone
 texts-refused : (n : ℕ) (r : Refusal) (line : List ℕ)
@@ -56,7 +56,7 @@ module _ (cells upper lower : List ℕ) where
 
   -- a line, and those after it
   abbrev after : NextLine → List (List ℕ)
-  after s = following (s .after) (λ t. left (t .calls) (t .run) (s .stack) (s .output) (t .count))
+  after s = nextTexts (s .after) (λ t. left (t .calls) (t .run) (s .stack) (s .output) (t .count))
 
   left-limit : (calls : ℕ) (run : Run) (stack output : List ℕ) (count : ℕ) → leb mostReadings count ≡ true → left calls run stack output count ≡ limitLine count ∷ []
   unfolding linesLeft
@@ -118,7 +118,7 @@ texts-lines cells query (suc n) state stack output line =
     lines t s o = linesLeft cells (upperIn query) (lowerIn query) (t .calls) (t .run) s o (t .count)
 
     rest : (a : Option SessionState) (s o l : List ℕ) → ((t : SessionState) (s o l : List ℕ) → lineTexts cells query n t s o l ≡ map lineText (take n (lines t s o)))
-        → following a (λ t. lineTexts cells query n t s o l) ≡ map lineText (take n (following a (λ t. lines t s o)))
+        → nextTexts a (λ t. lineTexts cells query n t s o l) ≡ map lineText (take n (nextTexts a (λ t. lines t s o)))
     rest none s o l f = sym (ap (map lineText) (take-nil n))
     rest (some t) s o l f = f t s o l
 
@@ -154,7 +154,7 @@ module _ (t : Table) (keeps : keepsRules t ≡ true) (rest upper lower : List �
 
 module _ (table query line : List ℕ) (n : ℕ) where
   by-opened : (o : Opened) → WholeIf o → sessionTexts n (openingOutcome o table query) line ≡ map lineText (take n (linesOn o))
-  by-opened (refused r) w = texts-refused n r line
+  by-opened (unopened r) w = texts-refused n r line
   by-opened (ready cells b run) w =
       texts-lines (cells ++ rest) (filled b) n (firstState run) firstStack firstOutput line
       ∙ ap (λ (ls : List (List ℕ)). map lineText (take n ls)) same
@@ -203,5 +203,5 @@ unfolding sessionLines
 lines-few input = go (opened input)
   where
     go : (o : Opened) → length (linesOn o) ≤ mostReadings + 1
-    go (refused r) = omega arith
+    go (unopened r) = omega arith
     go (ready cells b run) = omega (arith, left-few cells (upperIn b) (lowerIn b) mostCalls run firstStack firstOutput 0 (omega arith))

@@ -13,7 +13,7 @@ use Rattle.machine.specs.Reading.{Outcome, outcome}
 use Rattle.session_query.specs.Query.{upperIn, lowerIn}
 use Rattle.session_calls.specs.Calls.{callSteps, mostCalls}
 use Rattle.session_replies.specs.Lines.{readingLine, endLine, limitLine, refusalLine, outputLetters}
-use Rattle.session_opening.specs.Opened.{Opened, refused, ready, opened}
+use Rattle.session_opening.specs.Opened.{Opened, unopened, ready, opened}
 
 -- "1,000 readings"
 abbrev pub mostReadings : ℕ
@@ -52,7 +52,7 @@ firstOutput = replicate outputLetters 0
 
 -- a refused input gives the refusal's line alone
 abbrev pub linesOn : Opened → List (List ℕ)
-linesOn (refused r) = refusalLine r ∷ []
+linesOn (unopened r) = refusalLine r ∷ []
 linesOn (ready cells b run) = linesLeft cells (upperIn b) (lowerIn b) mostCalls run firstStack firstOutput 0
 
 -- the whole output, as the bytes of its lines and as characters

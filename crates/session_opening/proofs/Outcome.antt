@@ -37,7 +37,7 @@ use Rattle.session_query.proofs.Parts.{size-inside}
 use Rattle.session_query.proofs.Query.{fault-is, Asks, asks-is}
 use Rattle.session_opening.specs.declared.SessionState.{SessionState}
 use Rattle.session_opening.specs.declared.Opening.the-variants.{Ready, Refused}
-use Rattle.session_opening.specs.Opened.{mostInput, Opened, refused, ready, openedAs, startedOn, openedQuery, openedTable, opened}
+use Rattle.session_opening.specs.Opened.{mostInput, Opened, unopened, ready, openedAs, startedOn, openedQuery, openedTable, opened}
 use Rattle.session_opening.specs.Outcome.{OpeningTold, openingTold, OpeningOutcome, firstState, openingOutcome, OpeningOutcomeIs}
 
 -- What is answered and left, by what an input gives.
@@ -45,7 +45,7 @@ use Rattle.session_opening.specs.Outcome.{OpeningTold, openingTold, Open
 pub opening-same : (x y : OpeningOutcome) (r : OpeningTold) (t q : List ℕ) → x ≡ y → OpeningOutcomeIs x r t q → OpeningOutcomeIs y r t q
 opening-same x y r t q e i = subst (λ (z : OpeningOutcome). OpeningOutcomeIs z r t q) e i
 
-pub opening-refused : (o : Opened) (table query : List ℕ) (r : Refusal) → o ≡ refused r → OpeningOutcomeIs (openingOutcome o table query) (openingTold (Refused r)) table query
+pub opening-refused : (o : Opened) (table query : List ℕ) (r : Refusal) → o ≡ unopened r → OpeningOutcomeIs (openingOutcome o table query) (openingTold (Refused r)) table query
 opening-refused o table query r e = subst (λ (x : Opened). OpeningOutcomeIs (openingOutcome x table query) (openingTold (Refused r)) table query) (sym e) (refl, refl, refl)
 
 -- The start.
@@ -80,7 +80,7 @@ start-same cells task upper lower s S = (
 -- The query.
 
 pub query-faults : (cells : List ℕ) (ls : List Line) (x : Question) (cause : InputCause) → x ≡ questionOf (queryOf ls) → x .asking ≡ Fault cause
-    → openedQuery cells (queryOf ls) ≡ refused (Input cause)
+    → openedQuery cells (queryOf ls) ≡ unopened (Input cause)
 query-faults cells ls x cause e f = ap (openedQuery cells) (fault-is (queryOf ls) x cause e f)
 
 module _ (cells : List ℕ) (ls : List Line) (x : Question) (e : x ≡ questionOf (queryOf ls)) (f : x .asking ≡ Query)
@@ -112,13 +112,13 @@ module _ (cells : List ℕ) (ls : List Line) (x : Question) (e : x ≡ questionO
 
 -- The input.
 
-pub opened-long : (input : List ℕ) → mostInput < length input → opened input ≡ refused (Input CountLimit)
+pub opened-long : (input : List ℕ) → mostInput < length input → opened input ≡ unopened (Input CountLimit)
 unfolding opened
-opened-long input h = ap (λ (b : Bool). cond b (refused (Input CountLimit)) (openedTable (parsed (tableText input)) (linesOf (queryText input)))) (lt-ltb mostInput (length input) h)
+opened-long input h = ap (λ (b : Bool). cond b (unopened (Input CountLimit)) (openedTable (parsed (tableText input)) (linesOf (queryText input)))) (lt-ltb mostInput (length input) h)
 
 opened-by : (input : List ℕ) → length input ≤ mostInput → opened input ≡ openedTable (parsed (tableText input)) (linesOf (queryText input))
 unfolding opened
-opened-by input h = ap (λ (b : Bool). cond b (refused (Input CountLimit)) (openedTable (parsed (tableText input)) (linesOf (queryText input)))) (le-ltb mostInput (length input) h)
+opened-by input h = ap (λ (b : Bool). cond b (unopened (Input CountLimit)) (openedTable (parsed (tableText input)) (linesOf (queryText input)))) (le-ltb mostInput (length input) h)
 
 -- a table that is read has no more cells than the largest
 pub cells-most : (text : List ℕ) (t : Table) → parsed text ≡ accepted t → length (cellsOf t) ≤ mostCells
@@ -133,17 +133,17 @@ module _ (input : List ℕ) (end : ℕ) (end-is : end ≡ tableSize input) (few 
   pub end-inside : end ≤ length input
   end-inside = omega (arith, end-is, size-inside input)
 
-  pub table-refused : (r : Refusal) → A.Refused r ≡ readAnswer (take end input) zeros → opened input ≡ refused r
+  pub table-refused : (r : Refusal) → A.Refused r ≡ readAnswer (take end input) zeros → opened input ≡ unopened r
   unfolding readAnswer
   table-refused r e = go (parsed (take end input)) refl e
     where
-      go : (p : Parsed) → parsed (take end input) ≡ p → A.Refused r ≡ readAs p zeros → opened input ≡ refused r
+      go : (p : Parsed) → parsed (take end input) ≡ p → A.Refused r ≡ readAs p zeros → opened input ≡ unopened r
       go (accepted t) q e =
           let w : readAs (accepted t) zeros ≡ A.Done (length (cellsOf t)) = sym (ap (λ (p : Parsed). readAs p zeros) q) ∙ read-fits (take end input) zeros t q (omega (arith, cells-most (take end input) t q)) .0 in
           absurd (let z : _≡_ {A = ℕ} 0 1 = cc (e ∙ w) in omega arith)
       go (turnedDown cause) q e =
           let same : r ≡ Input cause = cc in
-          opened-by input few ∙ ap (λ (p : Parsed). openedTable p (linesOf (queryText input))) (ap parsed (sym text-is) ∙ q) ∙ ap refused (sym same)
+          opened-by input few ∙ ap (λ (p : Parsed). openedTable p (linesOf (queryText input))) (ap parsed (sym text-is) ∙ q) ∙ ap unopened (sym same)
 
   module _ (count : ℕ) (cells : List ℕ) (e : A.Done count ≡ readAnswer (take end input) zeros) (c : cells ≡ readCells (take end input) zeros) where
     pub count-inside : count ≤ length cells

@@ -18,9 +18,9 @@ use Rattle.machine.specs.declared.StartAnswer.{StartAnswer}
 use Rattle.machine.specs.declared.StartAnswer.the-variants as T
 use Rattle.machine.specs.Start.{started}
 use Rattle.session_query.specs.Parts.{tableText, queryText}
-use Rattle.session_query.specs.Query.{Asked, fault, says, taskIn, upperIn, lowerIn, queryOf}
+use Rattle.session_query.specs.Query.{QueryRead, fault, says, taskIn, upperIn, lowerIn, queryOf}
 use Rattle.session_query.proofs.Query.{IsQuery, query-whole}
-use Rattle.session_opening.specs.Opened.{mostInput, Opened, refused, ready, openedAs, startedOn, openedQuery, openedTable, opened}
+use Rattle.session_opening.specs.Opened.{mostInput, Opened, unopened, ready, openedAs, startedOn, openedQuery, openedTable, opened}
 
 pub record Whole (cells b : List ℕ) : Type 0 where
   pub table : Table
@@ -29,7 +29,7 @@ pub record Whole (cells b : List ℕ) : Type 0 where
   pub query : IsQuery b
 
 abbrev pub WholeIf : Opened → Type 0
-WholeIf (refused r) = Unit {0}
+WholeIf (unopened r) = Unit {0}
 WholeIf (ready cells b run) = Whole cells b
 
 pub opened-whole : (input : List ℕ) → WholeIf (opened input)
@@ -40,14 +40,14 @@ opened-whole input = go (ltb mostInput (length input)) (parsed (tableText input)
     begins cells b T.Ready run w = w
     begins cells b (T.Refused r) run w = tt
 
-    go : (x : Bool) (p : Parsed) → parsed (tableText input) ≡ p → (q : Asked) → queryOf (linesOf (queryText input)) ≡ q
-        → WholeIf (cond x (refused (Input CountLimit)) (openedTable (parsed (tableText input)) (linesOf (queryText input))))
+    go : (x : Bool) (p : Parsed) → parsed (tableText input) ≡ p → (q : QueryRead) → queryOf (linesOf (queryText input)) ≡ q
+        → WholeIf (cond x (unopened (Input CountLimit)) (openedTable (parsed (tableText input)) (linesOf (queryText input))))
     go true p e q f = tt
     go false (turnedDown c) e q f = subst (λ (y : Parsed). WholeIf (openedTable y (linesOf (queryText input)))) (sym e) tt
     go false (accepted t) e (fault c) f =
-        subst (λ (y : Parsed). WholeIf (openedTable y (linesOf (queryText input)))) (sym e) (subst (λ (y : Asked). WholeIf (openedQuery (cellsOf t) y)) (sym f) tt)
+        subst (λ (y : Parsed). WholeIf (openedTable y (linesOf (queryText input)))) (sym e) (subst (λ (y : QueryRead). WholeIf (openedQuery (cellsOf t) y)) (sym f) tt)
     go false (accepted t) e (says b) f =
         subst (λ (y : Parsed). WholeIf (openedTable y (linesOf (queryText input)))) (sym e)
-        (subst (λ (y : Asked). WholeIf (openedQuery (cellsOf t) y)) (sym f)
+        (subst (λ (y : QueryRead). WholeIf (openedQuery (cellsOf t) y)) (sym f)
         (begins (cellsOf t) b (started (cellsOf t) (taskIn b) (upperIn b) (lowerIn b) [] .answer) (started (cellsOf t) (taskIn b) (upperIn b) (lowerIn b) [] .run)
         (record { table = t; cells-are = refl; keeps = read-text (tableText input) t e .0; query = query-whole (linesOf (queryText input)) b f })))

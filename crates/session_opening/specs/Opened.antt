@@ -16,17 +16,17 @@ use Rattle.machine.specs.declared.StartAnswer.{StartAnswer}
 use Rattle.machine.specs.declared.StartAnswer.the-variants.{Ready, Refused}
 use Rattle.machine.specs.Start.{started}
 use Rattle.session_query.specs.Parts.{tableText, queryText}
-use Rattle.session_query.specs.Query.{Asked, fault, says, taskIn, upperIn, lowerIn, queryOf}
+use Rattle.session_query.specs.Query.{QueryRead, fault, says, taskIn, upperIn, lowerIn, queryOf}
 
 -- a refusal; or the table's cells, the query's bytes and the run that the start leaves
 pub data Opened : Type 0 where
-  refused : Refusal → Opened
+  unopened : Refusal → Opened
   ready : (cells bytes : List ℕ) → Run → Opened
 
 -- the start's answer. The states of the cycle that 12 tells are not shown, and neither answer nor run depends on them.
 abbrev pub openedAs : List ℕ → List ℕ → StartAnswer → Run → Opened
 openedAs cells b Ready run = ready cells b run
-openedAs cells b (Refused r) run = refused r
+openedAs cells b (Refused r) run = unopened r
 
 -- the start
 unfoldable pub startedOn : List ℕ → List ℕ → Opened
@@ -34,13 +34,13 @@ startedOn cells b =
     openedAs cells b (started cells (taskIn b) (upperIn b) (lowerIn b) [] .answer) (started cells (taskIn b) (upperIn b) (lowerIn b) [] .run)
 
 -- the query's faults
-abbrev pub openedQuery : List ℕ → Asked → Opened
-openedQuery cells (fault cause) = refused (Input cause)
+abbrev pub openedQuery : List ℕ → QueryRead → Opened
+openedQuery cells (fault cause) = unopened (Input cause)
 openedQuery cells (says b) = startedOn cells b
 
 -- the table's faults
 abbrev pub openedTable : Parsed → List Line → Opened
-openedTable (turnedDown cause) ls = refused (Input cause)
+openedTable (turnedDown cause) ls = unopened (Input cause)
 openedTable (accepted t) ls = openedQuery (cellsOf t) (queryOf ls)
 
 -- 3: "a session's input exceeds 65,536 bytes"
@@ -48,4 +48,4 @@ abbrev pub mostInput : ℕ
 mostInput = 65536
 
 unfoldable pub opened : List ℕ → Opened
-opened input = cond (ltb mostInput (length input)) (refused (Input CountLimit)) (openedTable (parsed (tableText input)) (linesOf (queryText input)))
+opened input = cond (ltb mostInput (length input)) (unopened (Input CountLimit)) (openedTable (parsed (tableText input)) (linesOf (queryText input)))

@@ -13,7 +13,7 @@ use Rattle.session_calls.specs.Calls.{mostCalls}
 use Rattle.session_opening.specs.declared.SessionState.{SessionState}
 use Rattle.session_opening.specs.declared.Opening.{Opening}
 use Rattle.session_opening.specs.declared.Opening.the-variants.{Ready, Refused}
-use Rattle.session_opening.specs.Opened.{Opened, refused, ready}
+use Rattle.session_opening.specs.Opened.{Opened, unopened, ready}
 
 -- "this paper's number and values for each of its cases": done, with the state to begin with, or a refusal's number
 pub record OpeningTold : Type 0 where
@@ -22,7 +22,7 @@ pub record OpeningTold : Type 0 where
 
 abbrev pub openingTold : Opening → OpeningTold
 openingTold (Ready state) = record { answer = answered doneKind 0 0; state = some state }
-openingTold (Refused r) = record { answer = T.refused r 0 0; state = none }
+openingTold (Refused r) = record { answer = T.refusedTold r 0 0; state = none }
 
 pub record OpeningOutcome : Type 0 where
   pub told : OpeningTold
@@ -34,7 +34,7 @@ abbrev pub firstState : Run → SessionState
 firstState run = record { run = run; count = 0; calls = mostCalls }
 
 abbrev pub openingOutcome : Opened → List ℕ → List ℕ → OpeningOutcome
-openingOutcome (refused r) table query = record { told = openingTold (Refused r); table = table; query = query }
+openingOutcome (unopened r) table query = record { told = openingTold (Refused r); table = table; query = query }
 openingOutcome (ready cells b run) table query = record { told = openingTold (Ready (firstState run)); table = cells ++ drop (length cells) table; query = filled b }
 
 -- what is told, and the lent cells and bytes at exit

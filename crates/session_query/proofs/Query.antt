@@ -19,7 +19,7 @@ use Rattle.table_scanner.proofs.FirstLine.{lines-first}
 use Rattle.table_scanner.proofs.ScannedLine.{LineRead, LineBad}
 use Rattle.session_query.specs.declared.Asking.the-variants.{Fault, Query}
 use Rattle.session_query.specs.declared.Question.{Question}
-use Rattle.session_query.specs.Query.{queryBytes, Asked, fault, says, taskIn, upperLength, lowerLength, wordAt, upperIn, lowerIn, isQuery, filled, queryOf}
+use Rattle.session_query.specs.Query.{queryBytes, QueryRead, fault, says, taskIn, upperLength, lowerLength, wordAt, upperIn, lowerIn, isQuery, filled, queryOf}
 use Rattle.session_query.specs.Asking.{questionOf}
 
 -- Bytes.
@@ -132,7 +132,7 @@ module _ (text : List ℕ) where
 
 -- What a question says of the query, and the array that it holds.
 
-pub fault-is : (q : Asked) (r : Question) (cause : InputCause) → r ≡ questionOf q → r .asking ≡ Fault cause → q ≡ fault cause
+pub fault-is : (q : QueryRead) (r : Question) (cause : InputCause) → r ≡ questionOf q → r .asking ≡ Fault cause → q ≡ fault cause
 fault-is (fault c) r cause e f = let same : c ≡ cause = cc (ap (λ (x : Question). x .asking) e) in ap fault same
 fault-is (says b) r cause e f = absurd (let z : _≡_ {A = ℕ} 0 1 = cc (ap (λ (x : Question). x .asking) e) in omega arith)
 
@@ -194,7 +194,7 @@ pub record Asks (ls : List Line) (x : Question) : Type 0 where
 pub asks-is : (ls : List Line) (x : Question) → x ≡ questionOf (queryOf ls) → x .asking ≡ Query → Asks ls x
 asks-is ls x e f = go (queryOf ls) refl e
   where
-    go : (q : Asked) → queryOf ls ≡ q → x ≡ questionOf q → Asks ls x
+    go : (q : QueryRead) → queryOf ls ≡ q → x ≡ questionOf q → Asks ls x
     go (fault c) k e = absurd (let z : _≡_ {A = ℕ} 0 1 = cc (ap (λ (y : Question). y .asking) e) in omega arith)
     go (says b) k e =
         let bytes : x .bytes ≡ filled b = ap (λ (y : Question). y .bytes) e in

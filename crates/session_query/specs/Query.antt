@@ -38,16 +38,16 @@ unfoldable pub isQuery : List ℕ → Bool
 isQuery b = eqb (getD b 0 0) 16 && eqb (length b) (4 + upperLength b + lowerLength b)
 
 -- the bytes of a query, or why there is none
-pub data Asked : Type 0 where
-  fault : InputCause → Asked
-  says : List ℕ → Asked
+pub data QueryRead : Type 0 where
+  fault : InputCause → QueryRead
+  says : List ℕ → QueryRead
 
 -- bytes from the front of an array that holds every query; the others are 0
 unfoldable pub filled : List ℕ → List ℕ
 filled b = b ++ drop (length b) (replicate queryBytes 0)
 
 -- "a query missing, of wrong kind or length, or followed by text gives 2"; a line that is malformed gives 1
-unfoldable pub queryOf : List Line → Asked
+unfoldable pub queryOf : List Line → QueryRead
 queryOf [] = fault Misplaced
 queryOf (l ∷ ls) =
     cond (malformed l) (fault Malformed)

@@ -6,25 +6,19 @@ use mathlib.Core.List.{List, [], _∷_, _++_}
 use lib.ListN.{length, getD, take, drop}
 use lib.Seq.{drop-drop, getD-drop, getD-take, length-take-le}
 use mathlib.Core.Bool.{Bool, false}
-use Rattle.table_format.specs.Table.{Arc}
+use Rattle.table_format.specs.Table.{Arc, noArc}
 use Rattle.table_format.specs.Rules.{each}
 use Rattle.table_format.specs.Loaded.{arcWidth, arcIn, arcsIn}
-use Rattle.table_format.specs.Cells.{arcAs, arcCount, arcsAs}
+use Rattle.table_format.specs.Cells.{arcAs, arcCount, arcsAs, arcOf}
 use Rattle.table_format.proofs.Each.{each-fails}
 
 -- a function at equal numbers
 pub at-equal : {A : Type 0} (f : ℕ → A) (m n : ℕ) → m ≡ n → f m ≡ f n
 at-equal f m n e = ap f e
 
--- the arc from a cell on, and the arc at place k of cells
+-- the arc from a cell on
 abbrev pub arcHere : List ℕ → ℕ → Arc
 arcHere cells at = arcAs (getD cells at 0) (getD cells (at + 1) 0) (getD cells (at + 2) 0) (getD cells (at + 3) 0)
-
-abbrev pub arcAt : List ℕ → ℕ → Arc
-arcAt cells k = arcHere cells (arcWidth * k)
-
-pub noArc : Arc
-noArc = arcAs 0 0 0 0
 
 pub length-arcs : (n : ℕ) (cells : List ℕ) → length (arcsIn n cells) ≡ n
 unfolding arcsIn
@@ -40,7 +34,7 @@ arc-dropped cells at =
       target = getD-drop at cells 3 0 i;
     }
 
-pub getD-arcs : (n : ℕ) (cells : List ℕ) (k : ℕ) (d : Arc) → k < n → getD (arcsIn n cells) k d ≡ arcAt cells k
+pub getD-arcs : (n : ℕ) (cells : List ℕ) (k : ℕ) (d : Arc) → k < n → getD (arcsIn n cells) k d ≡ arcOf cells k
 unfolding arcsIn
 getD-arcs zero cells k d h = absurd (omega arith)
 getD-arcs (suc n) cells zero d h = refl
@@ -49,7 +43,7 @@ getD-arcs (suc n) cells (suc k) d h =
     ∙ ap arcIn (drop-drop (arcWidth * k) arcWidth cells ∙ at-equal (λ m. drop m cells) (arcWidth + arcWidth * k) (arcWidth * suc k) (omega arith)) ∙ arc-dropped cells (arcWidth * suc k)
 
 -- one arc more
-pub arcs-snoc : (k : ℕ) (cells : List ℕ) → arcsIn (suc k) cells ≡ arcsIn k cells ++ (arcAt cells k ∷ [])
+pub arcs-snoc : (k : ℕ) (cells : List ℕ) → arcsIn (suc k) cells ≡ arcsIn k cells ++ (arcOf cells k ∷ [])
 unfolding arcsIn
 arcs-snoc zero cells = refl
 arcs-snoc (suc k) cells =
@@ -58,7 +52,7 @@ arcs-snoc (suc k) cells =
     ∙ ap (λ (a : Arc). arcsIn k (drop arcWidth cells) ++ (a ∷ []))
     (sym (arc-dropped (drop arcWidth cells) (arcWidth * k)) ∙ ap arcIn (drop-drop (arcWidth * k) arcWidth cells ∙ at-equal (λ m. drop m cells) (arcWidth + arcWidth * k) (arcWidth * suc k) (omega arith)) ∙ arc-dropped cells (arcWidth * suc k)))
 
-pub arcs-next : (k : ℕ) (cells : List ℕ) → arcsIn (k + 1) cells ≡ arcsIn k cells ++ (arcAt cells k ∷ [])
+pub arcs-next : (k : ℕ) (cells : List ℕ) → arcsIn (k + 1) cells ≡ arcsIn k cells ++ (arcOf cells k ∷ [])
 arcs-next k cells = at-equal (λ n. arcsIn n cells) (k + 1) (suc k) (omega arith) ∙ arcs-snoc k cells
 
 -- the arcs of a part from the front are the first ones
@@ -68,7 +62,7 @@ arcs-take zero m cells h g = refl
 arcs-take (suc k) m cells h g =
     arcs-snoc k (take m cells) ∙ ap₂ (λ (l : List Arc) (a : Arc). l ++ (a ∷ [])) (arcs-take k m cells (omega arith) g) same ∙ sym (arcs-snoc k cells)
   where
-    same : arcAt (take m cells) k ≡ arcAt cells k
+    same : arcOf (take m cells) k ≡ arcOf cells k
     same =
         λ i. record {
           source = getD-take m cells (arcWidth * k) 0 (omega arith) i;
@@ -85,7 +79,7 @@ take-arcs zero (suc k) cells h = absurd (omega arith)
 take-arcs (suc n) (suc k) cells h = ap (λ (l : List Arc). arcIn cells ∷ l) (take-arcs n k (drop arcWidth cells) (omega arith))
 
 -- a test along the arcs of cells fails where it fails at one
-pub arcs-fail : (test : List Arc → Arc → Bool) (cells : List ℕ) (n k : ℕ) → k < n → test (arcsIn k cells) (arcAt cells k) ≡ false → each test [] (arcsIn n cells) ≡ false
+pub arcs-fail : (test : List Arc → Arc → Bool) (cells : List ℕ) (n k : ℕ) → k < n → test (arcsIn k cells) (arcOf cells k) ≡ false → each test [] (arcsIn n cells) ≡ false
 arcs-fail test cells n k h f =
     each-fails test noArc (arcsIn n cells) k (omega (arith, length-arcs n cells))
     (ap₂ test (take-arcs n k cells (omega arith)) (getD-arcs n cells k noArc h) ∙ f)

@@ -12,7 +12,7 @@ use Rattle.refusal.specs.Refusal.{inputNumber}
 use Rattle.table_format.specs.Table.{Table}
 use Rattle.table_format.specs.Line.{Line, bytesOf}
 use Rattle.table_format.specs.Parse.{Progress, opening, within, closed, lineFaults, onward, turnedDown, decide, atEnd, parseFrom}
-use Rattle.table_format.specs.FirstBad.{after, Clear, FirstBad, LineMissing}
+use Rattle.table_format.specs.FirstBad.{progressAfter, Clear, FirstBad, LineMissing}
 use Rattle.table_format.proofs.Lowest.{numbersRise, faults-rise, first-lowest}
 
 abbrev Bad : Progress → List Line → InputCause → Type 0
@@ -74,7 +74,7 @@ down-bad p (l ∷ ls) c e = go (λ k. down-bad (onward p (bytesOf (l .chars))) l
 -- What is of this kind turns a text down.
 
 bad-down : (p : Progress) (before : List Line) (l : Line) (behind : List Line) (c : InputCause) → Clear p before
-    → List·Memᴰ c (lineFaults (after p before) l) → ((o : InputCause) → List·Memᴰ o (lineFaults (after p before) l) → inputNumber c ≤ inputNumber o)
+    → List·Memᴰ c (lineFaults (progressAfter p before) l) → ((o : InputCause) → List·Memᴰ o (lineFaults (progressAfter p before) l) → inputNumber c ≤ inputNumber o)
     → parseFrom p (before ++ (l ∷ behind)) ≡ turnedDown c
 unfolding parseFrom
 bad-down p [] l behind c clear earned lowest = go (lineFaults p l) (faults-rise p l) earned lowest
@@ -93,7 +93,7 @@ bad-down p (k ∷ before) l behind c clear earned lowest =
     ap (λ (fs : List InputCause). decide fs (parseFrom (onward p (bytesOf (k .chars))) (before ++ (l ∷ behind)))) (clear .0)
     ∙ bad-down (onward p (bytesOf (k .chars))) before l behind c (clear .1) earned lowest
 
-missing-down : (p : Progress) (ls : List Line) → Clear p ls → ((t : Table) → after p ls ≡ closed t → ⊥) → parseFrom p ls ≡ turnedDown Misplaced
+missing-down : (p : Progress) (ls : List Line) → Clear p ls → ((t : Table) → progressAfter p ls ≡ closed t → ⊥) → parseFrom p ls ≡ turnedDown Misplaced
 unfolding parseFrom
 missing-down opening [] clear un = refl
 missing-down (within d t) [] clear un = refl

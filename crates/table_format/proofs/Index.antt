@@ -8,14 +8,14 @@ use lib.Dec.{eqb, ltb, leb}
 use lib.ListN.{length, getD, set, length-append, length-replicate, getD-replicate, replicate, List·getD-append, length-set}
 use lib.Seq.{ext-getD, getD-append-add, getD-set-same, getD-set-other}
 use borrow.Author.Tests.{eqb-true, eqb-false, ltb-true, ltb-false, leb-true, leb-false, eq-eqb, ne-eqb}
-use Rattle.table_format.specs.Table.{Arc}
+use Rattle.table_format.specs.Table.{Arc, noArc}
 use Rattle.table_format.specs.Rules.{arcsKeep}
 use Rattle.table_format.specs.Index.{below, tabulate, firstIndex}
 use Rattle.table_format.specs.Loaded.{arcsIn}
 use Rattle.table_format.specs.Cells.{arcOf}
 use Rattle.table_format.proofs.Rules.{ArcBounded, arcs-inside}
 use Rattle.table_format.proofs.All.{All, all-at}
-use Rattle.table_format.proofs.Arcs.{at-equal, noArc, getD-arcs, length-arcs}
+use Rattle.table_format.proofs.Arcs.{at-equal, getD-arcs, length-arcs}
 
 -- how many arcs have the source just below n
 abbrev pub ending : List Arc → ℕ → ℕ

@@ -211,30 +211,30 @@ module _ (c : Counts) (s : ℕ) where
 -- Items of a kind are read from their lines, and read lines are those of items.
 
 module _ {A : Type 0} (c : Counts) (F : Phase c A) where
-  abbrev pub reading : List A → Progress
-  reading before = within c (F .with before)
+  abbrev pub readSoFar : List A → Progress
+  readSoFar before = within c (F .with before)
 
   item-clear : (before : List A) (b : List ℕ) → length before < F .count
-      → isEmpty (bytesFaults (reading before) b) ≡ (isOf (F .kind) b && F .test before (F .item b))
+      → isEmpty (bytesFaults (readSoFar before) b) ≡ (isOf (F .kind) b && F .test before (F .item b))
   item-clear before b h =
       faults-due c (F .with before) (F .kind) (F .is-due before h) b ∙ ap (λ (x : Bool). isOf (F .kind) b && x) (F .judges before b)
 
-  item-onward : (before : List A) (b : List ℕ) → length before < F .count → onward (reading before) b ≡ reading (before ++ (F .item b ∷ []))
+  item-onward : (before : List A) (b : List ℕ) → length before < F .count → onward (readSoFar before) b ≡ readSoFar (before ++ (F .item b ∷ []))
   item-onward before b h = onward-due c (F .with before) (F .kind) (F .is-due before h) b ∙ F .adds before b
 
   pub parse-items : (before xs : List A) (bs : List (List ℕ)) → length before + length xs ≤ F .count → each (F .test) before xs ≡ true
-      → parseBytes (reading before) (map (F .bytes) xs ++ bs) ≡ parseBytes (reading (before ++ xs)) bs
+      → parseBytes (readSoFar before) (map (F .bytes) xs ++ bs) ≡ parseBytes (readSoFar (before ++ xs)) bs
   unfolding each
-  parse-items before [] bs h e = ap (λ (l : List A). parseBytes (reading l) bs) (sym (append-nil before))
+  parse-items before [] bs h e = ap (λ (l : List A). parseBytes (readSoFar l) bs) (sym (append-nil before))
   parse-items before (x ∷ xs) bs h e =
       let p = and-eq-true-iff (F .test before x) (each (F .test) (before ++ (x ∷ [])) xs) .0 e in
       let passes : F .test before (F .item (F .bytes x)) ≡ true = ap (F .test before) (F .says x) ∙ p .0 in
       let here : length before < F .count = omega arith in
-      parse-one (reading before) (F .bytes x) _ (item-clear before (F .bytes x) here ∙ ap₂ _&&_ (F .is-kind x) passes)
+      parse-one (readSoFar before) (F .bytes x) _ (item-clear before (F .bytes x) here ∙ ap₂ _&&_ (F .is-kind x) passes)
       ∙ ap (λ (q : Progress). parseBytes q (map (F .bytes) xs ++ bs))
-      (item-onward before (F .bytes x) here ∙ ap (λ (y : A). reading (before ++ (y ∷ []))) (F .says x))
+      (item-onward before (F .bytes x) here ∙ ap (λ (y : A). readSoFar (before ++ (y ∷ []))) (F .says x))
       ∙ parse-items (before ++ (x ∷ [])) xs bs (simp length-append (omega arith)) (p .1)
-      ∙ ap (λ (l : List A). parseBytes (reading l) bs) (append-assoc before (x ∷ []) xs)
+      ∙ ap (λ (l : List A). parseBytes (readSoFar l) bs) (append-assoc before (x ∷ []) xs)
 
   -- n items read from lines: the items, and the lines that are left
   pub record Items (before : List A) (n : ℕ) (bs : List (List ℕ)) (t : Table) : Type 0 where
@@ -244,7 +244,7 @@ module _ {A : Type 0} (c : Counts) (F : Phase c A) where
     pub rest : List (List ℕ)
     pub lines : bs ≡ map (F .bytes) items ++ rest
     pub small : All (All IsByte) rest
-    pub parse : parseBytes (reading (before ++ items)) rest ≡ accepted t
+    pub parse : parseBytes (readSoFar (before ++ items)) rest ≡ accepted t
 
   -- one line more
   item-parsed : (n : ℕ) (before : List A) (b : List ℕ) (bs : List (List ℕ)) (t : Table) → All IsByte b → isOf (F .kind) b ≡ true
@@ -258,11 +258,11 @@ module _ {A : Type 0} (c : Counts) (F : Phase c A) where
         rest = r .rest;
         lines = ap₂ (λ (x : List ℕ) (xs : List (List ℕ)). x ∷ xs) (F .only b small k) (r .lines);
         small = r .small;
-        parse = ap (λ (l : List A). parseBytes (reading l) (r .rest)) (sym (append-assoc before (F .item b ∷ []) (r .items))) ∙ r .parse;
+        parse = ap (λ (l : List A). parseBytes (readSoFar l) (r .rest)) (sym (append-assoc before (F .item b ∷ []) (r .items))) ∙ r .parse;
       }
 
   pub items-parsed : (n : ℕ) (before : List A) (bs : List (List ℕ)) (t : Table) → length before + n ≡ F .count → All (All IsByte) bs
-      → parseBytes (reading before) bs ≡ accepted t → Items before n bs t
+      → parseBytes (readSoFar before) bs ≡ accepted t → Items before n bs t
   unfolding each parseBytes
   items-parsed zero before bs t h small e =
       record {
@@ -272,12 +272,12 @@ module _ {A : Type 0} (c : Counts) (F : Phase c A) where
         rest = bs;
         lines = refl;
         small = small;
-        parse = ap (λ (l : List A). parseBytes (reading l) bs) (append-nil before) ∙ e;
+        parse = ap (λ (l : List A). parseBytes (readSoFar l) bs) (append-nil before) ∙ e;
       }
   items-parsed (suc n) before [] t h small e = let z : _≡_ {A = ℕ} 0 1 = cc in absurd (omega arith)
   items-parsed (suc n) before (b ∷ bs) t h small e =
       let here : length before < F .count = omega arith in
-      let d = one-parsed (reading before) b bs t e in
+      let d = one-parsed (readSoFar before) b bs t e in
       let k = and-eq-true-iff (isOf (F .kind) b) (F .test before (F .item b)) .0 (sym (item-clear before b here) ∙ d .0) in
       item-parsed n before b bs t (small .0) (k .0) (k .1)
       (items-parsed n (before ++ (F .item b ∷ [])) bs t (simp length-append (omega arith)) (small .1)

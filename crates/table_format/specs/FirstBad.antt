@@ -11,9 +11,9 @@ use Rattle.table_format.specs.Line.{Line, bytesOf}
 use Rattle.table_format.specs.Parse.{Progress, closed, lineFaults, onward}
 
 -- how far a text has been read after some lines
-abbrev pub after : Progress → List Line → Progress
-after p [] = p
-after p (l ∷ ls) = after (onward p (bytesOf (l .chars))) ls
+abbrev pub progressAfter : Progress → List Line → Progress
+progressAfter p [] = p
+progressAfter p (l ∷ ls) = progressAfter (onward p (bytesOf (l .chars))) ls
 
 -- each line earns no refusal at its place
 abbrev pub Clear : Progress → List Line → Type 0
@@ -27,11 +27,11 @@ pub record FirstBad (p : Progress) (ls : List Line) (cause : InputCause) : Type 
   pub behind : List Line
   pub cut : ls ≡ before ++ (line ∷ behind)
   pub clear : Clear p before
-  pub earned : List·Memᴰ cause (lineFaults (after p before) line)
-  pub lowest : (other : InputCause) → List·Memᴰ other (lineFaults (after p before) line) → inputNumber cause ≤ inputNumber other
+  pub earned : List·Memᴰ cause (lineFaults (progressAfter p before) line)
+  pub lowest : (other : InputCause) → List·Memᴰ other (lineFaults (progressAfter p before) line) → inputNumber cause ≤ inputNumber other
 
 -- no line earns a refusal, and the end line has not come: 2
 pub record LineMissing (p : Progress) (ls : List Line) (cause : InputCause) : Type 0 where
   pub clear : Clear p ls
-  pub unfinished : (t : Table) → after p ls ≡ closed t → ⊥
+  pub unfinished : (t : Table) → progressAfter p ls ≡ closed t → ⊥
   pub cause-is : cause ≡ Misplaced

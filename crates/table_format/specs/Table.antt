@@ -9,6 +9,10 @@ pub record Arc : Type 0 where
   pub lower : ℕ
   pub target : ℕ
 
+-- what stands for an arc beyond the last
+abbrev pub noArc : Arc
+noArc = record { source = 0; upper = 0; lower = 0; target = 0 }
+
 -- states are numbered from 0; the initial states are in order, the terminal ones rise
 pub record Table : Type 0 where
   pub states : ℕ

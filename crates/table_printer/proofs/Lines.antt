@@ -8,11 +8,11 @@ use lib.ListN.{length, getD, drop, set, drop-of-length-le}
 use lib.Seq.{sets, drop-cons}
 use Rattle.hex.specs.declared.Digits.{Digits}
 use Rattle.hex.specs.Hex.{encoded}
-use Rattle.table_format.specs.Table.{Arc}
+use Rattle.table_format.specs.Table.{Arc, noArc}
 use Rattle.table_format.specs.Line.{charsOf, lineText}
 use Rattle.table_format.specs.Text.{arcBytes, joinLines}
 use Rattle.table_format.specs.Cells.{arcCount, arcOf, arcsAs}
-use Rattle.table_format.proofs.Arcs.{noArc, length-arcs, getD-arcs}
+use Rattle.table_format.proofs.Arcs.{length-arcs, getD-arcs}
 use Rattle.table_format.proofs.Line.{length-chars}
 use Rattle.table_format.proofs.Stores.{then, byte-stored}
 

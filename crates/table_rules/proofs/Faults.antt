@@ -9,14 +9,14 @@ use lib.ListN.{length, getD}
 use borrow.Author.Tests.{ltb-true, ltb-false, leb-true, eqb-true, lt-ltb, le-ltb, le-leb, ne-eqb}
 use Rattle.refusal.specs.declared.InputCause.the-variants.{StateNumber, LetterLimit, StateOrder, SourceOrder, ArcRepeated}
 use Rattle.table_rules.specs.declared.Judged.the-variants.{Kept, Broken}
-use Rattle.table_format.specs.Table.{Arc}
+use Rattle.table_format.specs.Table.{Arc, noArc}
 use Rattle.table_format.specs.Rules.{any, lastIs, each, letterHolds, sourceHolds, sameArc, initialFaults, terminalFaults, arcFaults}
 use Rattle.table_format.specs.Loaded.{arcsIn}
 use Rattle.table_rules.specs.Judge.{judged, hasState, repeated, largest, stateKey, arcKey, lastSource, SourcesRise}
 use Rattle.table_format.specs.Cells.{arcCount, arcOf, arcsAs}
 use Rattle.table_format.proofs.Tests.{and-four, or-right}
 use Rattle.table_format.proofs.Each.{any-append, any-none, each-last}
-use Rattle.table_format.proofs.Arcs.{at-equal, noArc, length-arcs, getD-arcs, arcs-snoc}
+use Rattle.table_format.proofs.Arcs.{at-equal, length-arcs, getD-arcs, arcs-snoc}
 use Rattle.table_rules.proofs.Sources.{last-source}
 
 -- An element that has a larger key than each of a list is none of them.

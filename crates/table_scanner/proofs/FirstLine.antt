@@ -11,8 +11,8 @@ use Rattle.table_scanner.specs.Scan.{noLine, firstLine}
 use Rattle.table_format.proofs.Line.{lines-char}
 
 -- a line with one character more in front
-abbrev pub longer : ℕ → Line → Line
-longer c l = record { chars = c ∷ l .chars; fed = l .fed }
+abbrev pub withFirst : ℕ → Line → Line
+withFirst c l = record { chars = c ∷ l .chars; fed = l .fed }
 
 -- the empty line
 abbrev pub emptyLine : Line
@@ -31,11 +31,11 @@ module _ (c : ℕ) (cs : List ℕ) where
   unfolding firstLine
   first-feed e = ap (λ (ls : List Line). getD ls 0 noLine) (lines-fed e)
 
-  pub first-char : eqb c 10 ≡ false → firstLine (c ∷ cs) ≡ longer c (firstLine cs)
+  pub first-char : eqb c 10 ≡ false → firstLine (c ∷ cs) ≡ withFirst c (firstLine cs)
   unfolding firstLine
   first-char e = ap (λ (ls : List Line). getD ls 0 noLine) (lines-char c cs e) ∙ go (linesOf cs)
     where
-      go : (ls : List Line) → getD (withChar c ls) 0 noLine ≡ longer c (getD ls 0 noLine)
+      go : (ls : List Line) → getD (withChar c ls) 0 noLine ≡ withFirst c (getD ls 0 noLine)
       go [] = refl
       go (l ∷ ls) = refl
 
@@ -66,13 +66,13 @@ first-some (c ∷ cs) h = go (eqb c 10) refl
 abbrev Cut : List ℕ → Line → Type 0
 Cut s l = linesOf s ≡ l ∷ linesOf (drop (sizeOf l) s)
 
-cut-longer : (c : ℕ) (cs : List ℕ) → eqb c 10 ≡ false → (0 < length cs → Cut cs (firstLine cs)) → Cut (c ∷ cs) (longer c (firstLine cs))
+cut-longer : (c : ℕ) (cs : List ℕ) → eqb c 10 ≡ false → (0 < length cs → Cut cs (firstLine cs)) → Cut (c ∷ cs) (withFirst c (firstLine cs))
 unfolding firstLine linesOf
 cut-longer c [] e rec = lines-char c [] e
 cut-longer c (d ∷ cs) e rec =
     let l : Line = firstLine (d ∷ cs) in
-    let size : suc (sizeOf l) ≡ sizeOf (longer c l) = omega arith in
-    lines-char c (d ∷ cs) e ∙ ap (withChar c) (rec (omega arith)) ∙ ap (λ (n : ℕ). longer c l ∷ linesOf (drop n (c ∷ d ∷ cs))) size
+    let size : suc (sizeOf l) ≡ sizeOf (withFirst c l) = omega arith in
+    lines-char c (d ∷ cs) e ∙ ap (withChar c) (rec (omega arith)) ∙ ap (λ (n : ℕ). withFirst c l ∷ linesOf (drop n (c ∷ d ∷ cs))) size
 
 pub lines-first : (s : List ℕ) → 0 < length s → linesOf s ≡ firstLine s ∷ linesOf (drop (sizeOf (firstLine s)) s)
 lines-first [] h = absurd (omega arith)

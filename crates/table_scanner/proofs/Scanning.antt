@@ -23,7 +23,7 @@ use Rattle.table_format.proofs.Each.{any-append}
 use Rattle.table_format.proofs.Arcs.{at-equal}
 use Rattle.table_format.proofs.Stores.{sets-append}
 use Rattle.table_format.proofs.Line.{IsByte, lineWith, noValue, digit-no-feed, length-chars, chars-append, bytes-chars, line-well}
-use Rattle.table_scanner.proofs.FirstLine.{longer, emptyLine, first-none, first-feed, first-char}
+use Rattle.table_scanner.proofs.FirstLine.{withFirst, emptyLine, first-none, first-feed, first-char}
 
 -- The first line of a text that begins with digits, and the bytes that it begins with.
 
@@ -36,7 +36,7 @@ unfolding charsOf encoded
 first-after [] rest = refl
 first-after (x ∷ b) rest =
     first-char (digitOf (x / 16)) _ (digit-no-feed (x / 16))
-    ∙ ap (longer (digitOf (x / 16))) (first-char (digitOf x) _ (digit-no-feed x) ∙ ap (longer (digitOf x)) (first-after b rest))
+    ∙ ap (withFirst (digitOf (x / 16))) (first-char (digitOf x) _ (digit-no-feed x) ∙ ap (withFirst (digitOf x)) (first-after b rest))
 
 pub leading-after : (b rest : List ℕ) → All IsByte b → leadingBytes (charsOf b ++ rest) ≡ b ++ leadingBytes rest
 unfolding leadingBytes charsOf
@@ -145,13 +145,13 @@ module _ {text : List ℕ} {start : ℕ} {before bytes : List ℕ} {count at : �
   unfolding leadingBytes
   out-end h = out-malformed noLine (ap firstLine (drop-of-length-le text h) ∙ first-none) (unfed (charsOf soFar ++ [])) refl
 
-  first-here : at < length text → (here ≡ 10 → ⊥) → firstLine (drop at text) ≡ longer here (firstLine (drop (at + 1) text))
+  first-here : at < length text → (here ≡ 10 → ⊥) → firstLine (drop at text) ≡ withFirst here (firstLine (drop (at + 1) text))
   first-here h n = ap firstLine (rest-one h) ∙ first-char here (drop (at + 1) text) (ne-eqb here 10 n)
 
   pub out-half : at < length text → length text ≤ at + 1 → (here ≡ 10 → ⊥) → Out Malformed
   unfolding leadingBytes
   out-half h g n =
-      out-malformed (longer here noLine) (first-here h n ∙ ap (λ (s : List ℕ). longer here (firstLine s)) (drop-of-length-le text g) ∙ ap (longer here) first-none)
+      out-malformed (withFirst here noLine) (first-here h n ∙ ap (λ (s : List ℕ). withFirst here (firstLine s)) (drop-of-length-le text g) ∙ ap (withFirst here) first-none)
       (unfed (charsOf soFar ++ (here ∷ []))) refl
 
   pub out-invalid : at + 1 < length text → (here ≡ 10 → ⊥) → decoded here next ≡ Invalid → Out Malformed
@@ -161,17 +161,17 @@ module _ {text : List ℕ} {start : ℕ} {before bytes : List ℕ} {count at : �
       rest : List ℕ
       rest = drop (at + 2) text
 
-      then : (l : Line) → firstLine (next ∷ rest) ≡ l → firstLine (drop at text) ≡ longer here l
+      then : (l : Line) → firstLine (next ∷ rest) ≡ l → firstLine (drop at text) ≡ withFirst here l
       then l k =
-          ap firstLine (rest-two h) ∙ first-char here (next ∷ rest) (ne-eqb here 10 n) ∙ ap (longer here) k
+          ap firstLine (rest-two h) ∙ first-char here (next ∷ rest) (ne-eqb here 10 n) ∙ ap (withFirst here) k
 
       go : (b : Bool) → eqb next 10 ≡ b → Out Malformed
       go true k =
-          out-malformed (longer here emptyLine) (then emptyLine (first-feed next rest k))
+          out-malformed (withFirst here emptyLine) (then emptyLine (first-feed next rest k))
           (odd (charsOf soFar ++ (here ∷ [])) true (omega (arith, length-append (charsOf soFar) (here ∷ []), length-chars soFar))) refl
       go false k =
           let t : List ℕ = firstLine rest .chars in
-          out-malformed (longer here (longer next (firstLine rest))) (then (longer next (firstLine rest)) (first-char next rest k))
+          out-malformed (withFirst here (withFirst next (firstLine rest))) (then (withFirst next (firstLine rest)) (first-char next rest k))
           (no-digit (charsOf soFar ++ (here ∷ next ∷ t)) (firstLine rest .fed)
           (any-append noValue (charsOf soFar) (here ∷ next ∷ t)
           ∙ or-right (any noValue (charsOf soFar)) _ (any-append noValue (here ∷ next ∷ []) t ∙ ap (λ (x : Bool). x || any noValue t) (invalid here next e))))

@@ -6,12 +6,13 @@ use mathlib.Core.List.{map}
 use denote.Ref.{now}
 use lib.ListN.{length, getD, drop}
 use lib.Seq.{sets}
+use Rattle.table_format.specs.Table.{noArc}
 use Rattle.table_format.specs.declared.Arc as Held
 use Rattle.table_format.specs.Loaded.{arcWidth}
 use Rattle.table_format.specs.Cells.{arcCount, arcSaid, arcsAs}
 use Rattle.table_format.specs.Line.{lineText}
 use Rattle.table_format.specs.Text.{arcBytes, joinLines}
-use Rattle.table_format.proofs.Arcs.{noArc, length-arcs}
+use Rattle.table_format.proofs.Arcs.{length-arcs}
 use Rattle.table_printer.proofs.Lines.{arcs-turn, lines-end}
 use Rattle.table_printer.proofs.arc_lines.Statement.{statement}
 use Rattle.table_printer.proofs.arc_lines.Tie as tie
