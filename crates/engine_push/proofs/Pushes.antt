@@ -14,7 +14,7 @@ use Rattle.machine.specs.Stack.{mostFrames, framesIn, roomIn, putAt}
 use Rattle.engine_frames.specs.declared.Setup.{Setup}
 use Rattle.engine_frames.specs.Sides.{doneBy, writtenOf}
 use Rattle.engine_frames.specs.Output.{Tried, sideBy, lettersBy}
-use Rattle.engine_push.specs.declared.Entry.{Entry}
+use Rattle.engine_push.specs.declared.NewFrame.{NewFrame}
 use Rattle.engine_push.specs.declared.Verdict.{Verdict}
 use Rattle.engine_push.specs.declared.Verdict.the-variants.{Refused, Enters, Accepts}
 use Rattle.engine_push.specs.Pushing.{passedIn, frameIn, verdictOf, verdictBy, refusedBy, acceptingBy, countedCells, pushedCells, pushedOutput, Pushable}
@@ -72,7 +72,7 @@ module _ (b a : Bool) (l n : ℕ) where
 not-true-false : {A : Type 0} → true ≡ false → A
 not-true-false e = absurd (let y : _≡_ {A = ℕ} 0 1 = cc in omega arith)
 
-module _ {s : Setup} {first terminals arcs upper lower : List ℕ} {d : ℕ} {e : Entry} {c b : List ℕ} (P : Pushable s first terminals arcs upper lower d e c b) where
+module _ {s : Setup} {first terminals arcs upper lower : List ℕ} {d : ℕ} {e : NewFrame} {c b : List ℕ} (P : Pushable s first terminals arcs upper lower d e c b) where
   abbrev accepting : Bool
   accepting = member (e .state) terminals && doneBy s upper lower (passedIn e)
 

@@ -14,16 +14,16 @@ use Rattle.engine_frames.specs.declared.Setup.{Setup}
 use Rattle.engine_frames.specs.Frames.{frameBy}
 use Rattle.engine_frames.specs.Sides.{passedOf, doneBy, writtenOf}
 use Rattle.engine_frames.specs.Output.{Tried, sideBy, lettersBy}
-use Rattle.engine_push.specs.declared.Entry.{Entry}
+use Rattle.engine_push.specs.declared.NewFrame.{NewFrame}
 use Rattle.engine_push.specs.declared.Verdict.{Verdict}
 use Rattle.engine_push.specs.declared.Verdict.the-variants.{Refused, Enters, Accepts}
 
--- what an entry has passed on each side
-abbrev pub passedIn : Entry → Passed
+-- what a frame to push has passed on each side
+abbrev pub passedIn : NewFrame → Passed
 passedIn e = passedOf (e .up) (e .low)
 
 -- its frame, where n is the next arc
-abbrev pub frameIn : Entry → ℕ → F.Frame Passed
+abbrev pub frameIn : NewFrame → ℕ → F.Frame Passed
 frameIn e n = frameBy (e .state) n (e .up) (e .low)
 
 -- 22, then acceptance, then 23, where the buffer has l letters and the output n
@@ -32,8 +32,8 @@ verdictOf false a l n = Refused StackFull
 verdictOf true false l n = Enters
 verdictOf true true l n = cond (ltb l n) (Refused OutputFull) (Accepts n)
 
--- what the push of an entry onto d frames meets, where the buffer has l letters
-abbrev pub verdictBy : Setup → List ℕ → List ℕ → List ℕ → ℕ → Entry → List ℕ → ℕ → Verdict
+-- what the push of a frame onto d frames meets, where the buffer has l letters
+abbrev pub verdictBy : Setup → List ℕ → List ℕ → List ℕ → ℕ → NewFrame → List ℕ → ℕ → Verdict
 verdictBy s terminals upper lower d e c l =
     verdictOf (ltb d (roomIn c)) (member (e .state) terminals && doneBy s upper lower (passedIn e)) l (writtenOf s (passedIn e))
 
@@ -76,8 +76,8 @@ pushedOutput (Refused cause) s arcs e d b = b
 pushedOutput Enters s arcs e d b = b
 pushedOutput (Accepts n) s arcs e d b = lettersBy s arcs e d ++ drop (length (lettersBy s arcs e d)) b
 
--- what the push of an entry onto d frames may rely on where it finds room, and where its path accepts
-pub record Pushable (s : Setup) (first terminals arcs upper lower : List ℕ) (d : ℕ) (e : Entry) (c b : List ℕ) : Type 0 where
+-- what the push of a frame onto d frames may rely on where it finds room, and where its path accepts
+pub record Pushable (s : Setup) (first terminals arcs upper lower : List ℕ) (d : ℕ) (e : NewFrame) (c b : List ℕ) : Type 0 where
   pub reads-some : (s .up || s .low) ≡ true
   pub on-stack : d ≤ framesIn c
   pub indexes : d < roomIn c → e .state < length first

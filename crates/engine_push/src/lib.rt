@@ -14,7 +14,7 @@ ghost use Rattle.machine.specs.Stack.{framesIn, roomIn, lookAt, putAt};
 ghost use Rattle.engine_push.specs.Pushing.{frameIn, verdictBy, refusedBy, acceptingBy, Pushable, countedCells, pushedCells, pushedOutput};
 
 // A frame to push: its state and the letters passed on each side, with the run's numbers after the push.
-pub struct Entry {
+pub struct NewFrame {
     pub started: u32,
     pub depth: u32,
     pub state: u16,
@@ -43,17 +43,17 @@ fn has_room(stack: &[u32], depth: u32) -> bool
 fn judge(
     setup: Setup,
     terminals: &[u16],
-    entry: Entry,
+    added: NewFrame,
     stack: &[u32],
     upper: &[u8],
     lower: &[u8],
     space: usize,
 ) -> Verdict
     requires { ⌜ (setup .up || setup .low) ≡ true ⌝ }
-    requires { ⌜ 1 ≤ entry .depth ⌝ }
-    ensures { λ r. ⌜ r ≡ verdictBy setup (now (terminals .entry)) (now (upper .entry)) (now (lower .entry)) (entry .depth - 1) entry (now (stack .entry)) space ⌝ }
+    requires { ⌜ 1 ≤ added .depth ⌝ }
+    ensures { λ r. ⌜ r ≡ verdictBy setup (now (terminals .entry)) (now (upper .entry)) (now (lower .entry)) (added .depth - 1) added (now (stack .entry)) space ⌝ }
 {
-    if !has_room(stack, entry.depth - 1) {
+    if !has_room(stack, added.depth - 1) {
         return Verdict::Refused(StateCause::StackFull);
     }
     if !sides::accepts(
@@ -61,13 +61,13 @@ fn judge(
         terminals,
         upper,
         lower,
-        entry.state,
-        entry.up,
-        entry.low,
+        added.state,
+        added.up,
+        added.low,
     ) {
         return Verdict::Enters;
     }
-    let length = sides::written(setup, entry.up, entry.low);
+    let length = sides::written(setup, added.up, added.low);
     if space < length as usize {
         return Verdict::Refused(StateCause::OutputFull);
     }
@@ -111,18 +111,18 @@ fn count_arc(met: Verdict, depth: u32, stack: &mut [u32])
 }
 
 // The new frame, put at its place.
-fn enter(first: &[u16], entry: Entry, stack: &mut [u32])
-    requires { ⌜ (1 ≤ entry .depth) × (entry .depth ≤ framesIn (now stack)) × (entry .state < length (now first)) ⌝ }
-    ensures { λ _. ⌜ now (stack .exit) ≡ putAt (now (stack .entry)) (entry .depth - 1) (frameIn entry (getD (now (first .entry)) (entry .state) 0)) ⌝ }
+fn enter(first: &[u16], added: NewFrame, stack: &mut [u32])
+    requires { ⌜ (1 ≤ added .depth) × (added .depth ≤ framesIn (now stack)) × (added .state < length (now first)) ⌝ }
+    ensures { λ _. ⌜ now (stack .exit) ≡ putAt (now (stack .entry)) (added .depth - 1) (frameIn added (getD (now (first .entry)) (added .state) 0)) ⌝ }
 {
-    let i = entry.state as usize;
+    let i = added.state as usize;
     let f = Frame {
-        state: widen::cell_as_count(entry.state),
+        state: widen::cell_as_count(added.state),
         next: widen::cell_as_count(first[i]),
-        up: entry.up,
-        low: entry.low,
+        up: added.up,
+        low: added.low,
     };
-    cells::put(stack, entry.depth as usize - 1, f);
+    cells::put(stack, added.depth as usize - 1, f);
 }
 
 // A push: judged first; then, where it is made, its arc is counted and the frame put, and on an accepting path the output is written.
@@ -131,27 +131,27 @@ pub fn push(
     first: &[u16],
     terminals: &[u16],
     arcs: &[u16],
-    entry: Entry,
+    added: NewFrame,
     stack: &mut [u32],
     upper: &[u8],
     lower: &[u8],
     output: &mut [u8],
 ) -> Verdict
-    requires { ⌜ 1 ≤ entry .depth ⌝ }
-    requires { ⌜ Pushable setup (now first) (now terminals) (now arcs) (now upper) (now lower) (entry .depth - 1) entry (now stack) (now output) ⌝ }
-    ensures { λ r. ⌜ (r ≡ verdictBy setup (now (terminals .entry)) (now (upper .entry)) (now (lower .entry)) (entry .depth - 1) entry (now (stack .entry)) (length (now (output .entry))))
-        × (now (stack .exit) ≡ pushedCells r (now (stack .entry)) (entry .depth - 1) (frameIn entry (getD (now (first .entry)) (entry .state) 0)))
-        × (now (output .exit) ≡ pushedOutput r setup (now (arcs .entry)) (now (stack .exit)) (entry .depth - 1) (now (output .entry))) ⌝ }
+    requires { ⌜ 1 ≤ added .depth ⌝ }
+    requires { ⌜ Pushable setup (now first) (now terminals) (now arcs) (now upper) (now lower) (added .depth - 1) added (now stack) (now output) ⌝ }
+    ensures { λ r. ⌜ (r ≡ verdictBy setup (now (terminals .entry)) (now (upper .entry)) (now (lower .entry)) (added .depth - 1) added (now (stack .entry)) (length (now (output .entry))))
+        × (now (stack .exit) ≡ pushedCells r (now (stack .entry)) (added .depth - 1) (frameIn added (getD (now (first .entry)) (added .state) 0)))
+        × (now (output .exit) ≡ pushedOutput r setup (now (arcs .entry)) (now (stack .exit)) (added .depth - 1) (now (output .entry))) ⌝ }
 {
-    let below = entry.depth - 1;
+    let below = added.depth - 1;
     let space = output.len();
-    let met = judge(setup, terminals, entry, stack, upper, lower, space);
+    let met = judge(setup, terminals, added, stack, upper, lower, space);
     count_arc(met, below, stack);
     if !is_refused(met) {
-        enter(first, entry, stack);
+        enter(first, added, stack);
     }
     if is_accepting(met) {
-        let length = sides::written(setup, entry.up, entry.low);
+        let length = sides::written(setup, added.up, added.low);
         output::write(setup, arcs, stack, below as usize, length, output);
     }
     met

@@ -26,7 +26,7 @@ use Rattle.engine_frames.specs.declared.Fit.the-variants.{Fits, Fails}
 use Rattle.engine_frames.specs.declared.Frame.{Frame}
 use Rattle.engine_frames.specs.Frames.{frameOf}
 use Rattle.engine_frames.specs.Sides.{fitOf, passedOf, setupReads, bySide, followBy}
-use Rattle.engine_push.specs.declared.Entry.{Entry}
+use Rattle.engine_push.specs.declared.NewFrame.{NewFrame}
 use Rattle.engine_push.proofs.Cells.{pred-suc}
 use Rattle.engine_step.specs.declared.Move.the-variants.{Drops, Skips, Pushes}
 use Rattle.engine_step.specs.Setting.{taskBy, queryBy, machineBy, held, InBounds, Top}
@@ -50,9 +50,9 @@ pub follow-is : (s : Setup) → (s .up || s .low) ≡ true → (upper lower : Li
 follow-is s h upper lower a d =
     ap₂ (λ (p r : Bool). both (sideFollow p upper (a .upper) (d .up)) (sideFollow r lower (a .lower) (d .low))) (reads-is s h upperSide) (reads-is s h lowerSide)
 
--- an entry by its numbers
-abbrev entry : ℕ → ℕ → ℕ → ℕ → ℕ → Entry
-entry n d state up low = record { started = n; depth = d; state = state; up = up; low = low }
+-- a frame to push, by its numbers
+abbrev newFrame : ℕ → ℕ → ℕ → ℕ → ℕ → NewFrame
+newFrame n d state up low = record { started = n; depth = d; state = state; up = up; low = low }
 
 -- The move.
 
@@ -60,12 +60,12 @@ module _ (s : Setup) (initials arcs upper lower : List ℕ) (n : ℕ) (c : List 
   abbrev M : Machine
   M = machineBy s initials [] arcs upper lower
 
-  pub begins-is : (d : ℕ) → d ≡ 0 → n < length initials → Pushes (entry (n + 1) 1 (getD initials n 0) 0 0) ≡ moveAs n d (move M store (held n d c))
+  pub begins-is : (d : ℕ) → d ≡ 0 → n < length initials → Pushes (newFrame (n + 1) 1 (getD initials n 0) 0 0) ≡ moveAs n d (move M store (held n d c))
   begins-is d e h = go (length initials - n) (let z : 0 < length initials - n = omega arith in z) ∙ ap (moveAs n d) (sym (move-start M store (held n d c) e))
     where
-      go : (k : ℕ) → 0 < k → Pushes (entry (n + 1) 1 (getD initials n 0) 0 0) ≡ moveAs n d (moveStart M n k)
+      go : (k : ℕ) → 0 < k → Pushes (newFrame (n + 1) 1 (getD initials n 0) 0 0) ≡ moveAs n d (moveStart M n k)
       go zero z = absurd (omega arith)
-      go (suc k) z = ap (λ (j : ℕ). Pushes (entry (n + 1) (suc j) (getD initials n 0) 0 0)) (sym e)
+      go (suc k) z = ap (λ (j : ℕ). Pushes (newFrame (n + 1) (suc j) (getD initials n 0) 0 0)) (sym e)
 
   untried-is : (f : F.Frame Passed) → untried M f ≡ below (suc (f .state)) (arcsAs arcs) - f .next
   untried-is f = let h = below-rises (f .state) (arcsAs arcs) in let z : (below (f .state) (arcsAs arcs) + (below (suc (f .state)) (arcsAs arcs) - below (f .state) (arcsAs arcs))) - f .next ≡ below (suc (f .state)) (arcsAs arcs) - f .next = omega arith in z
@@ -104,15 +104,15 @@ module _ (s : Setup) (initials arcs upper lower : List ℕ) (n : ℕ) (c : List 
           go none z = refl
           go (some v) z = absurd (let y : _≡_ {A = ℕ} 0 1 = cc in omega arith)
 
-      pushes-is : (u l : ℕ) → Fits u l ≡ fitOf o → Pushes (entry n (suc d) (a .target) u l) ≡ moveAs n d (move M store (held n d c))
+      pushes-is : (u l : ℕ) → Fits u l ≡ fitOf o → Pushes (newFrame n (suc d) (a .target) u l) ≡ moveAs n d (move M store (held n d c))
       pushes-is u l z = go o z ∙ ap (moveAs n d) (sym tries)
         where
-          go : (x : Option Passed) → Fits u l ≡ fitOf x → Pushes (entry n (suc d) (a .target) u l) ≡ moveAs n d (tryArc M f x)
+          go : (x : Option Passed) → Fits u l ≡ fitOf x → Pushes (newFrame n (suc d) (a .target) u l) ≡ moveAs n d (tryArc M f x)
           go none z = absurd (let y : _≡_ {A = ℕ} 0 1 = cc in omega arith)
           go (some v) z =
               let p : u ≡ v .up = cc in
               let q : l ≡ v .low = cc in
-              ap (λ (x : Arc). Pushes (entry n (suc d) (x .target) u l)) (sym arc-is) ∙ ap₂ (λ (x y : ℕ). Pushes (entry n (suc d) (getD (arcsAs arcs) (f .next) noArc .target) x y)) p q
+              ap (λ (x : Arc). Pushes (newFrame n (suc d) (x .target) u l)) (sym arc-is) ∙ ap₂ (λ (x y : ℕ). Pushes (newFrame n (suc d) (getD (arcsAs arcs) (f .next) noArc .target) x y)) p q
 
   -- the same by the frame that the code looked at
   module _ (first : List ℕ) (d : ℕ) (T : Top first initials arcs n d c) (z : d ≡ 0 → ⊥) (g : Frame) (E : g ≡ frameOf (lookAt c (d - 1))) where
@@ -161,6 +161,6 @@ module _ (s : Setup) (initials arcs upper lower : List ℕ) (n : ℕ) (c : List 
         pub skips-by : Fails ≡ fit → Skips ≡ moveAs n d (move M store (held n d c))
         skips-by y = skips-is d (d - 1) top-is untried-arc (bounds .next-in untried-arc) r (y ∙ fit-is)
 
-        pub pushes-by : (k u l : ℕ) → k ≡ suc d → Fits u l ≡ fit → Pushes (entry n k (a .target) u l) ≡ moveAs n d (move M store (held n d c))
+        pub pushes-by : (k u l : ℕ) → k ≡ suc d → Fits u l ≡ fit → Pushes (newFrame n k (a .target) u l) ≡ moveAs n d (move M store (held n d c))
         pushes-by k u l z y =
-            ap₂ (λ (j : ℕ) (x : Arc). Pushes (entry n j (x .target) u l)) z arc-was ∙ pushes-is d (d - 1) top-is untried-arc (bounds .next-in untried-arc) r u l (y ∙ fit-is)
+            ap₂ (λ (j : ℕ) (x : Arc). Pushes (newFrame n j (x .target) u l)) z arc-was ∙ pushes-is d (d - 1) top-is untried-arc (bounds .next-in untried-arc) r u l (y ∙ fit-is)

@@ -25,7 +25,7 @@ use Rattle.machine.specs.Place.{Good}
 use Rattle.machine.proofs.Stack.{store-laws}
 use Rattle.engine_step.specs.declared.Move.{Move}
 use Rattle.engine_step.specs.declared.Move.the-variants.{Drops, Skips, Pushes}
-use Rattle.engine_push.specs.declared.Entry.{Entry}
+use Rattle.engine_push.specs.declared.NewFrame.{NewFrame}
 use Rattle.engine_push.specs.declared.Verdict.the-variants.{Refused, Enters, Accepts}
 use Rattle.engine_push.specs.Pushing.{verdictOf}
 use Rattle.engine_step.specs.Setting.{held}
@@ -109,7 +109,7 @@ module _ (t : Table) (q : Query) where
       room-for N k (S.pushes f g) = k
 
       -- the run after a push that finds room is a place in a search
-      pub push-good : (N : ℕ) → Good (machine t q) store N (held n d c) → d < N → (x : Entry) → Pushes x ≡ moveAs n d (move (machine t q) store (held n d c))
+      pub push-good : (N : ℕ) → Good (machine t q) store N (held n d c) → d < N → (x : NewFrame) → Pushes x ≡ moveAs n d (move (machine t q) store (held n d c))
           → Good (machine t q) store N (afterPush t q d c x)
       push-good N G h x e =
           subst (Good (machine t q) store N) (effect-as ∙ ap (effectAs n d c) (sym e)) (move-good (machine t q) store store-laws N (held n d c) G (room-for N h (move (machine t q) store (held n d c))))

@@ -27,7 +27,7 @@ use Rattle.machine.proofs.Transducer.{written-length}
 use Rattle.engine_frames.specs.declared.Setup.{Setup}
 use Rattle.engine_frames.specs.Sides.{doneBy, writtenOf}
 use Rattle.engine_frames.specs.Output.{Tried, sideBy, lettersBy}
-use Rattle.engine_push.specs.declared.Entry.{Entry}
+use Rattle.engine_push.specs.declared.NewFrame.{NewFrame}
 use Rattle.engine_push.specs.declared.Verdict.{Verdict}
 use Rattle.engine_push.specs.declared.Verdict.the-variants as Met
 use Rattle.engine_push.specs.declared.Verdict.the-variants.{Enters, Accepts}
@@ -94,7 +94,7 @@ module _ {s : Setup} {first initials terminals arcs : List ℕ} (R : Prepared s 
           (refl, h ∙ ap (λ (j : ℕ). putAt c j (triedOf (lookAt c j))) (let z : d - 1 ≡ pred d = omega arith in z), refl)
 
     -- no frame is dropped, and no arc tried, at depth 0
-    deep : (r : Move) → r ≡ told → ((x : Entry) → r ≡ Pushes x → ⊥) → 1 ≤ d
+    deep : (r : Move) → r ≡ told → ((x : NewFrame) → r ≡ Pushes x → ⊥) → 1 ≤ d
     deep r e other = go d refl
       where
         go : (k : ℕ) → d ≡ k → 1 ≤ d
@@ -111,14 +111,14 @@ module _ {s : Setup} {first initials terminals arcs : List ℕ} (R : Prepared s 
     skip-next k j = top-of R upper lower n d c G left .top-in k j .next-small
 
     -- a push adds a frame to those that there are
-    push-depth : (e : Entry) (v : S.Move (F.Frame Passed)) → Pushes e ≡ moveAs n d v → e .depth ≡ suc d
+    push-depth : (e : NewFrame) (v : S.Move (F.Frame Passed)) → Pushes e ≡ moveAs n d v → e .depth ≡ suc d
     push-depth e S.over z = absurd (let y : _≡_ {A = ℕ} 0 1 = cc in omega arith)
     push-depth e S.drops z = absurd (let y : _≡_ {A = ℕ} 0 1 = cc in omega arith)
     push-depth e (S.begins g) z = cc
     push-depth e (S.skips f) z = absurd (let y : _≡_ {A = ℕ} 0 1 = cc in omega arith)
     push-depth e (S.pushes f g) z = cc
 
-    module _ (b : List ℕ) (e : Entry) (E : Pushes e ≡ told) where
+    module _ (b : List ℕ) (e : NewFrame) (E : Pushes e ≡ told) where
       abbrev f : F.Frame Passed
       f = entering M (e .state) (passedIn e)
 

@@ -13,7 +13,7 @@ use Rattle.machine.specs.Frames.{Held, entering}
 use Rattle.machine.specs.Step as S
 use Rattle.machine.specs.Step.{Stepped, ends, moves, finds, refuses}
 use Rattle.machine.specs.Transducer.{Passed, machine}
-use Rattle.engine_push.specs.declared.Entry.{Entry}
+use Rattle.engine_push.specs.declared.NewFrame.{NewFrame}
 use Rattle.engine_push.specs.Pushing.{passedIn, enteredAt}
 use Rattle.engine_step.specs.declared.Move.{Move}
 use Rattle.engine_step.specs.declared.Move.the-variants.{Drops, Skips, Pushes}
@@ -21,20 +21,20 @@ use Rattle.engine_step.specs.declared.Turn.{Turn}
 use Rattle.engine_step.specs.declared.Turn.the-variants.{Moved, Finds, Refused}
 use Rattle.engine_step.specs.Setting.{held}
 
--- the entry of a frame, after which n initial states are started and d frames are used
-abbrev pub entryOf : ℕ → ℕ → F.Frame Passed → Entry
-entryOf n d g = record { started = n; depth = d; state = g .state; up = g .datum .up; low = g .datum .low }
+-- a frame to push, after which n initial states are started and d frames are used
+abbrev pub newFrameOf : ℕ → ℕ → F.Frame Passed → NewFrame
+newFrameOf n d g = record { started = n; depth = d; state = g .state; up = g .datum .up; low = g .datum .low }
 
 -- the machine's move as the code tells it, where n initial states are started and d frames are used; the end is not told here
 abbrev pub moveAs : ℕ → ℕ → S.Move (F.Frame Passed) → Move
 moveAs n d S.over = Drops
 moveAs n d S.drops = Drops
-moveAs n d (S.begins g) = Pushes (entryOf (n + 1) (suc d) g)
+moveAs n d (S.begins g) = Pushes (newFrameOf (n + 1) (suc d) g)
 moveAs n d (S.skips f) = Skips
-moveAs n d (S.pushes f g) = Pushes (entryOf n (suc d) g)
+moveAs n d (S.pushes f g) = Pushes (newFrameOf n (suc d) g)
 
--- the run after the push of an entry onto d frames
-abbrev pub afterPush : Table → Query → ℕ → List ℕ → Entry → Held (List ℕ)
+-- the run after the push of a frame onto d frames
+abbrev pub afterPush : Table → Query → ℕ → List ℕ → NewFrame → Held (List ℕ)
 afterPush t q d c e = held (e .started) (suc d) (enteredAt c d (entering (machine t q) (e .state) (passedIn e)))
 
 -- a refusal in a step is a state's

@@ -3,7 +3,7 @@ use engine_frames::Fit;
 use engine_frames::Setup;
 use engine_frames::cells;
 use engine_frames::sides;
-use engine_push::Entry;
+use engine_push::NewFrame;
 use engine_push::Verdict;
 use machine::Run;
 use refusal::StateCause;
@@ -23,7 +23,7 @@ ghost use Rattle.engine_step.specs.Stepping.{moveAs, runBy, TurnIs};
 pub enum Move {
     Drops,
     Skips,
-    Pushes(Entry),
+    Pushes(NewFrame),
 }
 
 // What a step comes to: the run after it, a reading's length beside that run, or a refusal.
@@ -60,7 +60,7 @@ fn choose(
     let depth = run.depth;
     if depth == 0 {
         let i = started as usize;
-        return Move::Pushes(Entry {
+        return Move::Pushes(NewFrame {
             started: started + 1,
             depth: 1,
             state: initials[i],
@@ -78,7 +78,7 @@ fn choose(
     let arc = table_format::arc_at(arcs, next);
     match sides::follow(setup, arc, upper, lower, f.up, f.low) {
         Fit::Fails => Move::Skips,
-        Fit::Fits(up, low) => Move::Pushes(Entry {
+        Fit::Fits(up, low) => Move::Pushes(NewFrame {
             started,
             depth: above(depth),
             state: arc.target,
@@ -124,22 +124,22 @@ pub fn step(
             cells::count_tried(stack, depth as usize - 1);
             Turn::Moved(run)
         }
-        Move::Pushes(entry) => {
+        Move::Pushes(added) => {
             match engine_push::push(
                 setup,
                 first,
                 terminals,
                 arcs,
-                entry,
+                added,
                 stack,
                 upper,
                 lower,
                 output,
             ) {
                 Verdict::Refused(cause) => Turn::Refused(cause),
-                Verdict::Enters => Turn::Moved(at(run, entry.started, entry.depth)),
+                Verdict::Enters => Turn::Moved(at(run, added.started, added.depth)),
                 Verdict::Accepts(length) => Turn::Finds(
-                    at(run, entry.started, entry.depth),
+                    at(run, added.started, added.depth),
                     length,
                 ),
             }

@@ -23,7 +23,7 @@ has-room-requires c κs = search needs
 returns : tie.Need-returns
 returns c =
     let a = c .before .before .before .before .before .before .before .args in
-    full (ltb (a .entry .depth - 1) (roomIn (now (a .stack)))) (member (a .entry .state) (now (a .terminals)) && doneBy (a .setup) (now (a .upper)) (now (a .lower)) (passedIn (a .entry))) (a .space) (writtenOf (a .setup) (passedIn (a .entry)))
+    full (ltb (a .added .depth - 1) (roomIn (now (a .stack)))) (member (a .added .state) (now (a .terminals)) && doneBy (a .setup) (now (a .upper)) (now (a .lower)) (passedIn (a .added))) (a .space) (writtenOf (a .setup) (passedIn (a .added)))
     (sym (c .before .has-room .ensures) ∙ not-true _ (c .if1 .taken))
 
 accepts-requires : tie.Need-accepts-requires
@@ -32,7 +32,7 @@ accepts-requires c κs = search needs
 returns-2 : tie.Need-returns-2
 returns-2 c =
     let a = c .before .before .before .before .before .before .before .before .before .args in
-    entering (ltb (a .entry .depth - 1) (roomIn (now (a .stack)))) (member (a .entry .state) (now (a .terminals)) && doneBy (a .setup) (now (a .upper)) (now (a .lower)) (passedIn (a .entry))) (a .space) (writtenOf (a .setup) (passedIn (a .entry)))
+    entering (ltb (a .added .depth - 1) (roomIn (now (a .stack)))) (member (a .added .state) (now (a .terminals)) && doneBy (a .setup) (now (a .upper)) (now (a .lower)) (passedIn (a .added))) (a .space) (writtenOf (a .setup) (passedIn (a .added)))
     (sym (c .before .before .before .has-room .ensures) ∙ not-false _ (c .before .before .if1 .left)) (sym (c .before .accepts .ensures) ∙ not-true _ (c .if2 .taken))
 
 written-requires : tie.Need-written-requires
@@ -44,13 +44,13 @@ cast-if3 c = search needs
 returns-3 : tie.Need-returns-3
 returns-3 c =
     let a = c .before .before .before .before .before .before .before .before .before .before .before .args in
-    too-long (ltb (a .entry .depth - 1) (roomIn (now (a .stack)))) (member (a .entry .state) (now (a .terminals)) && doneBy (a .setup) (now (a .upper)) (now (a .lower)) (passedIn (a .entry))) (a .space) (writtenOf (a .setup) (passedIn (a .entry)))
+    too-long (ltb (a .added .depth - 1) (roomIn (now (a .stack)))) (member (a .added .state) (now (a .terminals)) && doneBy (a .setup) (now (a .upper)) (now (a .lower)) (passedIn (a .added))) (a .space) (writtenOf (a .setup) (passedIn (a .added)))
     (sym (c .before .before .before .before .before .has-room .ensures) ∙ not-false _ (c .before .before .before .before .if1 .left)) (sym (c .before .before .before .accepts .ensures) ∙ not-false _ (c .before .before .if2 .left)) (omega (arith, c .before .written .ensures, c .if3 .taken))
 
 returns-4 : tie.Need-returns-4
 returns-4 c =
     let a = c .before .before .before .before .before .before .before .before .before .before .before .args in
-    finding (ltb (a .entry .depth - 1) (roomIn (now (a .stack)))) (member (a .entry .state) (now (a .terminals)) && doneBy (a .setup) (now (a .upper)) (now (a .lower)) (passedIn (a .entry))) (a .space) (writtenOf (a .setup) (passedIn (a .entry)))
+    finding (ltb (a .added .depth - 1) (roomIn (now (a .stack)))) (member (a .added .state) (now (a .terminals)) && doneBy (a .setup) (now (a .upper)) (now (a .lower)) (passedIn (a .added))) (a .space) (writtenOf (a .setup) (passedIn (a .added)))
     (sym (c .before .before .before .before .before .has-room .ensures) ∙ not-false _ (c .before .before .before .before .if1 .left)) (sym (c .before .before .before .accepts .ensures) ∙ not-false _ (c .before .before .if2 .left)) _ (c .before .written .ensures) (omega (arith, c .if3 .left))
 
 pub judge-spec : {M : Type 1} → statement M

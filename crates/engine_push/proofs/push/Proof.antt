@@ -12,7 +12,7 @@ use Rattle.engine_push.proofs.push.Statement.{statement}
 use Rattle.engine_push.proofs.push.Tie as tie
 
 -- the cells where the ways meet
-joined : (c : tie.Joined1) → c .if1 .stack ≡ pushedCells (c .before .before .before .before .before .before .judge .result) (now (c .before .before .before .before .before .before .before .before .before .before .before .before .before .before .before .before .args .stack)) (c .before .before .before .before .before .before .before .before .before .before .before .before .before .before .before .before .args .entry .depth - 1) (frameIn (c .before .before .before .before .before .before .before .before .before .before .before .before .before .before .before .before .args .entry) (getD (now (c .before .before .before .before .before .before .before .before .before .before .before .before .before .before .before .before .args .first)) (c .before .before .before .before .before .before .before .before .before .before .before .before .before .before .before .before .args .entry .state) 0))
+joined : (c : tie.Joined1) → c .if1 .stack ≡ pushedCells (c .before .before .before .before .before .before .judge .result) (now (c .before .before .before .before .before .before .before .before .before .before .before .before .before .before .before .before .args .stack)) (c .before .before .before .before .before .before .before .before .before .before .before .before .before .before .before .before .args .added .depth - 1) (frameIn (c .before .before .before .before .before .before .before .before .before .before .before .before .before .before .before .before .args .added) (getD (now (c .before .before .before .before .before .before .before .before .before .before .before .before .before .before .before .before .args .first)) (c .before .before .before .before .before .before .before .before .before .before .before .before .before .before .before .before .args .added .state) 0))
 joined c =
     ⊎-elim (λ w. made-cells (c .before .before .before .before .before .before .before .before .before .before .before .before .before .before .before .before .pre .1) (c .before .before .before .before .before .before .judge .result) _ _ (sym (c .before .is-refused .ensures) ∙ not-true _ (w .0 .taken)) (c .before .before .before .before .count-arc .ensures) (w .5 ∙ w .2 .ensures))
     (λ w. kept-cells (c .before .before .before .before .before .before .before .before .before .before .before .before .before .before .before .before .pre .1) (c .before .before .before .before .before .before .judge .result) _ (sym (c .before .is-refused .ensures) ∙ not-false _ (w .0 .left)) (w .1 ∙ c .before .before .before .before .count-arc .ensures))

@@ -37,11 +37,11 @@ count-tried-requires c κs =
     let h = skip-deep (p .0) (now (a .upper)) (now (a .lower)) (a .run .task) (a .run .started) (a .run .depth) (now (a .stack)) (p .1 .0) (p .1 .1) (sym (c .before .enum-told2 .given .1) ∙ c .before .before .before .choose .ensures) in
     (omega (arith, p .1 .0 .deep), omega (arith, skip-next (p .0) (now (a .upper)) (now (a .lower)) (a .run .task) (a .run .started) (a .run .depth) (now (a .stack)) (p .1 .0) (p .1 .1) (a .run .depth - 1) (omega arith)))
 
-enum-known-entry : tie.Need-enum-known-entry
-enum-known-entry c = search needs
+enum-known-added : tie.Need-enum-known-added
+enum-known-added c = search needs
 
 push-requires : tie.Need-push-requires
-push-requires c κs = let a = c .before .before .before .before .before .before .before .before .before .before .before .before .before .before .before .args in let p = c .before .before .before .before .before .before .before .before .before .before .before .before .before .before .before .pre in pushable (p .0) (now (a .upper)) (now (a .lower)) (a .run .task) (a .run .started) (a .run .depth) (now (a .stack)) (p .1 .0) (p .1 .1) (now (a .output)) _ (sym (c .before .before .before .entry .given .1) ∙ c .before .before .before .before .before .choose .ensures)
+push-requires c κs = let a = c .before .before .before .before .before .before .before .before .before .before .before .before .before .before .before .args in let p = c .before .before .before .before .before .before .before .before .before .before .before .before .before .before .before .pre in pushable (p .0) (now (a .upper)) (now (a .lower)) (a .run .task) (a .run .started) (a .run .depth) (now (a .stack)) (p .1 .0) (p .1 .1) (now (a .output)) _ (sym (c .before .before .before .added .given .1) ∙ c .before .before .before .before .before .choose .ensures)
 
 enum-known-cause : tie.Need-enum-known-cause
 enum-known-cause c = search needs
@@ -80,7 +80,7 @@ returns-3 : tie.Need-returns-3
 returns-3 c =
     let a = c .before .before .before .before .before .before .before .before .before .before .before .before .before .before .before .before .before .before .before .before .before .before .before .args in
     let p = c .before .before .before .before .before .before .before .before .before .before .before .before .before .before .before .before .before .before .before .before .before .before .before .pre in
-    push-turn (p .0) (now (a .upper)) (now (a .lower)) (a .run .task) (a .run .started) (a .run .depth) (now (a .stack)) (p .1 .0) (p .1 .1) (now (a .output)) _ (sym (c .before .before .before .before .before .before .before .before .before .before .before .entry .given .1) ∙ c .before .before .before .before .before .before .before .before .before .before .before .before .before .choose .ensures) _ _ _ _ (c .before .before .before .before .before .before .before .push .ensures .0) (c .before .before .before .before .before .before .before .push .ensures .1) (c .before .before .before .before .before .before .before .push .ensures .2) (ap (turnAs _ _ _) (sym (c .before .cause .given .1)))
+    push-turn (p .0) (now (a .upper)) (now (a .lower)) (a .run .task) (a .run .started) (a .run .depth) (now (a .stack)) (p .1 .0) (p .1 .1) (now (a .output)) _ (sym (c .before .before .before .before .before .before .before .before .before .before .before .added .given .1) ∙ c .before .before .before .before .before .before .before .before .before .before .before .before .before .choose .ensures) _ _ _ _ (c .before .before .before .before .before .before .before .push .ensures .0) (c .before .before .before .before .before .before .before .push .ensures .1) (c .before .before .before .before .before .before .before .push .ensures .2) (ap (turnAs _ _ _) (sym (c .before .cause .given .1)))
 
 same-length-5 : tie.Need-same-length-5
 same-length-5 c = search needs
@@ -92,7 +92,7 @@ returns-4 : tie.Need-returns-4
 returns-4 c =
     let a = c .before .before .before .before .before .before .before .before .before .before .before .before .before .before .before .before .before .before .before .before .before .before .before .args in
     let p = c .before .before .before .before .before .before .before .before .before .before .before .before .before .before .before .before .before .before .before .before .before .before .before .pre in
-    push-turn (p .0) (now (a .upper)) (now (a .lower)) (a .run .task) (a .run .started) (a .run .depth) (now (a .stack)) (p .1 .0) (p .1 .1) (now (a .output)) _ (sym (c .before .before .before .before .before .before .before .before .before .before .before .entry .given .1) ∙ c .before .before .before .before .before .before .before .before .before .before .before .before .before .choose .ensures) _ _ _ _ (c .before .before .before .before .before .before .before .push .ensures .0) (c .before .before .before .before .before .before .before .push .ensures .1) (c .before .before .before .before .before .before .before .push .ensures .2) (ap Moved (c .at2 .ensures) ∙ ap (turnAs _ _ _) (sym (c .before .enum-told3 .given .1)))
+    push-turn (p .0) (now (a .upper)) (now (a .lower)) (a .run .task) (a .run .started) (a .run .depth) (now (a .stack)) (p .1 .0) (p .1 .1) (now (a .output)) _ (sym (c .before .before .before .before .before .before .before .before .before .before .before .added .given .1) ∙ c .before .before .before .before .before .before .before .before .before .before .before .before .before .choose .ensures) _ _ _ _ (c .before .before .before .before .before .before .before .push .ensures .0) (c .before .before .before .before .before .before .before .push .ensures .1) (c .before .before .before .before .before .before .before .push .ensures .2) (ap Moved (c .at2 .ensures) ∙ ap (turnAs _ _ _) (sym (c .before .enum-told3 .given .1)))
 
 same-length-7 : tie.Need-same-length-7
 same-length-7 c = search needs
@@ -104,7 +104,7 @@ returns-5 : tie.Need-returns-5
 returns-5 c =
     let a = c .before .before .before .before .before .before .before .before .before .before .before .before .before .before .before .before .before .before .before .before .before .before .before .before .args in
     let p = c .before .before .before .before .before .before .before .before .before .before .before .before .before .before .before .before .before .before .before .before .before .before .before .before .pre in
-    push-turn (p .0) (now (a .upper)) (now (a .lower)) (a .run .task) (a .run .started) (a .run .depth) (now (a .stack)) (p .1 .0) (p .1 .1) (now (a .output)) _ (sym (c .before .before .before .before .before .before .before .before .before .before .before .before .entry .given .1) ∙ c .before .before .before .before .before .before .before .before .before .before .before .before .before .before .choose .ensures) _ _ _ _ (c .before .before .before .before .before .before .before .before .push .ensures .0) (c .before .before .before .before .before .before .before .before .push .ensures .1) (c .before .before .before .before .before .before .before .before .push .ensures .2) (finds-ap _ (c .at3 .ensures) ∙ ap (turnAs _ _ _) (sym (c .before .before .length .given .1)))
+    push-turn (p .0) (now (a .upper)) (now (a .lower)) (a .run .task) (a .run .started) (a .run .depth) (now (a .stack)) (p .1 .0) (p .1 .1) (now (a .output)) _ (sym (c .before .before .before .before .before .before .before .before .before .before .before .before .added .given .1) ∙ c .before .before .before .before .before .before .before .before .before .before .before .before .before .before .choose .ensures) _ _ _ _ (c .before .before .before .before .before .before .before .before .push .ensures .0) (c .before .before .before .before .before .before .before .before .push .ensures .1) (c .before .before .before .before .before .before .before .before .push .ensures .2) (finds-ap _ (c .at3 .ensures) ∙ ap (turnAs _ _ _) (sym (c .before .before .length .given .1)))
 
 pub step-spec : {M : Type 1} → statement M
 step-spec =
@@ -118,7 +118,7 @@ step-spec =
     cast-count-tried
     sub-count-tried
     count-tried-requires
-    enum-known-entry
+    enum-known-added
     push-requires
     enum-known-cause
     enum-told-3
