@@ -6,7 +6,7 @@ use mathlib.Core.Bool.{Bool, true, false, _&&_}
 use mathlib.Core.List.{List, _++_}
 use lib.Dec.{eqb, leb}
 use lib.ListN.{length, drop}
-use borrow.Author.Tests.{eqb-true, eq-eqb, leb-true, leb-false}
+use borrow.Author.Tests.{eqb-true, eqb-false, eq-eqb, ne-eqb, leb-true, leb-false}
 use Rattle.table_format.proofs.Tests.{and-left, and-right}
 use Rattle.table_format.specs.Table.{Table}
 use Rattle.refusal.specs.declared.StateCause.{StateCause}
@@ -33,7 +33,9 @@ use Rattle.engine_step.specs.declared.Turn.the-variants as Turned
 use Rattle.engine_step.specs.declared.Turn.the-variants.{Moved, Finds}
 use Rattle.machine.specs.Reading.{heldOf}
 use Rattle.engine_step.specs.Stepping.{runBy, TurnIs}
-use Rattle.engine_search.specs.Searching.{calledWith, SearchIs}
+use Rattle.engine_search.specs.declared.Due.{Due}
+use Rattle.engine_search.specs.declared.Due.the-variants.{Stop, Step}
+use Rattle.engine_search.specs.Searching.{calledWith, dueAt, SearchIs}
 use Rattle.engine_step.proofs.Steps.{move-there}
 
 -- What a turn says of the step, where the task's number is k.
@@ -70,10 +72,10 @@ module _ (k : ℕ) (c b : List ℕ) (r : Turn) (e o : List ℕ) where
 
 -- The end.
 
-pub over-true : (d n m : ℕ) → (eqb d 0 && leb m n) ≡ true → (d ≡ 0) × (m ≤ n)
+over-true : (d n m : ℕ) → (eqb d 0 && leb m n) ≡ true → (d ≡ 0) × (m ≤ n)
 over-true d n m e = (eqb-true d 0 (and-left (eqb d 0) (leb m n) e), leb-true m n (and-right (eqb d 0) (leb m n) e))
 
-pub over-false : (d n m : ℕ) → (eqb d 0 && leb m n) ≡ false → d ≡ 0 → n < m
+over-false : (d n m : ℕ) → (eqb d 0 && leb m n) ≡ false → d ≡ 0 → n < m
 over-false d n m e z = leb-false m n (ap (λ (v : Bool). v && leb m n) (sym (eq-eqb d 0 z)) ∙ e)
 
 pub over-not : (d n m : ℕ) → (d ≡ 0 → ⊥) → false ≡ (eqb d 0 && leb m n)
@@ -85,6 +87,27 @@ over-not d n m h = go (eqb d 0) refl
 
 pub over-zero : (d n m : ℕ) → d ≡ 0 → leb m n ≡ (eqb d 0 && leb m n)
 over-zero d n m h = ap (λ (v : Bool). v && leb m n) (sym (eq-eqb d 0 h))
+
+-- What is due.
+
+pub due-ended : (over said : Bool) (k allowance : ℕ) → said ≡ over → said ≡ true → Stop (Ended k) ≡ dueAt over (eqb k allowance) k
+due-ended over said k allowance e y = ap (λ (v : Bool). dueAt v (eqb k allowance) k) (sym y ∙ e)
+
+pub due-paused : (over said : Bool) (k allowance : ℕ) → said ≡ over → said ≡ false → k ≡ allowance → Stop (Paused k) ≡ dueAt over (eqb k allowance) k
+due-paused over said k allowance e y z = ap₂ (λ (v w : Bool). dueAt v w k) (sym y ∙ e) (sym (eq-eqb k allowance z))
+
+pub due-stepping : (over said : Bool) (k allowance : ℕ) → said ≡ over → said ≡ false → (k ≡ allowance → ⊥) → Step ≡ dueAt over (eqb k allowance) k
+due-stepping over said k allowance e y z = ap₂ (λ (v w : Bool). dueAt v w k) (sym y ∙ e) (sym (ne-eqb k allowance z))
+
+pub ruleset due-laws = (due-ended, due-paused, due-stepping)
+
+due-step : (over spent : Bool) (k : ℕ) → dueAt over spent k ≡ Step → (over ≡ false) × (spent ≡ false)
+due-step true spent k e = absurd (let y : _≡_ {A = ℕ} 0 1 = cc e in omega arith)
+due-step false true k e = absurd (let y : _≡_ {A = ℕ} 0 1 = cc e in omega arith)
+due-step false false k e = (refl, refl)
+
+pub due-left : (d n m k allowance : ℕ) (r : Due) → r ≡ dueAt (eqb d 0 && leb m n) (eqb k allowance) k → r ≡ Step → d ≡ 0 → n < m
+due-left d n m k allowance r y e = over-false d n m (due-step (eqb d 0 && leb m n) (eqb k allowance) k (sym y ∙ e) .0)
 
 module _ (t : Table) (q : Query) (task : ℕ) (b : List ℕ) (allowance : ℕ) (h₀ : Held (List ℕ)) where
   abbrev total : Replied (List ℕ)
@@ -128,7 +151,10 @@ module _ (t : Table) (q : Query) (task : ℕ) (b : List ℕ) (allowance : ℕ) (
     abbrev h : Held (List ℕ)
     h = heldOf at c
 
-    pub over-answer : at .depth ≡ 0 → length (t .initials) ≤ at .started → (r : Called) → r ≡ calledWith (Ended k) at → SearchIs task b total r c o
+    abbrev due : Due
+    due = dueAt (eqb (at .depth) 0 && leb (length (t .initials)) (at .started)) (eqb k allowance) k
+
+    over-answer : at .depth ≡ 0 → length (t .initials) ≤ at .started → (r : Called) → r ≡ calledWith (Ended k) at → SearchIs task b total r c o
     over-answer z m r y =
         search-by (plus k (still R.ended h)) at (Ended k) r _ _ (ap (plus k) (sym (ended-turn M store (length b) h (allowance - k) at-end)) ∙ I .told) (I .same-task) y
         (ap (λ (j : ℕ). calledWith (Ended j) (runOf at)) (let x : k ≡ k + 0 = omega arith in x), refl, I .untouched)
@@ -136,49 +162,64 @@ module _ (t : Table) (q : Query) (task : ℕ) (b : List ℕ) (allowance : ℕ) (
         at-end : move M store h ≡ S.over
         at-end = move-start M store h z ∙ ap (moveStart M (at .started)) (let x : length (t .initials) - at .started ≡ 0 = omega arith in x)
 
-    module _ (left : at .depth ≡ 0 → at .started < length (t .initials)) where
-      pub paused-answer : k ≡ allowance → (r : Called) → r ≡ calledWith (Paused k) at → SearchIs task b total r c o
-      paused-answer z r y =
-          search-by (plus k (still R.paused h)) at (Paused k) r _ _
-          (ap (plus k) (sym (ap (λ (m : ℕ). advance M store (length b) m h) (let x : allowance - k ≡ 0 = omega arith in x) ∙ paused-turn M store (length b) h (move-there t q (at .started) c (at .depth) left))) ∙ I .told)
-          (I .same-task) y
-          (ap (λ (j : ℕ). calledWith (Paused j) (runOf at)) (let x : k ≡ k + 0 = omega arith in x), refl, I .untouched)
+    paused-answer : (at .depth ≡ 0 → at .started < length (t .initials)) → k ≡ allowance → (r : Called) → r ≡ calledWith (Paused k) at → SearchIs task b total r c o
+    paused-answer left z r y =
+        search-by (plus k (still R.paused h)) at (Paused k) r _ _
+        (ap (plus k) (sym (ap (λ (m : ℕ). advance M store (length b) m h) (let x : allowance - k ≡ 0 = omega arith in x) ∙ paused-turn M store (length b) h (move-there t q (at .started) c (at .depth) left))) ∙ I .told)
+        (I .same-task) y
+        (ap (λ (j : ℕ). calledWith (Paused j) (runOf at)) (let x : k ≡ k + 0 = omega arith in x), refl, I .untouched)
 
-      module _ (other : k ≡ allowance → ⊥) (r : Turn) (e x : List ℕ) (T₀ : TurnIs (at .task) (step M store (length o) h) c o r e x) where
-        pub more : k < allowance
-        more = omega (arith, I .within, other)
+    pub stop-answer : (d : Due) → d ≡ due → (a : Answer) → d ≡ Stop a → (r : Called) → r ≡ calledWith a at → SearchIs task b total r c o
+    stop-answer d m a e r y = go (eqb (at .depth) 0 && leb (length (t .initials)) (at .started)) (eqb k allowance) refl refl (sym m ∙ e)
+      where
+        go : (over spent : Bool) → (eqb (at .depth) 0 && leb (length (t .initials)) (at .started)) ≡ over → eqb k allowance ≡ spent → dueAt over spent k ≡ Stop a → SearchIs task b total r c o
+        go true spent u v w =
+            let z : a ≡ Ended k = cc w in
+            let x = over-true (at .depth) (at .started) (length (t .initials)) u in
+            over-answer (x .0) (x .1) r (y ∙ ap (λ (j : Answer). calledWith j at) z)
+        go false true u v w =
+            let z : a ≡ Paused k = cc w in
+            paused-answer (over-false (at .depth) (at .started) (length (t .initials)) u) (eqb-true k allowance v) r (y ∙ ap (λ (j : Answer). calledWith j at) z)
+        go false false u v w = absurd (let z : _≡_ {A = ℕ} 0 1 = cc w in omega arith)
 
-        T : TurnIs task (step M store (length b) h) c b r e x
-        T = subst (λ (j : ℕ). TurnIs j (step M store (length b) h) c b r e x) (I .same-task) (subst (λ (y : List ℕ). TurnIs (at .task) (step M store (length y) h) c y r e x) (I .untouched) T₀)
+    module _ (d : Due) (m : d ≡ due) (goes : d ≡ Step) (r : Turn) (e x : List ℕ) (T₀ : TurnIs (at .task) (step M store (length o) h) c o r e x) where
+      other : k ≡ allowance → ⊥
+      other = eqb-false k allowance (due-step (eqb (at .depth) 0 && leb (length (t .initials)) (at .started)) (eqb k allowance) k (sym m ∙ goes) .1)
 
-        again : (m : Replied (List ℕ)) → advance M store (length b) (suc (allowance - (k + 1))) h ≡ m → plus k m ≡ total
-        again m z = ap (plus k) (sym z ∙ ap (λ (j : ℕ). advance M store (length b) j h) (let y : suc (allowance - (k + 1)) ≡ allowance - k = omega (arith, more) in y)) ∙ I .told
+      pub more : k < allowance
+      more = omega (arith, I .within, other)
 
-        pub going-more : length e ≡ length c → (v : Run) → r ≡ Moved v → Going c₀ e x v (k + 1)
-        going-more kept v z =
-            let w = turn-moved task c b r e x (step M store (length b) h) v T z in
-            let G : Good M store (roomIn c) (heldOf v e) = subst (GoodStep M store store-laws (roomIn c) (length b)) (w .0) (step-good M store store-laws (roomIn c) (length b) h (I .good)) in
-            record {
-              within = omega (arith, more);
-              same-task = w .2;
-              same-length = kept ∙ I .same-length;
-              untouched = w .1;
-              good = subst (λ (m : ℕ). Good M store m (heldOf v e)) (sym (G .room)) G;
-              told = ap (λ (m : ℕ). plus m (advance M store (length b) (allowance - (k + 1)) (heldOf v e))) (let y : k + 1 ≡ suc k = omega arith in y)
-                  ∙ sym (moved-turn M store (length b) h (allowance - (k + 1)) k (heldOf v e) (w .0))
-                  ∙ again (advance M store (length b) (suc (allowance - (k + 1))) h) refl;
-            }
+      T : TurnIs task (step M store (length b) h) c b r e x
+      T = subst (λ (j : ℕ). TurnIs j (step M store (length b) h) c b r e x) (I .same-task) (subst (λ (y : List ℕ). TurnIs (at .task) (step M store (length y) h) c y r e x) (I .untouched) T₀)
 
-        pub found-answer : (v : Run) (j : ℕ) → r ≡ Finds v j → (d : Called) → d ≡ calledWith (Found (k + 1) j) v → SearchIs task b total d e x
-        found-answer v j z d y =
-            let w = turn-finds task c b r e x (step M store (length b) h) v j T z in
-            search-by (plus k (record { reply = R.found (w .0); steps = 1; after = heldOf v e })) v (Found (k + 1) j) d _ _
-            (again _ (found-turn M store (length b) h (allowance - (k + 1)) (heldOf v e) (w .0) (w .1))) (w .4) y
-            (ap (λ (m : ℕ). calledWith (Found (k + 1) m) (runOf v)) (w .2), refl, w .3)
+      again : (m : Replied (List ℕ)) → advance M store (length b) (suc (allowance - (k + 1))) h ≡ m → plus k m ≡ total
+      again m z = ap (plus k) (sym z ∙ ap (λ (j : ℕ). advance M store (length b) j h) (let y : suc (allowance - (k + 1)) ≡ allowance - k = omega (arith, more) in y)) ∙ I .told
 
-        pub refused-answer : (cause : StateCause) → r ≡ Turned.Refused cause → (d : Called) → d ≡ calledWith (Refused k (State cause)) at → SearchIs task b total d e x
-        refused-answer cause z d y =
-            let w = turn-refused task c b r e x (step M store (length b) h) cause T z in
-            search-by (plus k (still (R.refused (State cause)) h)) at (Refused k (State cause)) d _ _
-            (again _ (refused-turn M store (length b) h (allowance - (k + 1)) (State cause) (w .0))) (I .same-task) y
-            (ap (λ (j : ℕ). calledWith (Refused j (State cause)) (runOf at)) (let m : k ≡ k + 0 = omega arith in m), w .1, w .2)
+      pub going-more : length e ≡ length c → (v : Run) → r ≡ Moved v → Going c₀ e x v (k + 1)
+      going-more kept v z =
+          let w = turn-moved task c b r e x (step M store (length b) h) v T z in
+          let G : Good M store (roomIn c) (heldOf v e) = subst (GoodStep M store store-laws (roomIn c) (length b)) (w .0) (step-good M store store-laws (roomIn c) (length b) h (I .good)) in
+          record {
+            within = omega (arith, more);
+            same-task = w .2;
+            same-length = kept ∙ I .same-length;
+            untouched = w .1;
+            good = subst (λ (m : ℕ). Good M store m (heldOf v e)) (sym (G .room)) G;
+            told = ap (λ (m : ℕ). plus m (advance M store (length b) (allowance - (k + 1)) (heldOf v e))) (let y : k + 1 ≡ suc k = omega arith in y)
+                ∙ sym (moved-turn M store (length b) h (allowance - (k + 1)) k (heldOf v e) (w .0))
+                ∙ again (advance M store (length b) (suc (allowance - (k + 1))) h) refl;
+          }
+
+      pub found-answer : (v : Run) (j : ℕ) → r ≡ Finds v j → (d : Called) → d ≡ calledWith (Found (k + 1) j) v → SearchIs task b total d e x
+      found-answer v j z d y =
+          let w = turn-finds task c b r e x (step M store (length b) h) v j T z in
+          search-by (plus k (record { reply = R.found (w .0); steps = 1; after = heldOf v e })) v (Found (k + 1) j) d _ _
+          (again _ (found-turn M store (length b) h (allowance - (k + 1)) (heldOf v e) (w .0) (w .1))) (w .4) y
+          (ap (λ (m : ℕ). calledWith (Found (k + 1) m) (runOf v)) (w .2), refl, w .3)
+
+      pub refused-answer : (cause : StateCause) → r ≡ Turned.Refused cause → (d : Called) → d ≡ calledWith (Refused k (State cause)) at → SearchIs task b total d e x
+      refused-answer cause z d y =
+          let w = turn-refused task c b r e x (step M store (length b) h) cause T z in
+          search-by (plus k (still (R.refused (State cause)) h)) at (Refused k (State cause)) d _ _
+          (again _ (refused-turn M store (length b) h (allowance - (k + 1)) (State cause) (w .0))) (I .same-task) y
+          (ap (λ (j : ℕ). calledWith (Refused j (State cause)) (runOf at)) (let m : k ≡ k + 0 = omega arith in m), w .1, w .2)

@@ -15,7 +15,7 @@ ghost use Rattle.machine.specs.Reading.{heldOf};
 ghost use Rattle.machine.specs.Stack.{roomIn, store};
 ghost use Rattle.machine.specs.Place.{Good};
 ghost use Rattle.engine_step.specs.Setting.{machineBy, Prepared};
-ghost use Rattle.engine_search.specs.Searching.{calledWith, SearchIs};
+ghost use Rattle.engine_search.specs.Searching.{calledWith, dueAt, SearchIs};
 
 // Depth 0 with no initial state left is the end.
 fn is_over(initials: &[u16], run: Run) -> bool
@@ -25,6 +25,26 @@ fn is_over(initials: &[u16], run: Run) -> bool
         return false;
     }
     initials.len() <= run.started as usize
+}
+
+// What is due in a call.
+pub enum Due {
+    Stop(Answer),
+    Step,
+}
+
+// The end is looked for before the allowance, the allowance before the next step.
+fn decide(initials: &[u16], run: Run, steps: u32, allowance: u32) -> Due
+    ensures { λ r. ⌜ r ≡ dueAt (eqb (run .depth) 0 && leb (length (now (initials .entry))) (run .started)) (eqb steps allowance) steps ⌝ }
+{
+    let over = is_over(initials, run);
+    if over {
+        return Due::Stop(Answer::Ended { steps });
+    }
+    if steps == allowance {
+        return Due::Stop(Answer::Paused { steps });
+    }
+    Due::Step
 }
 
 // An answer with its run.
@@ -48,7 +68,7 @@ pub fn refused(steps: u32, refusal: Refusal, run: Run) -> Called
     called(Answer::Refused { steps, refusal }, run)
 }
 
-// The steps of a call from a place in a search. The end is looked for before the allowance, the allowance before the next step.
+// The steps of a call from a place in a search.
 pub fn take_steps(
     setup: Setup,
     first: &[u16],
@@ -68,9 +88,12 @@ pub fn take_steps(
 {
     let mut at = run;
     let mut steps: u32 = 0;
-    while !is_over(initials, at) {
-        if steps == allowance {
-            return called(Answer::Paused { steps }, at);
+    loop {
+        match decide(initials, at, steps, allowance) {
+            Due::Stop(answer) => {
+                return called(answer, at);
+            }
+            Due::Step => {}
         }
         match engine_step::step(
             setup,
@@ -96,5 +119,4 @@ pub fn take_steps(
         }
         steps += 1;
     }
-    called(Answer::Ended { steps }, at)
 }
