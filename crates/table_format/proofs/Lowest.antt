@@ -8,10 +8,10 @@ use mathlib.Core.List.{List, [], _∷_, _++_, List·Memᴰ, List·Memᴰ·not-ni
 use lib.Dec.{eqb, ltb}
 use borrow.Author.Tests.{ltb-true}
 use Rattle.refusal.specs.declared.InputCause.{InputCause}
-use Rattle.refusal.specs.declared.InputCause.the-variants.{Malformed, CountLimit, StateNumber, LetterLimit, StateOrder, SourceOrder, ArcRepeated, LineCount}
+use Rattle.refusal.specs.declared.InputCause.the-variants.{Malformed, CountLimit, StateNumber, StateOrder, LineCount}
 use Rattle.refusal.specs.Refusal.{inputNumber}
 use Rattle.table_format.specs.Table.{Table}
-use Rattle.table_format.specs.Rules.{unless, countsHold, stateHolds, letterHolds, initialIsNew, terminalRises, sourceHolds, arcIsNew, headerFaults, initialFaults, terminalFaults, arcFaults}
+use Rattle.table_format.specs.Rules.{unless, countsHold, stateHolds, letterHolds, initialIsNew, terminalRises, sourceHolds, arcIsNew, headerFaults, initialFaults, terminalFaults, arcEarns, arcFaults}
 use Rattle.table_format.specs.Line.{Line, malformed, bytesOf}
 use Rattle.table_format.specs.Text.{linesBefore}
 use Rattle.table_format.specs.Parse.{inPlace, isHeader, LineKind, initial, terminal, arc, end, numberAt, countsFrom, arcFrom, isOf, due, Progress, opening, within, closed, itemFaults, bytesFaults, lineFaults}
@@ -33,7 +33,7 @@ two true false = refl
 two false true = refl
 two false false = refl
 
-four : (a b c d : Bool) → numbersRise (unless a StateNumber ++ (unless b LetterLimit ++ (unless c SourceOrder ++ unless d ArcRepeated))) ≡ true
+four : (a b c d : Bool) → numbersRise (arcEarns a b c d) ≡ true
 four true true true true = refl
 four true true true false = refl
 four true true false true = refl

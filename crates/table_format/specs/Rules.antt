@@ -80,11 +80,14 @@ initialFaults states before s = unless (stateHolds states s) StateNumber ++ unle
 unfoldable pub terminalFaults : ℕ → List ℕ → ℕ → List InputCause
 terminalFaults states before s = unless (stateHolds states s) StateNumber ++ unless (terminalRises before s) StateOrder
 
+-- what an arc earns, by whether its states, its letters and its source hold, and whether it is new
+abbrev pub arcEarns : Bool → Bool → Bool → Bool → List InputCause
+arcEarns states letters source new = unless states StateNumber ++ (unless letters LetterLimit ++ (unless source SourceOrder ++ unless new ArcRepeated))
+
 unfoldable pub arcFaults : ℕ → List Arc → Arc → List InputCause
 arcFaults states before a =
-    unless (stateHolds states (a .source) && stateHolds states (a .target)) StateNumber
-    ++ (unless (letterHolds (a .upper) && letterHolds (a .lower)) LetterLimit
-    ++ (unless (sourceHolds before a) SourceOrder ++ unless (arcIsNew before a) ArcRepeated))
+    arcEarns (stateHolds states (a .source) && stateHolds states (a .target)) (letterHolds (a .upper) && letterHolds (a .lower)) (sourceHolds before a)
+    (arcIsNew before a)
 
 -- A table keeps the rules where its counts and items earn no refusal.
 
