@@ -1,6 +1,5 @@
 -- Numbers and cells as code holds them, as the counts and arcs that they say.
 use Prim.Native.Nat.{ℕ, _+_, _*_, _/_}
-use mathlib.Core.Path.{_≡_}
 use mathlib.Core.List.{List}
 use lib.ListN.{length, getD}
 use Rattle.table_format.specs.declared.Arc as Held
@@ -33,7 +32,3 @@ arcOf cells n =
 -- the arcs
 abbrev pub arcsAs : List ℕ → List Arc
 arcsAs cells = arcsIn (arcCount cells) cells
-
--- cells that hold whole arcs
-abbrev pub Whole : List ℕ → Type 0
-Whole cells = length cells ≡ arcWidth * arcCount cells

@@ -10,7 +10,7 @@ use lib.Seq.{getD-take, take-nil, drop-at}
 use borrow.Author.Tests.{ltb-true, ltb-false}
 use Rattle.table_format.specs.Table.{Arc, Table, Counts}
 use Rattle.table_format.specs.Loaded.{arcWidth, initialsAt, mostCells, countCells, arcsCells, cellsOf, countsIn, arcsIn, terminalsAt, arcsAt}
-use Rattle.table_format.specs.Cells.{arcsAs, Whole}
+use Rattle.table_format.specs.Cells.{arcsAs}
 use Rattle.table_format.specs.Parse.{LineKind, initial, terminal, arc, end, codeOf, due}
 use Rattle.table_items.specs.Draft.{draftCells, kindAfter, Tracks}
 use Rattle.table_format.proofs.Arcs.{at-equal}
@@ -147,9 +147,6 @@ module _ {c : Counts} {t : Table} {lines filled top : ℕ} {cells : List ℕ} (T
       ap arcsAs (arc-cells-before e)
       ∙ at-equal (λ n. arcsIn n (arcsCells (t .arcs))) (length (arcsCells (t .arcs)) / arcWidth) (length (t .arcs)) (omega (arith, length-arcs-cells (t .arcs)))
       ∙ ap (arcsIn (length (t .arcs))) (sym (append-nil (arcsCells (t .arcs)))) ∙ arcs-in (t .arcs) []
-
-  pub whole-before : due c t ≡ arc → Whole (take (filled - arcsAt c) (drop (arcsAt c) cells))
-  whole-before e = subst Whole (sym (arc-cells-before e)) (omega (arith, length-arcs-cells (t .arcs)))
 
   pub states-held : getD cells 0 0 ≡ t .states
   states-held = ap (λ (x : Counts). x .states) counts-held ∙ sym (T .states-is)

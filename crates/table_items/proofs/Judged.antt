@@ -19,7 +19,7 @@ use Rattle.table_format.specs.Text.{linesBefore}
 use Rattle.table_items.specs.Draft.{ArcsReady, Drafted, Tracks}
 use Rattle.table_format.proofs.Arcs.{at-equal}
 use Rattle.table_items.proofs.LineKinds.{kind-one, placed, has-form}
-use Rattle.table_items.proofs.Draft.{filled-at, counts-held, states-held, initials-before, terminals-before, arcs-before, whole-before, terminals-from, arcs-start, cells-enough}
+use Rattle.table_items.proofs.Draft.{filled-at, counts-held, states-held, initials-before, terminals-before, arcs-before, terminals-from, arcs-start, cells-enough}
 
 module _ {c : Counts} {t : Table} {lines filled top : ℕ} {cells : List ℕ} (T : Tracks c t lines filled top cells) where
   pub judged-initial : (n : ℕ) (b : List ℕ) → 2 ≡ codeOf (due c t) → getD b 0 0 ≡ 2 → length b ≡ 3 → n ≡ numberAt b 1
@@ -56,10 +56,9 @@ module _ {c : Counts} {t : Table} {lines filled top : ℕ} {cells : List ℕ} (T
   arcs-ready : (from : ℕ) → from ≡ arcsAt (countsIn cells) → 4 ≡ codeOf (due c t) → ArcsReady (getD cells 0 0) (take (filled - from) (drop from cells)) top
   arcs-ready from f k =
       let d : due c t ≡ arc = kind-one 4 (due c t) k in
-      let w = whole-before T d in
       let p = arcs-before T d in
       subst (λ (m : ℕ). ArcsReady (getD cells 0 0) (take (filled - m) (drop m cells)) top) (sym (arcs-place from f))
-      (w, (ap₂ arcsKeep (states-held T) p ∙ T .arcs-keep, omega (arith, ap (largest arcKey) p, T .top-arcs)))
+      (ap₂ arcsKeep (states-held T) p ∙ T .arcs-keep, omega (arith, ap (largest arcKey) p, T .top-arcs))
 
   initials-ready : 2 ≡ codeOf (due c t) → largest stateKey (take (filled - initialsAt) (drop initialsAt cells)) ≤ top
   initials-ready k = omega (arith, ap (largest stateKey) (initials-before T (kind-one 2 (due c t) k)), T .top-states)

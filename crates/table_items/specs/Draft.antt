@@ -10,7 +10,7 @@ use Rattle.table_format.specs.Rules.{countsHold, initialsKeep, terminalsKeep, a
 use Rattle.table_format.specs.Loaded.{mostCells, countCells, arcCells, arcsCells}
 use Rattle.table_format.specs.Text.{linesBefore}
 use Rattle.table_format.specs.Parse.{LineKind, initial, terminal, arc, end, codeOf, due, numberAt, arcFrom}
-use Rattle.table_format.specs.Cells.{arcsAs, Whole}
+use Rattle.table_format.specs.Cells.{arcsAs}
 use Rattle.table_rules.specs.Judge.{largest, stateKey, arcKey}
 
 -- cells filled up with 0, to the most that a table can have
@@ -74,4 +74,4 @@ pub record Drafted (lines filled top : ℕ) (cells : List ℕ) (kind : ℕ) : Ty
 
 -- what the code of the rules asks of the arcs before one
 abbrev pub ArcsReady : ℕ → List ℕ → ℕ → Type 0
-ArcsReady states before top = Whole before × ((arcsKeep states (arcsAs before) ≡ true) × (largest arcKey (arcsAs before) ≤ top))
+ArcsReady states before top = (arcsKeep states (arcsAs before) ≡ true) × (largest arcKey (arcsAs before) ≤ top)
