@@ -34,7 +34,7 @@ pub enum Due {
 }
 
 // The end is looked for before the allowance, the allowance before the next step.
-fn decide(initials: &[u16], run: Run, steps: u32, allowance: u32) -> Due
+fn due_at(initials: &[u16], run: Run, steps: u32, allowance: u32) -> Due
     ensures { λ r. ⌜ r ≡ dueAt (eqb (run .depth) 0 && leb (length (now (initials .entry))) (run .started)) (eqb steps allowance) steps ⌝ }
 {
     let over = is_over(initials, run);
@@ -89,7 +89,7 @@ pub fn take_steps(
     let mut at = run;
     let mut steps: u32 = 0;
     loop {
-        match decide(initials, at, steps, allowance) {
+        match due_at(initials, at, steps, allowance) {
             Due::Stop(answer) => {
                 return called(answer, at);
             }

@@ -1,7 +1,7 @@
 use borrow.Author.Needs.{needs}
 use Rattle.engine_search.proofs.Looping.{due-laws}
-use Rattle.engine_search.proofs.decide.Statement.{statement}
-use Rattle.engine_search.proofs.decide.Tie as tie
+use Rattle.engine_search.proofs.due_at.Statement.{statement}
+use Rattle.engine_search.proofs.due_at.Tie as tie
 
 is-over-requires : tie.Need-is-over-requires
 is-over-requires c κs = search needs
@@ -15,5 +15,5 @@ returns-2 c = search (due-laws, c .before .before .is-over .ensures, c .before .
 returns-3 : tie.Need-returns-3
 returns-3 c = search (due-laws, c .before .before .is-over .ensures, c .before .if1 .left, c .if2 .left)
 
-pub decide-spec : {M : Type 1} → statement M
-decide-spec = tie.close (tie.spec is-over-requires returns returns-2 returns-3)
+pub due-at-spec : {M : Type 1} → statement M
+due-at-spec = tie.close (tie.spec is-over-requires returns returns-2 returns-3)
