@@ -7,10 +7,10 @@ use Rattle.machine.specs.declared.Started.{Started}
 use Rattle.machine.specs.Start.{StartIs}
 use Rattle.machine.proofs.Start.{start-is}
 use Rattle.capi.specs.declared.StartReply.{StartReply}
-use Rattle.capi.specs.Start.{runLeft, ReplyIs, StartTold}
+use Rattle.capi.specs.Start.{runLeft, ReplyIs, StartReplyIs}
 
 pub told-as : (cells : List ℕ) (task : ℕ) (upper lower : List ℕ) (before : Run) (s : Started) → StartIs cells task upper lower s
-    → (reply : StartReply) (after : Run) → ReplyIs s before reply after → StartTold cells task upper lower before reply after
+    → (reply : StartReply) (after : Run) → ReplyIs s before reply after → StartReplyIs cells task upper lower before reply after
 told-as cells task upper lower before s S reply after R =
     record {
       cycle = S .cycle;

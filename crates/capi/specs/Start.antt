@@ -26,7 +26,7 @@ abbrev pub ReplyIs : Started → Run → StartReply → Run → Type 0
 ReplyIs s before reply after = (replyTold (reply .answer) ≡ startToldBy s) × (reply .cycle ≡ s .cycle) × (after ≡ runLeft s before)
 
 -- what a start ensures: all is told by the definition `started` but for one cycle, which has these properties
-pub record StartTold (cells : List ℕ) (task : ℕ) (upper lower : List ℕ) (before : Run) (reply : StartReply) (after : Run) : Type 0 where
+pub record StartReplyIs (cells : List ℕ) (task : ℕ) (upper lower : List ℕ) (before : Run) (reply : StartReply) (after : Run) : Type 0 where
   pub cycle : List ℕ
   pub is : ReplyIs (started cells task upper lower cycle) before reply after
   pub tells : TellsCycle (asked cells task upper lower) cycle

@@ -8,7 +8,7 @@ use machine::Run;
 ghost use Prim.Native.Nat.{_≤_};
 
 // Cells of a stack of 33,025 frames.
-const LENT_CELLS: usize = 132100;
+const LENT_CELLS: usize = (machine::MOST_FRAMES as usize + 1) * machine::FRAME_WIDTH;
 
 // Where calls left a run, and their steps in all.
 struct Tally {

@@ -192,7 +192,7 @@ module _ (cells : List ℕ) (task : ℕ) (upper lower : List ℕ) where
     pub twelve : (startToldBy s .number ≡ 12) ↔ ((t : Table) × (q : Query) × (asked cells task upper lower ≡ runs t q) × ((x : ℕ) × IdleWalk t (q .task) x x))
     twelve = starts.twelve cells task upper lower s S
 
-    pub twelve-tells : (t : Table) (q : Query) → asked cells task upper lower ≡ runs t q → startToldBy s .number ≡ 12 → CycleStates t (q .task) (take (s .length) (s .cycle))
+    pub twelve-tells : (t : Table) (q : Query) → asked cells task upper lower ≡ runs t q → startToldBy s .number ≡ 12 → CycleStates t (q .task) (take (startToldBy s .length) (s .cycle))
     twelve-tells t q a = starts.twelve-tells cells task upper lower t q (ruled t (asks.asked-facts cells task upper lower t q a .keeps-rules)) a s S
 
     pub cycle-cells : length (s .cycle) ≡ 256

@@ -116,9 +116,9 @@ module _ (cells : List ℕ) (task : ℕ) (upper lower : List ℕ) (t : Table) (q
       (λ h. (λ e. absurd (omega arith), λ w. absurd (none-found t (q .task) U h (w .0) (w .1))))
 
   -- the states told with it
-  pub twelve-tells : startToldBy s .number ≡ 12 → CycleStates t (q .task) (take (s .length) (s .cycle))
+  pub twelve-tells : startToldBy s .number ≡ 12 → CycleStates t (q .task) (take (startToldBy s .length) (s .cycle))
   twelve-tells =
-      by-test (λ z. startToldBy z .number ≡ 12 → CycleStates t (q .task) (take (z .length) (z .cycle)))
+      by-test (λ z. startToldBy z .number ≡ 12 → CycleStates t (q .task) (take (startToldBy z .length) (z .cycle)))
       (λ h e. subst (λ (l : List ℕ). CycleStates t (q .task) l) (sym (take-append-seam (S .cycle) (replicate (256 - length (S .cycle)) 0))) (tells h))
       (λ h e. absurd (omega arith))
 

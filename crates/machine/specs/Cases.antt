@@ -9,6 +9,7 @@ use lib.ListN.{replicate, take}
 use lib.Dec.{eqb}
 use Rattle.table_format.specs.Table.{Arc, Table}
 use Rattle.table_format.specs.Loaded.{cellsOf}
+use Rattle.table_format.specs.Cells.{arcAs}
 use Rattle.machine.specs.declared.Run.{Run}
 use Rattle.machine.specs.declared.Started.{Started}
 use Rattle.machine.specs.Query.{sameWord}
@@ -132,10 +133,6 @@ rowsHold (r ∷ rs) = rowHolds r && rowsHold rs
 
 -- The rows.
 
--- an arc by its four fields
-abbrev arc : ℕ → ℕ → ℕ → ℕ → Arc
-arc s u l d = record { source = s; upper = u; lower = l; target = d }
-
 -- table K with further arcs of state 0 in front
 abbrev pub tableK : List Arc → Table
 tableK more =
@@ -143,7 +140,7 @@ tableK more =
       states = 3;
       initials = 0 ∷ [];
       terminals = 1 ∷ 2 ∷ [];
-      arcs = more ++ (arc 0 1 1 1 ∷ arc 0 2 2 2 ∷ arc 1 2 2 2 ∷ arc 1 0 3 0 ∷ arc 2 0 3 0 ∷ []);
+      arcs = more ++ (arcAs 0 1 1 1 ∷ arcAs 0 2 2 2 ∷ arcAs 1 2 2 2 ∷ arcAs 1 0 3 0 ∷ arcAs 2 0 3 0 ∷ []);
     }
 
 -- the characters of a text, by their numbers in ASCII
@@ -162,17 +159,17 @@ row k u l c = record { table = tableK []; task = k; upper = u; lower = l; course
 
 -- the same with an arc that stands there twice, so that the loaded table breaks a rule
 abbrev twice : ℕ → List ℕ → Course → Row
-twice k u c = record { table = tableK (arc 0 1 1 1 ∷ []); task = k; upper = u; lower = []; course = c }
+twice k u c = record { table = tableK (arcAs 0 1 1 1 ∷ []); task = k; upper = u; lower = []; course = c }
 
 -- empty words, and state 0 with one arc more, to itself
 abbrev loop : ℕ → ℕ → ℕ → Course → Row
-loop u l k c = record { table = tableK (arc 0 u l 0 ∷ []); task = k; upper = []; lower = []; course = c }
+loop u l k c = record { table = tableK (arcAs 0 u l 0 ∷ []); task = k; upper = []; lower = []; course = c }
 
 -- empty words, and a table of one state with one arc, to itself
 abbrev lone : ℕ → ℕ → ℕ → Course → Row
 lone u l k c =
     record {
-      table = record { states = 1; initials = 0 ∷ []; terminals = []; arcs = arc 0 u l 0 ∷ [] };
+      table = record { states = 1; initials = 0 ∷ []; terminals = []; arcs = arcAs 0 u l 0 ∷ [] };
       task = k;
       upper = [];
       lower = [];
@@ -183,7 +180,7 @@ lone u l k c =
 abbrev pair : ℕ → ℕ → Course → Row
 pair x y c =
     record {
-      table = record { states = 3; initials = 1 ∷ 0 ∷ []; terminals = 2 ∷ []; arcs = arc 0 1 x 2 ∷ arc 1 1 y 2 ∷ [] };
+      table = record { states = 3; initials = 1 ∷ 0 ∷ []; terminals = 2 ∷ []; arcs = arcAs 0 1 x 2 ∷ arcAs 1 1 y 2 ∷ [] };
       task = 2;
       upper = 1 ∷ [];
       lower = [];
@@ -194,7 +191,7 @@ pair x y c =
 abbrev round : Course → Row
 round c =
     record {
-      table = record { states = 2; initials = 0 ∷ []; terminals = 1 ∷ []; arcs = arc 0 0 5 1 ∷ arc 1 1 6 0 ∷ [] };
+      table = record { states = 2; initials = 0 ∷ []; terminals = 1 ∷ []; arcs = arcAs 0 0 5 1 ∷ arcAs 1 1 6 0 ∷ [] };
       task = 2;
       upper = 1 ∷ [];
       lower = [];

@@ -176,12 +176,12 @@ module _ (cells query : List ℕ) (state : SessionState) (stack output line : Li
   given = nextLine cells (upperIn query) (lowerIn query) state stack output
 
   -- the line is in the buffer
-  inside : (x : LineResult) → r ≡ x → (lineTold x ≡ toldOf (given .bytes) (given .after)) × (lineTold x .size ≤ length l)
+  inside : (x : LineResult) → r ≡ x → (lineTold x ≡ toldOf (given .bytes) (given .after)) × (lineTold x .length ≤ length l)
   unfolding lineOutcome
   inside x e =
       let told : lineTold x ≡ toldOf (given .bytes) (given .after) = sym (ap lineTold e) ∙ I .0 in
       let fits = stored-inside (given .bytes) line l (I .3) in
-      (told, omega (arith, ap (λ (y : LineTold). y .size) told))
+      (told, omega (arith, ap (λ (y : LineTold). y .length) told))
 
   -- and fewer calls are left
   pub more-inside : (n : ℕ) (t : SessionState) → r ≡ L.More n t → (n ≤ length l) × (t .calls < state .calls)

@@ -18,7 +18,7 @@ nextTexts (some state) k = k state
 
 -- the text of a call, and those of the calls after it: the next has the state, the stack, the output and the line buffer as this one leaves them
 abbrev pub textsBy : LineOutcome → (SessionState → (stack output line : List ℕ) → List (List ℕ)) → List (List ℕ)
-textsBy x k = take (x .told .size) (x .line) ∷ nextTexts (x .told .after) (λ state. k state (x .stack) (x .output) (x .line))
+textsBy x k = take (x .told .length) (x .line) ∷ nextTexts (x .told .after) (λ state. k state (x .stack) (x .output) (x .line))
 
 -- at most n calls of next_line
 unfoldable pub lineTexts : (cells query : List ℕ) → ℕ → SessionState → (stack output line : List ℕ) → List (List ℕ)

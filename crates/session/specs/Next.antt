@@ -58,18 +58,18 @@ nextLine cells upper lower state stack output =
 
 -- What the call tells, and leaves in what it is lent.
 
--- how many characters the line has, and the state to go on with where another follows
+-- how many characters the line has (its kind and its number stand in it), and the state to go on with where another follows
 pub record LineTold : Type 0 where
-  pub size : ℕ
+  pub length : ℕ
   pub after : Option SessionState
 
 abbrev pub lineTold : LineResult → LineTold
-lineTold (L.More n state) = record { size = n; after = some state }
-lineTold (L.Last n) = record { size = n; after = none }
+lineTold (L.More n state) = record { length = n; after = some state }
+lineTold (L.Last n) = record { length = n; after = none }
 
 -- of a line by its bytes
 abbrev pub toldOf : List ℕ → Option SessionState → LineTold
-toldOf bytes after = record { size = length (lineText bytes); after = after }
+toldOf bytes after = record { length = length (lineText bytes); after = after }
 
 -- of the line of what calls come to, and the line buffer before and after
 abbrev pub ResultLineIs : CallResult → ℕ → List ℕ → LineTold → List ℕ → List ℕ → Type 0
