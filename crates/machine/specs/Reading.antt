@@ -1,5 +1,10 @@
 -- The call for a reading: 20, 11, 10, 21, then steps. It gives the answer and the run, every cell of the lent stack and every cell of the
 -- output buffer.
+--
+--   Reply, Replied    what the machine tells of a call: found with its output, paused, ended or refused; with the steps and the run after it
+--   Answer, Called    what the code gives: the answer by its cases; with the run
+--   Outcome           all that a call comes to: Called, the stack and the output buffer
+--   Told              an answer in document 01's numbers
 use Prim.Native.Nat.{ℕ}
 use mathlib.Core.Path.{_≡_}
 use mathlib.Core.Logic.{_⊎_}
