@@ -1,11 +1,11 @@
 -- Document 01, "Lines of the text": the bytes of each line that a session prints.
-use Prim.Native.Nat.{ℕ, _+_, _*_}
+use Prim.Native.Nat.{ℕ, _+_}
 use mathlib.Core.Path.{_≡_}
 use mathlib.Core.List.{List, [], _∷_, _++_}
 use lib.ListN.{length, drop}
 use Rattle.refusal.specs.declared.Refusal.{Refusal}
 use Rattle.refusal.specs.Refusal.{numberOf}
-use Rattle.table_format.specs.Line.{lineText}
+use Rattle.table_format.specs.Line.{lineText, charactersOf}
 use Rattle.table_format.specs.Text.{number}
 
 -- The kinds of the lines: `20`, `2D`, `2E` and `2F` in base sixteen.
@@ -42,10 +42,6 @@ abbrev pub refusalLine : Refusal → List ℕ
 refusalLine r = numberLine (numberOf r)
 
 -- Sizes.
-
--- "two digits a byte", "line feed after each": the characters of a line of so many bytes
-abbrev pub charactersOf : ℕ → ℕ
-charactersOf bytes = 2 * bytes + 1
 
 -- "4,096 letters of output"
 abbrev pub outputLetters : ℕ

@@ -11,6 +11,7 @@ use Rattle.table_format.specs.Table.{Arc, Table, Counts, countsOf}
 use Rattle.table_format.specs.Loaded.{arcWidth, initialsAt, countsIn, arcIn, arcsIn, tableIn, loaded}
 use Rattle.table_format.specs.Line.{charsOf, lineText}
 use Rattle.table_format.specs.Text.{headerBytes, initialBytes, terminalBytes, arcBytes, endBytes, linesBefore, joinLines, textOf}
+use Rattle.table_format.specs.Parse.{initial, terminal, arc, widthOf, headerLine, stateLine, arcLine}
 use Rattle.table_format.specs.Cells.{arcCount, arcsAs}
 use Rattle.table_check.specs.Check.{layoutOf, LaidOut}
 use Rattle.table_format.proofs.All.{All, all-getD}
@@ -25,7 +26,7 @@ use Rattle.table_format.proofs.Stores.{then}
 -- what cells that hold a table say of its text
 pub record HeldText (cells : List ℕ) : Type 0 where
   pub holds : Holding cells
-  pub size : length (textOf (tableIn cells)) ≡ 26 + 7 * getD cells 1 0 + 7 * getD cells 2 0 + 15 * getD cells 3 0
+  pub size : length (textOf (tableIn cells)) ≡ headerLine + stateLine * getD cells 1 0 + stateLine * getD cells 2 0 + arcLine * getD cells 3 0 + stateLine
 
 pub held-text : (cells : List ℕ) → loaded cells ≡ some (tableIn cells) → HeldText cells
 held-text cells l =
@@ -101,24 +102,24 @@ module _ (cells : List ℕ) (l : Layout) where
   -- the lines of a table, one run after the other, are its text, with what stood after it
   pub written : (h : Parted) (d m₁ m₂ m₃ m₄ m₅ : List ℕ) (p₂ p₃ p₄ : ℕ) → length (textOf (tableIn cells)) ≤ length d
       → m₁ ≡ sets d 0 (lineText (headerBytes (countsIn cells)))
-      → (p₂ ≡ 19 + 7 * length initialsPart) × (m₂ ≡ sets m₁ 19 (joinLines (map initialBytes initialsPart)))
-      → (p₃ ≡ p₂ + 7 * length terminalsPart) × (m₃ ≡ sets m₂ p₂ (joinLines (map terminalBytes terminalsPart)))
-      → (p₄ ≡ p₃ + 15 * (arcCount (arcsPart cells l (h .laid)))) × (m₄ ≡ sets m₃ p₃ (joinLines (map arcBytes (arcsAs (arcsPart cells l (h .laid))))))
+      → (p₂ ≡ headerLine + stateLine * length initialsPart) × (m₂ ≡ sets m₁ headerLine (joinLines (map initialBytes initialsPart)))
+      → (p₃ ≡ p₂ + stateLine * length terminalsPart) × (m₃ ≡ sets m₂ p₂ (joinLines (map terminalBytes terminalsPart)))
+      → (p₄ ≡ p₃ + arcLine * arcCount (arcsPart cells l (h .laid))) × (m₄ ≡ sets m₃ p₃ (joinLines (map arcBytes (arcsAs (arcsPart cells l (h .laid))))))
       → m₅ ≡ sets m₄ p₄ (lineText (endBytes (1 + getD cells 1 0 + getD cells 2 0 + getD cells 3 0)))
       → m₅ ≡ textOf (tableIn cells) ++ drop (length (textOf (tableIn cells))) d
   unfolding charsOf
   written h d m₁ m₂ m₃ m₄ m₅ p₂ p₃ p₄ room q₁ q₂ q₃ q₄ q₅ =
       let t : Table = tableIn cells in
       let e : countsIn cells ≡ countsOf t = sym (counts-of cells (h .held .holds .whole)) in
-      let c₁ = length-lines initialBytes 3 (λ s. refl) (t .initials) in
-      let c₂ = length-lines terminalBytes 3 (λ s. refl) (t .terminals) in
-      let c₃ = length-lines arcBytes 7 (λ a. refl) (t .arcs) in
+      let c₁ = length-lines initialBytes (widthOf initial) (λ s. refl) (t .initials) in
+      let c₂ = length-lines terminalBytes (widthOf terminal) (λ s. refl) (t .terminals) in
+      let c₃ = length-lines arcBytes (widthOf arc) (λ a. refl) (t .arcs) in
       let i = ap length (h .initials) in
       let m = ap length (h .terminals) in
       let n = h .arcs-count in
       let a = ap (λ (c : Counts). c .arcs) e in
       let r₁ = q₁ ∙ ap (λ (c : Counts). sets d 0 (lineText (headerBytes c))) e in
-      let r₂ = q₂ .1 ∙ ap (λ (xs : List ℕ). sets m₁ 19 (joinLines (map initialBytes xs))) (h .initials) in
+      let r₂ = q₂ .1 ∙ ap (λ (xs : List ℕ). sets m₁ headerLine (joinLines (map initialBytes xs))) (h .initials) in
       let r₃ = q₃ .1 ∙ ap (λ (xs : List ℕ). sets m₂ p₂ (joinLines (map terminalBytes xs))) (h .terminals) in
       let r₄ = q₄ .1 ∙ ap (λ (xs : List Arc). sets m₃ p₃ (joinLines (map arcBytes xs))) (h .arcs) in
       let r₅ = q₅ ∙ ap (λ (c : Counts). sets m₄ p₄ (lineText (endBytes (1 + c .initials + c .terminals + c .arcs)))) e in
@@ -127,7 +128,7 @@ module _ (cells : List ℕ) (l : Layout) where
       let w₂ : List ℕ = joinLines (map initialBytes (t .initials)) ++ w₃ in
       let s₄ = then m₃ m₄ m₅ p₃ p₄ (joinLines (map arcBytes (t .arcs))) (lineText (endBytes (linesBefore t))) r₄ (omega arith) r₅ in
       let s₃ = then m₂ m₃ m₅ p₂ p₃ (joinLines (map terminalBytes (t .terminals))) w₄ r₃ (omega arith) s₄ in
-      let s₂ = then m₁ m₂ m₅ 19 p₂ (joinLines (map initialBytes (t .initials))) w₃ r₂ (omega arith) s₃ in
-      let s₁ = then d m₁ m₅ 0 19 (lineText (headerBytes (countsOf t))) w₂ r₁ refl s₂ in
+      let s₂ = then m₁ m₂ m₅ headerLine p₂ (joinLines (map initialBytes (t .initials))) w₃ r₂ (omega arith) s₃ in
+      let s₁ = then d m₁ m₅ 0 headerLine (lineText (headerBytes (countsOf t))) w₂ r₁ refl s₂ in
       let same : 0 + length (textOf t) ≡ length (textOf t) = omega arith in
       s₁ ∙ ap (sets d 0) (sym (text-parts t)) ∙ sets-eq (textOf t) d 0 (omega arith) ∙ ap (λ (k : ℕ). textOf t ++ drop k d) same

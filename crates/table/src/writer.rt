@@ -2,7 +2,10 @@
 use destination::Answer;
 use refusal::Refusal;
 use refusal::StateCause;
+use table_format::ARC_LINE;
+use table_format::HEADER_LINE;
 use table_format::INITIALS_AT;
+use table_format::STATE_LINE;
 ghost use mathlib.Core.Path.{_≡_};
 ghost use mathlib.Core.Option.{some};
 ghost use mathlib.Core.List.{_++_};
@@ -19,7 +22,7 @@ fn text_size(cells: &[u16]) -> usize
     ensures { λ r. ⌜ r ≡ length (textOf (tableIn (now (cells .entry)))) ⌝ }
 {
     let states = cells[1] as usize + cells[2] as usize;
-    26 + 7 * states + 15 * cells[3] as usize
+    HEADER_LINE + STATE_LINE * states + ARC_LINE * cells[3] as usize + STATE_LINE
 }
 
 // The whole text of a loaded table, line by line.
@@ -34,7 +37,12 @@ fn write_table(cells: &[u16], text: &mut [u8])
     let arcs = at.arcs;
     let end = at.end;
     table_printer::header_line(text, cells);
-    let initials_end = table_printer::state_lines(text, 19, 2, &cells[INITIALS_AT..terminals]);
+    let initials_end = table_printer::state_lines(
+        text,
+        HEADER_LINE,
+        2,
+        &cells[INITIALS_AT..terminals],
+    );
     let terminals_end = table_printer::state_lines(text, initials_end, 3, &cells[terminals..arcs]);
     let arcs_end = table_printer::arc_lines(text, terminals_end, &cells[arcs..end]);
     table_printer::number_line(text, arcs_end, 5, lines);

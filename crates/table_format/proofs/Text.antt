@@ -9,9 +9,9 @@ use borrow.Author.Tests.{eqb-true}
 use Rattle.table_format.specs.Table.{Arc, Table, Counts, countsOf}
 use Rattle.table_format.specs.Rules.{keepsRules}
 use Rattle.table_format.specs.Index.{tabulate}
-use Rattle.table_format.specs.Line.{lineText}
+use Rattle.table_format.specs.Line.{lineText, charactersOf}
 use Rattle.table_format.specs.Text.{number, headerBytes, initialBytes, terminalBytes, arcBytes, endBytes, linesBefore, itemLines, joinLines, textOf}
-use Rattle.table_format.specs.Parse.{hasForm, isHeader, LineKind, initial, terminal, arc, end, numberAt, countsFrom, arcFrom, codeOf, widthOf, isOf}
+use Rattle.table_format.specs.Parse.{hasForm, isHeader, LineKind, initial, terminal, arc, end, numberAt, countsFrom, arcFrom, codeOf, widthOf, isOf, headerLine, stateLine, arcLine}
 use Rattle.table_format.proofs.All.{All, all-append, all-map, all-getD}
 use Rattle.table_format.proofs.Rules.{Bounded, ArcBounded, table-bounded, initials-below, terminals-below, arcs-bounded}
 use Rattle.table_format.proofs.Line.{IsByte, Bytes, length-chars}
@@ -152,14 +152,14 @@ text-parts t =
     ∙ ap (λ (l : List ℕ). joinLines (map arcBytes (t .arcs)) ++ l) (append-nil (lineText (endBytes (linesBefore t)))))))
 
 pub length-lines : {A : Type 0} (f : A → List ℕ) (w : ℕ) → ((x : A) → length (f x) ≡ w) → (xs : List A)
-    → length (joinLines (map f xs)) ≡ (2 * w + 1) * length xs
+    → length (joinLines (map f xs)) ≡ charactersOf w * length xs
 unfolding joinLines
 length-lines f w law [] = omega arith
 length-lines f w law (x ∷ xs) = simp (length-append, length-chars, law, length-lines f w law xs) (omega arith)
 
-pub length-text : (t : Table) → length (textOf t) ≡ 19 + 7 * length (t .initials) + 7 * length (t .terminals) + 15 * length (t .arcs) + 7
+pub length-text : (t : Table) → length (textOf t) ≡ headerLine + stateLine * length (t .initials) + stateLine * length (t .terminals) + arcLine * length (t .arcs) + stateLine
 length-text t =
-    let is : length (joinLines (map initialBytes (t .initials))) ≡ 7 * length (t .initials) = length-lines initialBytes 3 (λ s. refl) (t .initials) in
-    let ts : length (joinLines (map terminalBytes (t .terminals))) ≡ 7 * length (t .terminals) = length-lines terminalBytes 3 (λ s. refl) (t .terminals) in
-    let rs : length (joinLines (map arcBytes (t .arcs))) ≡ 15 * length (t .arcs) = length-lines arcBytes 7 (λ a. refl) (t .arcs) in
+    let is : length (joinLines (map initialBytes (t .initials))) ≡ stateLine * length (t .initials) = length-lines initialBytes (widthOf initial) (λ s. refl) (t .initials) in
+    let ts : length (joinLines (map terminalBytes (t .terminals))) ≡ stateLine * length (t .terminals) = length-lines terminalBytes (widthOf terminal) (λ s. refl) (t .terminals) in
+    let rs : length (joinLines (map arcBytes (t .arcs))) ≡ arcLine * length (t .arcs) = length-lines arcBytes (widthOf arc) (λ a. refl) (t .arcs) in
     ap length (text-parts t) ∙ simp (length-append, length-chars, is, ts, rs) (omega arith)

@@ -1,5 +1,5 @@
 -- Document 01, "Lines of the text": a text is cut at its line feeds (character 10); a line is two capital digits for each byte.
-use Prim.Native.Nat.{ℕ, _+_, _%_}
+use Prim.Native.Nat.{ℕ, _+_, _*_, _%_}
 use mathlib.Core.Bool.{Bool, true, false, not, cond, _||_}
 use mathlib.Core.List.{List, [], _∷_, _++_}
 use lib.Dec.{eqb}
@@ -53,3 +53,7 @@ charsOf (b ∷ bs) = encoded b .high ∷ encoded b .low ∷ charsOf bs
 
 abbrev pub lineText : List ℕ → List ℕ
 lineText bs = charsOf bs ++ (10 ∷ [])
+
+-- "two digits a byte", "line feed after each": the characters of a line of so many bytes
+abbrev pub charactersOf : ℕ → ℕ
+charactersOf bytes = 2 * bytes + 1

@@ -10,7 +10,7 @@ use Rattle.refusal.specs.declared.InputCause.{InputCause}
 use Rattle.refusal.specs.declared.InputCause.the-variants.{Malformed, Misplaced, LineCount}
 use Rattle.table_format.specs.Table.{Arc, Table, Counts}
 use Rattle.table_format.specs.Rules.{unless, headerFaults, initialFaults, terminalFaults, arcFaults}
-use Rattle.table_format.specs.Line.{Line, linesOf, malformed, bytesOf}
+use Rattle.table_format.specs.Line.{Line, linesOf, malformed, bytesOf, charactersOf}
 use Rattle.table_format.specs.Text.{lineBytes, linesBefore}
 
 -- What a line's bytes say, where they are of its kind.
@@ -51,6 +51,17 @@ widthOf initial = 3
 widthOf terminal = 3
 widthOf arc = 7
 widthOf end = 3
+
+-- the characters, with the line feed, of the header line, of the line of a state or the end, and of an arc's
+
+abbrev pub headerLine : ℕ
+headerLine = charactersOf lineBytes
+
+abbrev pub stateLine : ℕ
+stateLine = charactersOf (widthOf initial)
+
+abbrev pub arcLine : ℕ
+arcLine = charactersOf (widthOf arc)
 
 abbrev pub isOf : LineKind → List ℕ → Bool
 isOf k b = hasForm (codeOf k) (widthOf k) b

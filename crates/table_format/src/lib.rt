@@ -15,6 +15,21 @@ pub const MOST_CELLS: usize = 4612;
 // The most bytes of a line of a table's text: the header's.
 pub const LINE_BYTES: usize = 9;
 
+// The bytes of the line of a state, and of the end line.
+pub const STATE_BYTES: usize = 3;
+
+// The bytes of an arc's line.
+pub const ARC_BYTES: usize = 7;
+
+// The characters of the header line, with its line feed.
+pub const HEADER_LINE: usize = 2 * LINE_BYTES + 1;
+
+// The characters of the line of a state, and of the end line, with its line feed.
+pub const STATE_LINE: usize = 2 * STATE_BYTES + 1;
+
+// The characters of an arc's line, with its line feed.
+pub const ARC_LINE: usize = 2 * ARC_BYTES + 1;
+
 // An arc, out of its cells.
 pub struct Arc {
     pub source: u16,

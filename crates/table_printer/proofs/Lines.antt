@@ -11,6 +11,7 @@ use Rattle.hex.specs.Hex.{encoded}
 use Rattle.table_format.specs.Table.{Arc, noArc}
 use Rattle.table_format.specs.Line.{charsOf, lineText}
 use Rattle.table_format.specs.Text.{arcBytes, joinLines}
+use Rattle.table_format.specs.Parse.{arcLine}
 use Rattle.table_format.specs.Cells.{arcCount, arcOf, arcsAs}
 use Rattle.table_format.proofs.Arcs.{length-arcs, getD-arcs}
 use Rattle.table_format.proofs.Line.{length-chars}
@@ -64,7 +65,7 @@ module _ {A : Type 0} (f : A → List ℕ) (d : A) where
 
 -- the line of the arc of number n of cells
 pub arcs-turn : (l m : List ℕ) (at : ℕ) (cells : List ℕ) (n : ℕ) → n < arcCount cells → m ≡ sets l at (lineText (arcBytes (arcOf cells n)))
-    → sets m (at + 15) (joinLines (map arcBytes (drop (n + 1) (arcsAs cells)))) ≡ sets l at (joinLines (map arcBytes (drop n (arcsAs cells))))
+    → sets m (at + arcLine) (joinLines (map arcBytes (drop (n + 1) (arcsAs cells)))) ≡ sets l at (joinLines (map arcBytes (drop n (arcsAs cells))))
 unfolding charsOf
 arcs-turn l m at cells n h p =
-    lines-turn arcBytes noArc l m at (at + 15) (arcsAs cells) n (omega (arith, length-arcs (arcCount cells) cells)) (p ∙ ap (λ (a : Arc). sets l at (lineText (arcBytes a))) (sym (getD-arcs (arcCount cells) cells n noArc h))) refl
+    lines-turn arcBytes noArc l m at (at + arcLine) (arcsAs cells) n (omega (arith, length-arcs (arcCount cells) cells)) (p ∙ ap (λ (a : Arc). sets l at (lineText (arcBytes a))) (sym (getD-arcs (arcCount cells) cells n noArc h))) refl

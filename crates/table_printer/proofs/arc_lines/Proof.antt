@@ -12,6 +12,7 @@ use Rattle.table_format.specs.Loaded.{arcWidth}
 use Rattle.table_format.specs.Cells.{arcCount, arcSaid, arcsAs}
 use Rattle.table_format.specs.Line.{lineText}
 use Rattle.table_format.specs.Text.{arcBytes, joinLines}
+use Rattle.table_format.specs.Parse.{arcLine}
 use Rattle.table_format.proofs.Arcs.{length-arcs}
 use Rattle.table_printer.proofs.Lines.{arcs-turn, lines-end}
 use Rattle.table_printer.proofs.arc_lines.Statement.{statement}
@@ -21,7 +22,7 @@ abbrev Inv-loop : tie.InvT-loop
 Inv-loop text₀ at arcs count to₀ n₀ text to n =
     (count ≡ arcCount arcs)
     × (n ≤ count)
-    × (to ≡ at + 15 * n)
+    × (to ≡ at + arcLine * n)
     × (length text ≡ length text₀)
     × (sets text to (joinLines (map arcBytes (drop n (arcsAs arcs)))) ≡ sets text₀ at (joinLines (map arcBytes (arcsAs arcs))))
 

@@ -1,5 +1,5 @@
 -- The bytes, then the line feed.
-use mathlib.Core.Path.{refl}
+use native.Mathlib.Omega.{arith}
 use denote.Ref.{now}
 use borrow.Author.Needs.{needs}
 use Rattle.table_printer.proofs.Lines.{line-stored}
@@ -25,7 +25,7 @@ same-length : tie.Need-same-length
 same-length c = search needs
 
 returns : tie.Need-returns
-returns c = (refl, line-stored _ _ (now (c .before .before .before .before .before .before .args .bytes)) _ (c .before .before .put-bytes .ensures))
+returns c = (omega arith, line-stored _ _ (now (c .before .before .before .before .before .before .args .bytes)) _ (c .before .before .put-bytes .ensures))
 
 pub put-line-spec : {M : Type 1} → statement M
 put-line-spec =

@@ -8,6 +8,7 @@ use lib.ListN.{length, drop}
 use lib.Seq.{sets}
 use Rattle.table_format.specs.Line.{charsOf}
 use Rattle.table_format.specs.Text.{number, joinLines}
+use Rattle.table_format.specs.Parse.{stateLine}
 use Rattle.table_printer.proofs.Lines.{lines-turn, lines-end}
 use Rattle.table_printer.proofs.state_lines.Statement.{statement}
 use Rattle.table_printer.proofs.state_lines.Tie as tie
@@ -15,7 +16,7 @@ use Rattle.table_printer.proofs.state_lines.Tie as tie
 abbrev Inv-loop : tie.InvT-loop
 Inv-loop text₀ at kind list to₀ k₀ text to k =
     (k ≤ length list)
-    × ((to ≡ at + 7 * k)
+    × ((to ≡ at + stateLine * k)
     × ((length text ≡ length text₀)
     × (sets text to (joinLines (map (λ s. kind ∷ number s) (drop k list))) ≡ sets text₀ at (joinLines (map (λ s. kind ∷ number s) list)))))
 
@@ -53,7 +54,7 @@ loop-again c =
         omega arith,
         (
           omega arith,
-          lines-turn (λ s. args .kind ∷ number s) 0 (was .text) _ (was .to) (was .to + 7) (now (args .list)) (was .k) (c .before .before .before .before .before .loop-test .taken) (c .before .before .number-line .ensures) refl
+          lines-turn (λ s. args .kind ∷ number s) 0 (was .text) _ (was .to) (was .to + stateLine) (now (args .list)) (was .k) (c .before .before .before .before .before .loop-test .taken) (c .before .before .number-line .ensures) refl
               ∙ was .inv .1 .1 .1,
         ),
       ),

@@ -41,6 +41,9 @@ mul-result-2 c = let h = held (c .before .before .before) in omega arith
 add-result-2 : tie.Need-add-result-2
 add-result-2 c = let h = held (c .before .before .before) in omega arith
 
+add-result-3 : tie.Need-add-result-3
+add-result-3 c = let h = held (c .before .before .before) in omega arith
+
 returns : tie.Need-returns
 returns c = let h = held (c .before .before .before) in omega arith
 
@@ -59,4 +62,5 @@ text-size-spec =
     cast-result
     mul-result-2
     add-result-2
+    add-result-3
     returns)
