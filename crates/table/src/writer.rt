@@ -3,9 +3,12 @@ use destination::Answer;
 use refusal::Refusal;
 use refusal::StateCause;
 use table_format::ARC_LINE;
+use table_format::END_KIND;
 use table_format::HEADER_LINE;
+use table_format::INITIAL_KIND;
 use table_format::INITIALS_AT;
 use table_format::STATE_LINE;
+use table_format::TERMINAL_KIND;
 ghost use mathlib.Core.Path.{_≡_};
 ghost use mathlib.Core.Option.{some};
 ghost use mathlib.Core.List.{_++_};
@@ -40,12 +43,17 @@ fn write_table(cells: &[u16], text: &mut [u8])
     let initials_end = table_printer::state_lines(
         text,
         HEADER_LINE,
-        2,
+        INITIAL_KIND,
         &cells[INITIALS_AT..terminals],
     );
-    let terminals_end = table_printer::state_lines(text, initials_end, 3, &cells[terminals..arcs]);
+    let terminals_end = table_printer::state_lines(
+        text,
+        initials_end,
+        TERMINAL_KIND,
+        &cells[terminals..arcs],
+    );
     let arcs_end = table_printer::arc_lines(text, terminals_end, &cells[arcs..end]);
-    table_printer::number_line(text, arcs_end, 5, lines);
+    table_printer::number_line(text, arcs_end, END_KIND, lines);
 }
 
 // A loaded table's text, from the front of the destination: 20, then 24.

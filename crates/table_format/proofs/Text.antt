@@ -10,8 +10,8 @@ use Rattle.table_format.specs.Table.{Arc, Table, Counts, countsOf}
 use Rattle.table_format.specs.Rules.{keepsRules}
 use Rattle.table_format.specs.Index.{tabulate}
 use Rattle.table_format.specs.Line.{lineText, charactersOf}
-use Rattle.table_format.specs.Text.{number, headerBytes, initialBytes, terminalBytes, arcBytes, endBytes, linesBefore, itemLines, joinLines, textOf}
-use Rattle.table_format.specs.Parse.{hasForm, isHeader, LineKind, initial, terminal, arc, end, numberAt, countsFrom, arcFrom, codeOf, widthOf, isOf, headerLine, stateLine, arcLine}
+use Rattle.table_format.specs.Text.{number, headerBytes, initialBytes, terminalBytes, arcBytes, endBytes, lineBytes, linesBefore, itemLines, joinLines, textOf}
+use Rattle.table_format.specs.Parse.{hasForm, headerKind, isHeader, LineKind, initial, terminal, arc, end, numberAt, countsFrom, arcFrom, codeOf, widthOf, isOf, headerLine, stateLine, arcLine}
 use Rattle.table_format.proofs.All.{All, all-append, all-map, all-getD}
 use Rattle.table_format.proofs.Rules.{Bounded, ArcBounded, table-bounded, initials-below, terminals-below, arcs-bounded}
 use Rattle.table_format.proofs.Line.{IsByte, Bytes, length-chars}
@@ -67,16 +67,16 @@ module _ (b : List ℕ) (small : All IsByte b) where
 
   pub header-only : isHeader b ≡ true → b ≡ headerBytes (countsFrom b)
   header-only e =
-      let p = form-parts 1 9 b e in
+      let p = form-parts headerKind lineBytes b e in
       p .1 ∙ sym (λ i. sym (p .0) i ∷ (number-here 1 i ++ (number-here 3 i ++ (number-here 5 i ++ number-here 7 i))))
 
   pub arc-only : isOf arc b ≡ true → b ≡ arcBytes (arcFrom b)
   arc-only e =
-      let p = form-parts 4 7 b e in
+      let p = form-parts (codeOf arc) (widthOf arc) b e in
       p .1 ∙ sym (λ i. sym (p .0) i ∷ (number-here 1 i ++ (getD b 3 0 ∷ getD b 4 0 ∷ number-here 5 i)))
 
   -- a line of one number
-  short-only : (k : LineKind) → widthOf k ≡ 3 → isOf k b ≡ true → b ≡ codeOf k ∷ number (numberAt b 1)
+  short-only : (k : LineKind) → widthOf k ≡ widthOf initial → isOf k b ≡ true → b ≡ codeOf k ∷ number (numberAt b 1)
   short-only k w e =
       let p = form-parts (codeOf k) (widthOf k) b e in
       p .1 ∙ ap (tabulate (λ i. getD b i 0) 0) w ∙ sym (λ i. sym (p .0) i ∷ number-here 1 i)

@@ -32,8 +32,12 @@ hasForm code width b = eqb (getD b 0 0) code && eqb (length b) width
 abbrev pub inPlace : Bool → List InputCause → List InputCause
 inPlace has faults = cond has faults (Misplaced ∷ [])
 
+-- the first byte of the header line
+abbrev pub headerKind : ℕ
+headerKind = 1
+
 abbrev pub isHeader : List ℕ → Bool
-isHeader b = hasForm 1 lineBytes b
+isHeader b = hasForm headerKind lineBytes b
 
 -- The kinds of the lines after the header's, each with its first byte and its length.
 

@@ -12,6 +12,21 @@ pub const INITIALS_AT: usize = 4;
 // The most cells of a table: 256 initial states, 256 terminal states, 1,024 arcs.
 pub const MOST_CELLS: usize = 4612;
 
+// The first byte of the header line.
+pub const HEADER_KIND: u8 = 1;
+
+// Of an initial state's line.
+pub const INITIAL_KIND: u8 = 2;
+
+// Of a terminal state's line.
+pub const TERMINAL_KIND: u8 = 3;
+
+// Of an arc's line.
+pub const ARC_KIND: u8 = 4;
+
+// Of the end line.
+pub const END_KIND: u8 = 5;
+
 // The most bytes of a line of a table's text: the header's.
 pub const LINE_BYTES: usize = 9;
 

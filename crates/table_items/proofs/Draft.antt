@@ -17,7 +17,7 @@ use Rattle.table_format.proofs.Arcs.{at-equal}
 use Rattle.table_format.proofs.Rules.{Bounded, counts-bounded}
 use Rattle.table_format.proofs.Loaded.{arcs-in, length-arcs-cells}
 use Rattle.table_format.proofs.Parse.{due-initial, due-terminal, due-arc, due-end}
-use Rattle.table_items.proofs.LineKinds.{after-two, after-three, after-four, after-five, kind-one}
+use Rattle.table_items.proofs.LineKinds.{after-initial, after-terminal, after-arc, after-end, kind-one}
 use Rattle.table_items.proofs.Filled.{length-filled, take-filled}
 
 -- Lists.
@@ -113,10 +113,10 @@ module _ {c : Counts} {t : Table} {lines filled top : ℕ} {cells : List ℕ} (T
   kind-due = go (due c t) lists-due
     where
       go : (k : LineKind) → Lists c t k → kindAfter c lines ≡ codeOf k
-      go initial l = after-two c lines (omega (arith, T .lines-is, l .0, ap length (l .1), ap length (l .2)))
-      go terminal l = after-three c lines (omega (arith, T .lines-is, l .0)) (omega (arith, T .lines-is, l .0, l .1, ap length (l .2)))
-      go arc l = after-four c lines (omega (arith, T .lines-is, l .0, l .1)) (omega (arith, T .lines-is, l .0, l .1, l .2))
-      go end l = after-five c lines (omega (arith, T .lines-is, l .0, l .1, l .2))
+      go initial l = after-initial c lines (omega (arith, T .lines-is, l .0, ap length (l .1), ap length (l .2)))
+      go terminal l = after-terminal c lines (omega (arith, T .lines-is, l .0)) (omega (arith, T .lines-is, l .0, l .1, ap length (l .2)))
+      go arc l = after-arc c lines (omega (arith, T .lines-is, l .0, l .1)) (omega (arith, T .lines-is, l .0, l .1, l .2))
+      go end l = after-end c lines (omega (arith, T .lines-is, l .0, l .1, l .2))
 
   -- The items before the one that is due, as parts of the cells.
 
@@ -152,14 +152,14 @@ module _ {c : Counts} {t : Table} {lines filled top : ℕ} {cells : List ℕ} (T
   states-held = ap (λ (x : Counts). x .states) counts-held ∙ sym (T .states-is)
 
   -- the places of the parts
-  pub terminals-from : 3 ≡ codeOf (due c t) → terminalsAt (countsIn cells) ≤ filled
+  pub terminals-from : codeOf terminal ≡ codeOf (due c t) → terminalsAt (countsIn cells) ≤ filled
   terminals-from k =
-      let l : Lists c t terminal = subst (Lists c t) (kind-one 3 (due c t) k) lists-due in
+      let l : Lists c t terminal = subst (Lists c t) (kind-one (codeOf terminal) (due c t) k) lists-due in
       omega (arith, filled-at, l .0, ap (λ (x : Counts). x .initials) counts-held)
 
-  pub arcs-start : 4 ≡ codeOf (due c t) → arcsAt (countsIn cells) ≤ filled
+  pub arcs-start : codeOf arc ≡ codeOf (due c t) → arcsAt (countsIn cells) ≤ filled
   arcs-start k =
-      let l : Lists c t arc = subst (Lists c t) (kind-one 4 (due c t) k) lists-due in
+      let l : Lists c t arc = subst (Lists c t) (kind-one (codeOf arc) (due c t) k) lists-due in
       omega (arith, filled-at, l .0, l .1, ap (λ (x : Counts). x .initials) counts-held, ap (λ (x : Counts). x .terminals) counts-held)
 
   pub cells-enough : filled ≤ length cells

@@ -20,26 +20,26 @@ use Rattle.table_items.specs.Draft.{kindAfter, IsItem, itemCells, itemKe
 -- The kind after some lines.
 
 module _ (c : Counts) (lines : ℕ) where
-  pub after-two : lines ≤ c .initials → kindAfter c lines ≡ 2
+  pub after-initial : lines ≤ c .initials → kindAfter c lines ≡ codeOf initial
   unfolding kindAfter
-  after-two h = simp (le-leb lines (c .initials) h)
+  after-initial h = simp (le-leb lines (c .initials) h)
 
-  pub after-three : c .initials < lines → lines ≤ c .initials + c .terminals → kindAfter c lines ≡ 3
+  pub after-terminal : c .initials < lines → lines ≤ c .initials + c .terminals → kindAfter c lines ≡ codeOf terminal
   unfolding kindAfter
-  after-three h k = simp (lt-leb lines (c .initials) h, le-leb lines (c .initials + c .terminals) k)
+  after-terminal h k = simp (lt-leb lines (c .initials) h, le-leb lines (c .initials + c .terminals) k)
 
-  pub after-four : c .initials + c .terminals < lines → lines ≤ c .initials + c .terminals + c .arcs → kindAfter c lines ≡ 4
+  pub after-arc : c .initials + c .terminals < lines → lines ≤ c .initials + c .terminals + c .arcs → kindAfter c lines ≡ codeOf arc
   unfolding kindAfter
-  after-four h k = simp (lt-leb lines (c .initials) (omega arith), lt-leb lines (c .initials + c .terminals) h, le-leb lines (c .initials + c .terminals + c .arcs) k)
+  after-arc h k = simp (lt-leb lines (c .initials) (omega arith), lt-leb lines (c .initials + c .terminals) h, le-leb lines (c .initials + c .terminals + c .arcs) k)
 
-  pub after-five : c .initials + c .terminals + c .arcs < lines → kindAfter c lines ≡ 5
+  pub after-end : c .initials + c .terminals + c .arcs < lines → kindAfter c lines ≡ codeOf end
   unfolding kindAfter
-  after-five h = simp (lt-leb lines (c .initials) (omega arith), lt-leb lines (c .initials + c .terminals) (omega arith), lt-leb lines (c .initials + c .terminals + c .arcs) h)
+  after-end h = simp (lt-leb lines (c .initials) (omega arith), lt-leb lines (c .initials + c .terminals) (omega arith), lt-leb lines (c .initials + c .terminals + c .arcs) h)
 
 -- Kinds by their first byte.
 
 abbrev kindFor : ℕ → LineKind
-kindFor n = cond (eqb n 2) initial (cond (eqb n 3) terminal (cond (eqb n 4) arc end))
+kindFor n = cond (eqb n (codeOf initial)) initial (cond (eqb n (codeOf terminal)) terminal (cond (eqb n (codeOf arc)) arc end))
 
 kind-for : (k : LineKind) → kindFor (codeOf k) ≡ k
 kind-for initial = refl
@@ -52,19 +52,19 @@ kind-one n k e = sym (kind-for k) ∙ ap kindFor (sym e)
 
 -- Kinds that are none of the others.
 
-pub width-three : (k : LineKind) → (codeOf k ≡ 4 → ⊥) → widthOf k ≡ 3
-width-three initial h = refl
-width-three terminal h = refl
-width-three arc h = absurd (h refl)
-width-three end h = refl
+pub width-state : (k : LineKind) → (codeOf k ≡ codeOf arc → ⊥) → widthOf k ≡ widthOf initial
+width-state initial h = refl
+width-state terminal h = refl
+width-state arc h = absurd (h refl)
+width-state end h = refl
 
-pub end-only : (k : LineKind) → (codeOf k ≡ 2 → ⊥) → (codeOf k ≡ 3 → ⊥) → (codeOf k ≡ 4 → ⊥) → k ≡ end
+pub end-only : (k : LineKind) → (codeOf k ≡ codeOf initial → ⊥) → (codeOf k ≡ codeOf terminal → ⊥) → (codeOf k ≡ codeOf arc → ⊥) → k ≡ end
 end-only initial f g h = absurd (f refl)
 end-only terminal f g h = absurd (g refl)
 end-only arc f g h = absurd (h refl)
 end-only end f g h = refl
 
-pub item-only : (k : LineKind) → (codeOf k ≡ 5 → ⊥) → IsItem k
+pub item-only : (k : LineKind) → (codeOf k ≡ codeOf end → ⊥) → IsItem k
 item-only initial f = tt
 item-only terminal f = tt
 item-only arc f = tt
@@ -72,13 +72,13 @@ item-only end f = absurd (f refl)
 
 -- What a line of an item adds to the cells, and its key.
 
-pub cells-one : (k : LineKind) (b : List ℕ) (n : ℕ) → (codeOf k ≡ 4 → ⊥) → IsItem k → n ≡ numberAt b 1 → itemCells k b ≡ n ∷ []
+pub cells-one : (k : LineKind) (b : List ℕ) (n : ℕ) → (codeOf k ≡ codeOf arc → ⊥) → IsItem k → n ≡ numberAt b 1 → itemCells k b ≡ n ∷ []
 cells-one initial b n h i e = ap (λ (m : ℕ). m ∷ []) (sym e)
 cells-one terminal b n h i e = ap (λ (m : ℕ). m ∷ []) (sym e)
 cells-one arc b n h i e = absurd (h refl)
 cells-one end b n h i e = absurd i
 
-pub key-none : (k : LineKind) (b : List ℕ) → (codeOf k ≡ 2 → ⊥) → (codeOf k ≡ 4 → ⊥) → IsItem k → itemKey k b ≤ 0
+pub key-none : (k : LineKind) (b : List ℕ) → (codeOf k ≡ codeOf initial → ⊥) → (codeOf k ≡ codeOf arc → ⊥) → IsItem k → itemKey k b ≤ 0
 key-none initial b h g i = absurd (h refl)
 key-none terminal b h g i = omega arith
 key-none arc b h g i = absurd (g refl)

@@ -24,7 +24,9 @@ draftCells c t = countCells c ++ (t .initials ++ (t .terminals ++ arcsCells (t .
 -- the first byte of the next line, by the counts and the lines so far
 unfoldable pub kindAfter : Counts → ℕ → ℕ
 kindAfter c lines =
-    cond (leb lines (c .initials)) 2 (cond (leb lines (c .initials + c .terminals)) 3 (cond (leb lines (c .initials + c .terminals + c .arcs)) 4 5))
+    codeOf
+    (cond (leb lines (c .initials)) initial
+    (cond (leb lines (c .initials + c .terminals)) terminal (cond (leb lines (c .initials + c .terminals + c .arcs)) arc end)))
 
 -- the kinds of items
 abbrev pub IsItem : LineKind → Type 0

@@ -1,8 +1,14 @@
 // One line of a text after the header's: its kind, what it earns, its item behind the cells so far, and the item's key.
 use refusal::InputCause;
+use table_format::ARC_BYTES;
+use table_format::ARC_KIND;
 use table_format::ARC_WIDTH;
+use table_format::END_KIND;
+use table_format::INITIAL_KIND;
 use table_format::INITIALS_AT;
 use table_format::LINE_BYTES;
+use table_format::STATE_BYTES;
+use table_format::TERMINAL_KIND;
 use table_rules::Judged;
 use table_scanner::arc_in;
 use table_scanner::number_at;
@@ -27,16 +33,16 @@ pub fn kind_due(cells: &[u16], lines: usize) -> u8
 {
     let initials = widen::cell_as_index(cells[1]);
     if lines <= initials {
-        return 2;
+        return INITIAL_KIND;
     }
     let terminals = initials + widen::cell_as_index(cells[2]);
     if lines <= terminals {
-        return 3;
+        return TERMINAL_KIND;
     }
     if lines <= terminals + widen::cell_as_index(cells[3]) {
-        return 4;
+        return ARC_KIND;
     }
-    5
+    END_KIND
 }
 
 // What an arc line earns, after the arcs before it.
@@ -64,21 +70,21 @@ pub fn item_fault(
     if bytes[0] != kind {
         return Judged::Broken(InputCause::Misplaced);
     }
-    if kind == 4 {
-        if count != 7 {
+    if kind == ARC_KIND {
+        if count != ARC_BYTES {
             return Judged::Broken(InputCause::Misplaced);
         }
         let from = INITIALS_AT + widen::cell_as_index(cells[1]) + widen::cell_as_index(cells[2]);
         return arc_item(&cells[from..filled], cells[0], bytes, top);
     }
-    if count != 3 {
+    if count != STATE_BYTES {
         return Judged::Broken(InputCause::Misplaced);
     }
     let number = number_at(bytes, 1);
-    if kind == 2 {
+    if kind == INITIAL_KIND {
         return table_rules::initial_fault(&cells[INITIALS_AT..filled], cells[0], number, top);
     }
-    if kind == 3 {
+    if kind == TERMINAL_KIND {
         let from = INITIALS_AT + widen::cell_as_index(cells[1]);
         return table_rules::terminal_fault(&cells[from..filled], cells[0], number);
     }
@@ -95,7 +101,7 @@ pub fn append(cells: &mut [u16], kind: u8, bytes: [u8; LINE_BYTES], filled: usiz
     ensures { λ r. ⌜ ((k : LineKind) (b : List ℕ) → kind ≡ codeOf k → IsItem k → bytes ≡ padded b
         → (r ≡ filled + length (itemCells k b)) × (now (cells .exit) ≡ sets (now (cells .entry)) filled (itemCells k b))) ⌝ }
 {
-    if kind != 4 {
+    if kind != ARC_KIND {
         cells[filled] = number_at(bytes, 1);
         return filled + 1;
     }
@@ -111,10 +117,10 @@ pub fn append(cells: &mut [u16], kind: u8, bytes: [u8; LINE_BYTES], filled: usiz
 pub fn item_key(kind: u8, bytes: [u8; LINE_BYTES]) -> u64
     ensures { λ r. ⌜ ((k : LineKind) (b : List ℕ) → kind ≡ codeOf k → IsItem k → bytes ≡ padded b → itemKey k b ≤ r) ⌝ }
 {
-    if kind == 2 {
+    if kind == INITIAL_KIND {
         return table_rules::state_key(number_at(bytes, 1));
     }
-    if kind == 4 {
+    if kind == ARC_KIND {
         return table_rules::arc_key(arc_in(bytes));
     }
     0

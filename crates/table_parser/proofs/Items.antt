@@ -36,7 +36,7 @@ decide-kept : (fs : List InputCause) (p : Parsed) → judged fs ≡ Kept → dec
 decide-kept [] p e = refl
 decide-kept (g ∷ fs) p e = cc
 
-not-end : (k : LineKind) → IsItem k → codeOf k ≡ 5 → ⊥
+not-end : (k : LineKind) → IsItem k → codeOf k ≡ codeOf end → ⊥
 not-end initial i e = omega arith
 not-end terminal i e = omega arith
 not-end arc i e = omega arith
@@ -67,7 +67,7 @@ module _ {c : Counts} {text : List ℕ} {start at lines filled top : ℕ} {cells
   pub drafted : {kind : ℕ} → kind ≡ codeOf (due c (R .table)) → Drafted lines filled top cells kind
   drafted e = record { counts = c; table = R .table; tracks = R .tracks; kind-is = e }
 
-  pub item-is : {kind : ℕ} → kind ≡ codeOf (due c (R .table)) → (kind ≡ 5 → ⊥) → IsItem (due c (R .table))
+  pub item-is : {kind : ℕ} → kind ≡ codeOf (due c (R .table)) → (kind ≡ codeOf end → ⊥) → IsItem (due c (R .table))
   item-is e n = item-only (due c (R .table)) (λ z. n (e ∙ z))
 
   pub out-missing : length text ≤ at → All c text start ≡ turnedDown Misplaced
@@ -77,7 +77,7 @@ module _ {c : Counts} {text : List ℕ} {start at lines filled top : ℕ} {cells
   pub out-bad : LineBad text at → All c text start ≡ turnedDown Malformed
   out-bad L = R .rest-is ∙ parse-bad (within c (R .table)) text at L
 
-  pub room : (codeOf (due c (R .table)) ≡ 5 → ⊥) → filled + arcWidth ≤ mostCells
+  pub room : (codeOf (due c (R .table)) ≡ codeOf end → ⊥) → filled + arcWidth ≤ mostCells
   room n = few (due c (R .table)) (lists-due (R .tracks)) n
     where
       b : Bounded c
@@ -86,7 +86,7 @@ module _ {c : Counts} {text : List ℕ} {start at lines filled top : ℕ} {cells
       f : filled ≡ initialsAt + length (R .table .initials) + length (R .table .terminals) + arcWidth * length (R .table .arcs)
       f = filled-at (R .tracks)
 
-      few : (k : LineKind) → Lists c (R .table) k → (codeOf k ≡ 5 → ⊥) → filled + arcWidth ≤ mostCells
+      few : (k : LineKind) → Lists c (R .table) k → (codeOf k ≡ codeOf end → ⊥) → filled + arcWidth ≤ mostCells
       few initial l h = omega (arith, f, b .states, b .initials, l .0, ap length (l .1), ap length (l .2))
       few terminal l h = omega (arith, f, b .states, b .initials, b .terminals, l .0, l .1, ap length (l .2))
       few arc l h = omega (arith, f, b .states, b .initials, b .terminals, b .arcs, l .0, l .1, l .2)

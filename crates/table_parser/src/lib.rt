@@ -1,5 +1,7 @@
 // The lines of a text to the cells of a table: each line is scanned, judged and appended.
 use refusal::InputCause;
+use table_format::END_KIND;
+use table_format::HEADER_KIND;
 use table_format::INITIALS_AT;
 use table_format::LINE_BYTES;
 use table_format::MOST_CELLS;
@@ -72,7 +74,7 @@ fn read_items(text: &[u8], start: usize, counted: [u16; MOST_CELLS]) -> Gathered
         if let Judged::Broken(fault) = judged {
             return refused(fault);
         }
-        if kind == 5 {
+        if kind == END_KIND {
             if next < text.len() {
                 return refused(after_end(text, next));
             }
@@ -119,7 +121,7 @@ pub fn read_table(text: &[u8]) -> Gathered
     if count != LINE_BYTES {
         return refused(InputCause::Misplaced);
     }
-    if bytes[0] != 1 {
+    if bytes[0] != HEADER_KIND {
         return refused(InputCause::Misplaced);
     }
     let cells = counted(bytes);

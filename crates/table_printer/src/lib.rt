@@ -1,7 +1,9 @@
 // Bytes written as lines of text: the line of any bytes, each kind of line of a table, and the lines of a list.
+use table_format::ARC_KIND;
 use table_format::ARC_LINE;
 use table_format::ARC_WIDTH;
 use table_format::Arc;
+use table_format::HEADER_KIND;
 use table_format::STATE_LINE;
 use table_format::arc_at;
 ghost use mathlib.Core.Path.{_≡_};
@@ -69,7 +71,7 @@ pub fn header_line(text: &mut [u8], cells: &[u16])
         text,
         0,
         &[
-            1,
+            HEADER_KIND,
             high(states),
             low(states),
             high(initials),
@@ -99,7 +101,7 @@ fn arc_line(text: &mut [u8], at: usize, arc: Arc)
         text,
         at,
         &[
-            4,
+            ARC_KIND,
             high(arc.source),
             low(arc.source),
             arc.upper as u8,

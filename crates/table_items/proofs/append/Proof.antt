@@ -7,7 +7,7 @@ use borrow.Author.Needs.{needs}
 use lib.Seq.{sets}
 use Rattle.table_format.specs.declared.Arc.{Arc}
 use Rattle.table_format.specs.Loaded.{arcCells}
-use Rattle.table_format.specs.Parse.{arcFrom}
+use Rattle.table_format.specs.Parse.{arc, codeOf, arcFrom}
 use Rattle.table_items.specs.Draft.{itemCells}
 use Rattle.table_scanner.proofs.Padded.{number-as, arc-as}
 use Rattle.table_items.proofs.LineKinds.{kind-one, cells-one, put-four}
@@ -81,12 +81,12 @@ same-length-2 c = simp length-set
 returns-2 : tie.Need-returns-2
 returns-2 c =
     let start = c .before .before .before in
-    let arc : Arc = c .arc-in .result in
+    let item : Arc = c .arc-in .result in
     λ k b e i p.
-    let four : itemCells k b ≡ arcCells (arcFrom (start .args .bytes)) = ap (λ j. itemCells j b) (kind-one 4 k (sym (c .before .if1 .left) ∙ e)) ∙ ap arcCells (sym (arc-as (start .args .bytes) b p)) in
-    let told : arc .source ∷ arc .upper ∷ arc .lower ∷ arc .target ∷ [] ≡ arcCells (arcFrom (start .args .bytes)) = ap (λ (a : Arc). a .source ∷ a .upper ∷ a .lower ∷ a .target ∷ []) (c .arc-in .ensures) in (
+    let four : itemCells k b ≡ arcCells (arcFrom (start .args .bytes)) = ap (λ j. itemCells j b) (kind-one (codeOf arc) k (sym (c .before .if1 .left) ∙ e)) ∙ ap arcCells (sym (arc-as (start .args .bytes) b p)) in
+    let told : item .source ∷ item .upper ∷ item .lower ∷ item .target ∷ [] ≡ arcCells (arcFrom (start .args .bytes)) = ap (λ (a : Arc). a .source ∷ a .upper ∷ a .lower ∷ a .target ∷ []) (c .arc-in .ensures) in (
       omega (arith, ap length four),
-      put-four (now (start .args .cells)) (start .args .filled) (arc .source) (arc .upper) (arc .lower) (arc .target)
+      put-four (now (start .args .cells)) (start .args .filled) (item .source) (item .upper) (item .lower) (item .target)
           ∙ ap (sets (now (start .args .cells)) (start .args .filled)) (told ∙ sym four),
     )
 

@@ -4,7 +4,7 @@ use borrow.Author.Needs.{needs}
 use Rattle.table_rules.specs.Judge.{judged}
 use Rattle.table_format.specs.Parse.{arc, codeOf, widthOf, due, itemFaults, kindFaults}
 use Rattle.table_scanner.proofs.Padded.{byte-at, number-as, arc-as}
-use Rattle.table_items.proofs.LineKinds.{kind-one, misplaced, not-code, not-wide, width-three, end-only}
+use Rattle.table_items.proofs.LineKinds.{kind-one, misplaced, not-code, not-wide, width-state, end-only}
 use Rattle.table_items.proofs.Judged.{end-right, end-wrong, judged-initial, judged-terminal, judged-arc, drafted-bounds, drafted-initials, drafted-terminals, drafted-arcs, drafted-ready}
 use Rattle.table_items.proofs.item_fault.Statement.{statement}
 use Rattle.table_items.proofs.item_fault.Tie as tie
@@ -18,8 +18,8 @@ returns c = λ d t b T e p q. sym (misplaced (itemFaults (due d t) t b) (not-cod
 returns-2 : tie.Need-returns-2
 returns-2 c =
     λ d t b T e p q.
-    let k = kind-one 4 (due d t) (sym (c .before .if2 .taken) ∙ e) in
-    sym (ap (λ x. judged (kindFaults x t b)) k ∙ misplaced (itemFaults arc t b) (not-wide 4 7 b (λ z. c .if3 .taken (q ∙ z))))
+    let k = kind-one (codeOf arc) (due d t) (sym (c .before .if2 .taken) ∙ e) in
+    sym (ap (λ x. judged (kindFaults x t b)) k ∙ misplaced (itemFaults arc t b) (not-wide (codeOf arc) (widthOf arc) b (λ z. c .if3 .taken (q ∙ z))))
 
 shared-slice-read-cell-as-index : tie.Need-shared-slice-read-cell-as-index
 shared-slice-read-cell-as-index c =
@@ -87,7 +87,7 @@ returns-4 c =
     λ d t b T e p q.
     sym
     (misplaced (itemFaults (due d t) t b)
-    (not-wide (codeOf (due d t)) (widthOf (due d t)) b (λ z. c .if4 .taken (q ∙ z ∙ width-three (due d t) (λ y. c .before .if2 .left (e ∙ y))))))
+    (not-wide (codeOf (due d t)) (widthOf (due d t)) b (λ z. c .if4 .taken (q ∙ z ∙ width-state (due d t) (λ y. c .before .if2 .left (e ∙ y))))))
 
 number-at-requires : tie.Need-number-at-requires
 number-at-requires c κs = search needs

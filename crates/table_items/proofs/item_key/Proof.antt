@@ -4,7 +4,7 @@ use borrow.Author.Needs.{needs}
 use Rattle.table_format.specs.declared.Arc.{Arc}
 use Rattle.table_rules.specs.Judge.{arcKey}
 use Rattle.table_format.specs.Cells.{arcSaid}
-use Rattle.table_format.specs.Parse.{arcFrom}
+use Rattle.table_format.specs.Parse.{initial, arc, codeOf, arcFrom}
 use Rattle.table_items.specs.Draft.{itemKey}
 use Rattle.table_scanner.proofs.Padded.{number-as, arc-as}
 use Rattle.table_items.proofs.LineKinds.{kind-one, key-none}
@@ -21,7 +21,7 @@ returns : tie.Need-returns
 returns c =
     λ k b e i p.
     omega
-    (arith, ap (λ j. itemKey j b) (kind-one 2 k (sym (c .before .before .if1 .taken) ∙ e)), c .state-key .ensures, c .before .number-at .ensures, number-as (c .before .before .before .args .bytes) b p 1 (omega arith))
+    (arith, ap (λ j. itemKey j b) (kind-one (codeOf initial) k (sym (c .before .before .if1 .taken) ∙ e)), c .state-key .ensures, c .before .number-at .ensures, number-as (c .before .before .before .args .bytes) b p 1 (omega arith))
 
 arc-in-requires : tie.Need-arc-in-requires
 arc-in-requires c κs = search needs
@@ -34,7 +34,7 @@ returns-2 c =
     let bytes = c .before .before .before .before .args .bytes in
     λ k b e i p.
     let told : c .arc-key .result ≡ arcKey (arcFrom bytes) = c .arc-key .ensures ∙ ap (λ (a : Arc). arcKey (arcSaid a)) (c .before .arc-in .ensures) in
-    omega (arith, ap (λ j. itemKey j b) (kind-one 4 k (sym (c .before .before .if2 .taken) ∙ e)), told, ap arcKey (arc-as bytes b p))
+    omega (arith, ap (λ j. itemKey j b) (kind-one (codeOf arc) k (sym (c .before .before .if2 .taken) ∙ e)), told, ap arcKey (arc-as bytes b p))
 
 returns-3 : tie.Need-returns-3
 returns-3 c = λ k b e i p. key-none k b (λ z. c .before .if1 .left (e ∙ z)) (λ z. c .if2 .left (e ∙ z)) i

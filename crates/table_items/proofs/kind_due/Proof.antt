@@ -3,7 +3,7 @@ use mathlib.Core.Path.{sym}
 use denote.Ref.{now}
 use borrow.Author.Needs.{needs}
 use Rattle.table_format.specs.Loaded.{countsIn}
-use Rattle.table_items.proofs.LineKinds.{after-two, after-three, after-four, after-five}
+use Rattle.table_items.proofs.LineKinds.{after-initial, after-terminal, after-arc, after-end}
 use Rattle.table_items.proofs.kind_due.Statement.{statement}
 use Rattle.table_items.proofs.kind_due.Tie as tie
 
@@ -14,7 +14,7 @@ cell-as-index-requires : tie.Need-cell-as-index-requires
 cell-as-index-requires c κs = search needs
 
 returns : tie.Need-returns
-returns c = sym (after-two (countsIn (now (c .before .before .before .before .args .cells))) (c .before .before .before .before .args .lines) (omega (arith, c .before .cell-as-index .ensures .0)))
+returns c = sym (after-initial (countsIn (now (c .before .before .before .before .args .cells))) (c .before .before .before .before .args .lines) (omega (arith, c .before .cell-as-index .ensures .0)))
 
 shared-slice-read-cell-as-index-2 : tie.Need-shared-slice-read-cell-as-index-2
 shared-slice-read-cell-as-index-2 c = search needs
@@ -26,7 +26,7 @@ add-terminals : tie.Need-add-terminals
 add-terminals c = search needs
 
 returns-2 : tie.Need-returns-2
-returns-2 c = sym (after-three (countsIn (now (c .before .before .before .before .before .before .before .args .cells))) (c .before .before .before .before .before .before .before .args .lines) (omega (arith, c .before .before .before .before .cell-as-index .ensures .0)) (omega (arith, c .before .before .before .before .cell-as-index .ensures .0, c .before .cell-as-index2 .ensures .0)))
+returns-2 c = sym (after-terminal (countsIn (now (c .before .before .before .before .before .before .before .args .cells))) (c .before .before .before .before .before .before .before .args .lines) (omega (arith, c .before .before .before .before .cell-as-index .ensures .0)) (omega (arith, c .before .before .before .before .cell-as-index .ensures .0, c .before .cell-as-index2 .ensures .0)))
 
 shared-slice-read-cell-as-index-3 : tie.Need-shared-slice-read-cell-as-index-3
 shared-slice-read-cell-as-index-3 c = search needs
@@ -38,10 +38,10 @@ add-if3 : tie.Need-add-if3
 add-if3 c = search needs
 
 returns-3 : tie.Need-returns-3
-returns-3 c = sym (after-four (countsIn (now (c .before .before .before .before .before .before .before .before .before .before .args .cells))) (c .before .before .before .before .before .before .before .before .before .before .args .lines) (omega (arith, c .before .before .before .before .before .before .before .cell-as-index .ensures .0, c .before .before .before .before .cell-as-index2 .ensures .0)) (omega (arith, c .before .before .before .before .before .before .before .cell-as-index .ensures .0, c .before .before .before .before .cell-as-index2 .ensures .0, c .before .cell-as-index3 .ensures .0)))
+returns-3 c = sym (after-arc (countsIn (now (c .before .before .before .before .before .before .before .before .before .before .args .cells))) (c .before .before .before .before .before .before .before .before .before .before .args .lines) (omega (arith, c .before .before .before .before .before .before .before .cell-as-index .ensures .0, c .before .before .before .before .cell-as-index2 .ensures .0)) (omega (arith, c .before .before .before .before .before .before .before .cell-as-index .ensures .0, c .before .before .before .before .cell-as-index2 .ensures .0, c .before .cell-as-index3 .ensures .0)))
 
 returns-4 : tie.Need-returns-4
-returns-4 c = sym (after-five (countsIn (now (c .before .before .before .before .before .before .before .before .before .before .args .cells))) (c .before .before .before .before .before .before .before .before .before .before .args .lines) (omega (arith, c .before .before .before .before .before .before .before .cell-as-index .ensures .0, c .before .before .before .before .cell-as-index2 .ensures .0, c .before .cell-as-index3 .ensures .0)))
+returns-4 c = sym (after-end (countsIn (now (c .before .before .before .before .before .before .before .before .before .before .args .cells))) (c .before .before .before .before .before .before .before .before .before .before .args .lines) (omega (arith, c .before .before .before .before .before .before .before .cell-as-index .ensures .0, c .before .before .before .before .cell-as-index2 .ensures .0, c .before .cell-as-index3 .ensures .0)))
 
 pub kind-due-spec : {M : Type 1} → statement M
 kind-due-spec =

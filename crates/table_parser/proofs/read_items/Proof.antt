@@ -11,7 +11,7 @@ use Rattle.table_format.specs.Loaded.{countsIn}
 use Rattle.table_format.specs.Line.{bytesOf}
 use Rattle.table_format.specs.Text.{lineBytes}
 use Rattle.table_rules.specs.Judge.{judged}
-use Rattle.table_format.specs.Parse.{LineKind, codeOf, due, kindFaults, turnedDown}
+use Rattle.table_format.specs.Parse.{LineKind, end, codeOf, due, kindFaults, turnedDown}
 use Rattle.refusal.specs.declared.InputCause.{InputCause}
 use Rattle.table_scanner.specs.Scan.{padded}
 use Rattle.table_items.specs.Draft.{IsItem, itemKey}
@@ -117,18 +117,18 @@ refused-requires-3 c κs = search needs
 
 returns-3 : tie.Need-returns-3 Inv-loop μ-loop
 returns-3 c =
-    let end = c .before .before .before in
-    let fault = end .before .before .before in
+    let last = c .before .before .before in
+    let fault = last .before .before .before in
     let here = fault .before .before .before .before .before .before .before .before .before .before .before in
     c .refused3 .ensures ∙ ap (λ (f : InputCause). gathered (turnedDown f)) (c .before .after-end .ensures)
-    ∙ ap gathered (sym (out-after (here .loop .inv) (line (fault .before .before .before .before .before)) (earns fault ∙ end .before .enum-told2 .given .1) (kind-one 5 (kind here) (sym (end .if1 .taken) ∙ kind-is (fault .before .before))) (c .before .before .if2 .taken)))
+    ∙ ap gathered (sym (out-after (here .loop .inv) (line (fault .before .before .before .before .before)) (earns fault ∙ last .before .enum-told2 .given .1) (kind-one (codeOf end) (kind here) (sym (last .if1 .taken) ∙ kind-is (fault .before .before))) (c .before .before .if2 .taken)))
 
 returns-4 : tie.Need-returns-4 Inv-loop μ-loop
 returns-4 c =
-    let end = c .before in
-    let fault = end .before .before .before in
+    let last = c .before in
+    let fault = last .before .before .before in
     let here = fault .before .before .before .before .before .before .before .before .before .before .before in
-    out-end (here .loop .inv) (line (fault .before .before .before .before .before)) (earns fault ∙ end .before .enum-told2 .given .1) (kind-one 5 (kind here) (sym (end .if1 .taken) ∙ kind-is (fault .before .before))) (c .if2 .left)
+    out-end (here .loop .inv) (line (fault .before .before .before .before .before)) (earns fault ∙ last .before .enum-told2 .given .1) (kind-one (codeOf end) (kind here) (sym (last .if1 .taken) ∙ kind-is (fault .before .before))) (c .if2 .left)
 
 item-key-requires : tie.Need-item-key-requires Inv-loop μ-loop
 item-key-requires c κs = search needs

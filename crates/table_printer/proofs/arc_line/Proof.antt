@@ -1,6 +1,7 @@
 -- A kind, the two bytes of a state, two letters, and the two bytes of a state.
 use mathlib.Core.List.{[], _∷_}
 use borrow.Author.Needs.{needs}
+use Rattle.table_format.specs.Parse.{arc, codeOf}
 use Rattle.table_printer.proofs.Lines.{line-as}
 use Rattle.table_printer.proofs.arc_line.Statement.{statement}
 use Rattle.table_printer.proofs.arc_line.Tie as tie
@@ -34,8 +35,8 @@ same-length c = search needs
 
 returns : tie.Need-returns
 returns c =
-    let arc = c .before .before .before .before .before .before .before .before .before .before .before .before .args .arc in
-    line-as _ _ _ _ _ (λ i. 4 ∷ c .before .before .before .before .before .before .before .before .before .high .ensures i ∷ c .before .before .before .before .before .before .before .before .low .ensures i ∷ arc .upper ∷ arc .lower ∷ c .before .before .before .before .before .high2 .ensures i ∷ c .before .before .before .before .low2 .ensures i ∷ []) (c .before .before .put-line .ensures .1)
+    let given = c .before .before .before .before .before .before .before .before .before .before .before .before .args .arc in
+    line-as _ _ _ _ _ (λ i. codeOf arc ∷ c .before .before .before .before .before .before .before .before .before .high .ensures i ∷ c .before .before .before .before .before .before .before .before .low .ensures i ∷ given .upper ∷ given .lower ∷ c .before .before .before .before .before .high2 .ensures i ∷ c .before .before .before .before .low2 .ensures i ∷ []) (c .before .before .put-line .ensures .1)
 
 pub arc-line-spec : {M : Type 1} → statement M
 arc-line-spec =
