@@ -1,13 +1,13 @@
 -- Laws of a walk that notes each state's place until a state comes again: from its place on it is a cycle.
 use Prim.Native.Nat.{ℕ, zero, suc, _+_, _-_, _<_, _≤_}
 use native.Mathlib.Omega.{arith}
-use native.Mathlib.Numerals.{add-one}
-use mathlib.Core.Path.{_≡_, refl, sym, ap, subst, _∙_}
+use native.Mathlib.Numerals.{add-one, unary-clauses}
+use mathlib.Core.Path.{_≡_, refl, sym, ap, ap₂, subst, _∙_}
 use mathlib.Core.Bool.{Bool, true, false}
 use mathlib.Core.List.{List, [], _∷_, _++_, List·Memᴰ}
 use lib.Dec.{eqb, ltb}
 use lib.ListN.{length, getD, set, take, drop, replicate, length-set, length-drop, length-replicate, getD-replicate}
-use lib.Seq.{getD-set-same, getD-set-other, getD-take, getD-drop, length-take-le, take-suc, set-at, append-snoc}
+use lib.Seq.{getD-set-same, getD-set-other, getD-take, getD-drop, length-take-le}
 use borrow.Author.Tests.{eqb-true, eqb-false, ltb-true, ltb-false}
 use Rattle.graph.specs.Lists.{Distinct}
 use Rattle.graph.specs.Walk.{Through, Walk}
@@ -45,6 +45,11 @@ zeros-replicate : (n : ℕ) → zeros (replicate n 0) ≡ n
 zeros-replicate zero = refl
 zeros-replicate (suc n) = ap suc (zeros-replicate n)
 
+drop-replicate : (m k : ℕ) → drop k (replicate {A = ℕ} m 0) ≡ replicate (m - k) 0
+drop-replicate m zero = simp unary-clauses refl
+drop-replicate zero (suc k) = ap (λ (n : ℕ). replicate n 0) {x = 0} {y = 0 - suc k} (omega arith)
+drop-replicate (suc m) (suc k) = simp unary-clauses (drop-replicate m k)
+
 -- Lists by their places.
 
 distinct-places : (l : List ℕ) → ((i j : ℕ) → i < length l → j < length l → getD l i 0 ≡ getD l j 0 → i ≡ j) → Distinct l
@@ -54,37 +59,14 @@ distinct-places (x ∷ xs) f = (apart, distinct-places xs (λ i j h k e. let z :
     apart : List·Memᴰ x xs → ⊥
     apart m = let P = mem-at xs x 0 m in let k : P .0 < length xs = P .1 in let z : 0 ≡ suc (P .0) = f 0 (suc (P .0)) (omega arith) (omega arith) (sym (P .2)) in omega arith
 
--- the states of a walk from one place on, filled up with 0
-pub part-begins : (order : List ℕ) (from : ℕ) → replicate 256 0 ≡ take 0 (drop from order) ++ replicate 256 0
-part-begins order from = refl
-
-pub part-more : (order : List ℕ) (from k : ℕ) → from + k < length order → k < 256
-    → set (take k (drop from order) ++ replicate (256 - k) 0) k (getD order (from + k) 0) ≡ take (k + 1) (drop from order) ++ replicate (256 - (k + 1)) 0
-part-more order from k h g =
-    ap (λ (m : ℕ). set (take k (drop from order) ++ replicate m 0) k (getD order (from + k) 0)) {x = 256 - k} {y = suc (256 - (k + 1))} (omega arith)
-    ∙ set-at (take k (drop from order)) 0 (replicate (256 - (k + 1)) 0) (getD order (from + k) 0) k (length-take-le k (drop from order) inside)
-    ∙ sym (append-snoc (take k (drop from order)) (getD order (from + k) 0) (replicate (256 - (k + 1)) 0))
-    ∙ ap (λ (l : List ℕ). l ++ replicate (256 - (k + 1)) 0) (sym longer)
-  where
-    inside : k ≤ length (drop from order)
-    inside = let e = length-drop from order in omega arith
-
-    longer : take (k + 1) (drop from order) ≡ take k (drop from order) ++ (getD order (from + k) 0 ∷ [])
-    longer =
-        let e = length-drop from order in
-        ap (λ (m : ℕ). take m (drop from order)) (add-one k) ∙ take-suc (drop from order) k 0 (omega arith)
-        ∙ ap (λ (x : ℕ). take k (drop from order) ++ (x ∷ [])) (getD-drop from order k 0)
-
-pub part-ends : (order : List ℕ) (from end k : ℕ) (states : List ℕ) → from ≤ end → end ≤ length order → k ≡ end - from → states ≡ take k (drop from order) ++ replicate (256 - k) 0
-    → _≡_ {A = Cycle} (record { states = states; length = k }) (cycleCells (take (end - from) (drop from order)))
-part-ends order from end k states h g e s =
-    let long : length (take (end - from) (drop from order)) ≡ end - from = length-take-le (end - from) (drop from order) (let d = length-drop from order in omega arith) in
-    ap (λ (l : List ℕ). cyc l k) (s ∙ ap (λ (m : ℕ). take m (drop from order) ++ replicate (256 - m) 0) e)
-    ∙ ap (λ (m : ℕ). cyc (take (end - from) (drop from order) ++ replicate (256 - (end - from)) 0) m) e
-    ∙ ap (λ (m : ℕ). cyc (take (end - from) (drop from order) ++ replicate (256 - m) 0) m) (sym long)
-  where
-    cyc : List ℕ → ℕ → Cycle
-    cyc l n = record { states = l; length = n }
+-- the states of a walk from one place up to another, copied to the front of zeros
+pub part-copied : (order : List ℕ) (from end : ℕ) (states : List ℕ) → end ≤ length order
+    → states ≡ take (end - from) (drop from order) ++ drop (length (take (end - from) (drop from order))) (replicate 256 0)
+    → _≡_ {A = Cycle} (record { states = states; length = end - from }) (cycleCells (take (end - from) (drop from order)))
+part-copied order from end states h e =
+    let part : List ℕ = take (end - from) (drop from order) in
+    let size : length part ≡ end - from = length-take-le (end - from) (drop from order) (let d = length-drop from order in omega arith) in
+    ap₂ (λ (l : List ℕ) (n : ℕ). record { states = l; length = n }) (e ∙ ap (λ (l : List ℕ). part ++ l) (drop-replicate 256 (length part))) (sym size)
 
 module _ (arcs : List ℕ) (upper lower : Bool) (alive : List ℕ) where
   through-places : (s : ℕ) (l : List ℕ) (r : ℕ) → ((i : ℕ) → i + 1 < length (s ∷ l) → IdleEdge arcs upper lower (getD (s ∷ l) i 0) (getD (s ∷ l) (i + 1) 0)) → IdleEdge arcs upper lower (getD (s ∷ l) (length l) 0) r

@@ -32,14 +32,10 @@ fn part(order: &[u16], from: usize, end: usize) -> Cycle
     ensures { λ r. ⌜ r ≡ cycleCells (take (end - from) (drop from (now (order .entry)))) ⌝ }
 {
     let mut states = [0u16; 256];
-    let mut k = 0;
-    while from + k < end {
-        states[k] = order[from + k];
-        k += 1;
-    }
+    destination::copy_cells(&order[from..end], &mut states);
     Cycle {
         states,
-        length: k as u32,
+        length: (end - from) as u32,
     }
 }
 
