@@ -14,6 +14,7 @@ use Rattle.table_format.specs.declared.Arc as held
 use Rattle.table_format.specs.Cells.{arcHeld, arcCount, arcOf, arcsAs}
 use Rattle.table_format.proofs.Arcs.{length-arcs, getD-arcs}
 use Rattle.graph.specs.Walk.{Among}
+use Rattle.graph.proofs.Lists.{below-more}
 use Rattle.graph.proofs.Walk.{rotated}
 use Rattle.machine.specs.Idle.{sideIdle}
 use Rattle.machine.proofs.Transducer.{at-mem, mem-at}
@@ -69,11 +70,7 @@ total-set (x ∷ xs) (suc i) h e = let r : total (set xs i 0) < total xs = total
 
 -- a test that fails from one place up to another
 pub fails-more : (f : ℕ → Bool) (from n : ℕ) → ((i : ℕ) → from ≤ i → i < n → f i ≡ false) → f n ≡ false → (i : ℕ) → from ≤ i → i < n + 1 → f i ≡ false
-fails-more f from n F e i h k = go (eqb i n) refl
-  where
-    go : (b : Bool) → eqb i n ≡ b → f i ≡ false
-    go true w = ap f (eqb-true i n w) ∙ e
-    go false w = let d : i ≡ n → ⊥ = eqb-false i n w in F i h (omega arith)
+fails-more f from n F e i h k = below-more (λ (j : ℕ). from ≤ j → f j ≡ false) n (λ j b a. F j a b) (λ _. e) i k h
 
 module _ (arcs : List ℕ) (upper lower : Bool) where
   -- the edges by their numbers

@@ -2,6 +2,7 @@
 pub mod Lists
 pub mod Pigeon
 pub mod Walk
+pub mod Places
 pub mod Cycle
 pub mod Reached
 pub mod First

@@ -1,5 +1,5 @@
 -- Laws of lists.
-use Prim.Native.Nat.{ℕ, zero, suc, _<_, _≤_}
+use Prim.Native.Nat.{ℕ, zero, suc, _+_, _<_, _≤_}
 use native.Mathlib.Omega.{arith}
 use native.Mathlib.Nat.{not-suc-le-zero}
 use mathlib.Core.Path.{_≡_, refl, sym, ap, subst, _∙_}
@@ -7,9 +7,11 @@ use mathlib.Core.Logic.{_⊎_, inl, inr, ⊎-elim}
 use mathlib.Core.Bool.{Bool, true, false, cond, true≢false}
 use mathlib.Core.List.{List, [], _∷_, _++_, List·Memᴰ, List·Memᴰ·head, List·Memᴰ·tail, List·Memᴰ·not-nil, List·Memᴰ·cases-cons}
 use lib.Dec.{eqb}
+use lib.ListN.{length, getD}
 use borrow.Author.Tests.{eqb-true, eqb-false, eq-eqb}
+use Rattle.table_format.proofs.All.{mem-at}
 use Rattle.table_format.proofs.Any.{any-found, any-mem}
-use Rattle.graph.specs.Lists.{Before, member, keep, upTo, lowest}
+use Rattle.graph.specs.Lists.{Distinct, Before, member, keep, upTo, lowest}
 
 pub same? : (a b : ℕ) → (a ≡ b) ⊎ (a ≡ b → ⊥)
 same? a b = go (eqb a b) refl
@@ -17,6 +19,10 @@ same? a b = go (eqb a b) refl
     go : (c : Bool) → eqb a b ≡ c → (a ≡ b) ⊎ (a ≡ b → ⊥)
     go true e = inl (eqb-true _ _ e)
     go false e = inr (eqb-false _ _ e)
+
+-- what holds of the numbers below n and of n holds below n + 1
+pub below-more : (P : ℕ → Type 0) (n : ℕ) → ((i : ℕ) → i < n → P i) → P n → (i : ℕ) → i < n + 1 → P i
+below-more P n f e i h = ⊎-elim (λ u. subst P (sym u) e) (λ d. f i (omega arith)) (same? i n)
 
 pub among? : (s : ℕ) (l : List ℕ) → List·Memᴰ s l ⊎ (List·Memᴰ s l → ⊥)
 among? s [] = inr (λ m. List·Memᴰ·not-nil m)
@@ -76,6 +82,14 @@ lowest-is p (suc n) j h e = go (p 0) refl j h e (λ i k f. lowest-is (λ i. p (s
     go true z j h e r = record { passes = z; below = omega arith; least = λ i f. omega arith }
     go false z zero h e r = absurd (true≢false (sym e ∙ z))
     go false z (suc j) h e r = let L = r j (omega arith) e in record { passes = L .passes; below = omega (arith, L .below); least = least-suc z L }
+
+-- where different places hold different elements, none stands there twice
+pub distinct-places : (l : List ℕ) → ((i j : ℕ) → i < length l → j < length l → getD l i 0 ≡ getD l j 0 → i ≡ j) → Distinct l
+distinct-places [] f = tt
+distinct-places (x ∷ xs) f = (apart, distinct-places xs (λ i j h k e. let z : suc i ≡ suc j = f (suc i) (suc j) (omega arith) (omega arith) e in omega arith))
+  where
+    apart : List·Memᴰ x xs → ⊥
+    apart m = let P = mem-at xs x 0 m in let k : P .0 < length xs = P .1 in let z : 0 ≡ suc (P .0) = f 0 (suc (P .0)) (omega arith) (omega arith) (sym (P .2)) in omega arith
 
 -- The order of words.
 

@@ -3,17 +3,17 @@
 use Prim.Native.Nat.{ℕ, zero, suc, _+_, _≤_, _<_}
 use native.Mathlib.Omega.{arith}
 use native.Mathlib.Nat.{not-suc-le-zero}
-use mathlib.Core.Path.{_≡_, refl, sym, ap, subst, _∙_}
+use mathlib.Core.Path.{_≡_, refl, ap, subst, _∙_}
 use mathlib.Core.Bool.{Bool, true, false, cond}
-use mathlib.Core.Logic.{_↔_, ⊎-elim}
+use mathlib.Core.Logic.{_↔_}
 use mathlib.Core.Option.{Option, none, some}
-use mathlib.Core.List.{List, [], _∷_, List·Memᴰ, List·Memᴰ·not-nil, List·Memᴰ·cases-cons}
+use mathlib.Core.List.{List, [], _∷_}
 use lib.ListN.{length, getD, length-append}
 use lib.Dec.{eqb, ltb}
 use borrow.Author.Tests.{ltb-true, ltb-false, le-ltb}
 use Rattle.table_format.specs.Table.{Arc, Table, noArc}
 use Rattle.table_format.specs.Index.{below}
-pub use Rattle.table_format.proofs.All.{at-mem}
+pub use Rattle.table_format.proofs.All.{at-mem, mem-at}
 use Rattle.table_format.proofs.Ruled.{AtLeast}
 use Rattle.machine.specs.Query.{Side, upperSide, lowerSide, reads, letter, word, Query}
 use Rattle.machine.specs.Machine.{Path, start, more, size, bind, listed, datum, output, ArcOf}
@@ -70,17 +70,6 @@ arc-of t q A s n = (to, from)
         by-cases : (b : Bool) → ltb n (below s (t .arcs)) ≡ b → n < below (suc s) (t .arcs) → ArcOf (machine t q) s n
         by-cases true e x = absurd (let z : n < below s (t .arcs) = ltb-true _ _ e in omega (arith, below-to s 0 (t .arcs) n A z .1))
         by-cases false e x = let z : below s (t .arcs) ≤ n = ltb-false _ _ e in (omega arith, omega arith)
-
--- the place of an element of a list
-pub mem-at : {A : Type 0} (l : List A) (a d : A) → List·Memᴰ a l → (i : ℕ) × (i < length l) × (getD l i d ≡ a)
-mem-at [] a d m = absurd (List·Memᴰ·not-nil m)
-mem-at {A} (x ∷ xs) a d m = ⊎-elim here (λ k. there (mem-at xs a d k)) (List·Memᴰ·cases-cons m)
-  where
-    here : a ≡ x → (i : ℕ) × (i < suc (length xs)) × (getD (x ∷ xs) i d ≡ a)
-    here e = (0, omega arith, sym e)
-
-    there : (i : ℕ) × (i < length xs) × (getD xs i d ≡ a) → (i : ℕ) × (i < suc (length xs)) × (getD (x ∷ xs) i d ≡ a)
-    there r = let h : r .0 < length xs = r .1 in (suc (r .0), omega arith, r .2)
 
 -- the parts of a step that is made
 pub bind-parts : {A B : Type 0} (o : Option A) (f : A → Option B) (b : B) → bind o f ≡ some b → (a : A) × (o ≡ some a) × (f a ≡ some b)

@@ -53,3 +53,14 @@ pub at-mem : {A : Type 0} (l : List A) (i : ℕ) (d : A) → i < length l → Li
 at-mem [] i d h = absurd (omega arith)
 at-mem (x ∷ xs) zero d h = List·Memᴰ·head refl
 at-mem (x ∷ xs) (suc i) d h = List·Memᴰ·tail (at-mem xs i d (omega arith))
+
+-- the place of an element of a list
+pub mem-at : {A : Type 0} (l : List A) (a d : A) → List·Memᴰ a l → (i : ℕ) × (i < length l) × (getD l i d ≡ a)
+mem-at [] a d m = absurd (List·Memᴰ·not-nil m)
+mem-at {A} (x ∷ xs) a d m = ⊎-elim here (λ k. there (mem-at xs a d k)) (List·Memᴰ·cases-cons m)
+  where
+    here : a ≡ x → (i : ℕ) × (i < suc (length xs)) × (getD (x ∷ xs) i d ≡ a)
+    here e = (0, omega arith, sym e)
+
+    there : (i : ℕ) × (i < length xs) × (getD xs i d ≡ a) → (i : ℕ) × (i < suc (length xs)) × (getD (x ∷ xs) i d ≡ a)
+    there r = let h : r .0 < length xs = r .1 in (suc (r .0), omega arith, r .2)

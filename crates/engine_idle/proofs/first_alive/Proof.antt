@@ -5,7 +5,7 @@ use mathlib.Core.Path.{_≡_}
 use denote.Ref.{now}
 use lib.ListN.{length, getD}
 use borrow.Author.Needs.{needs}
-use Rattle.engine_idle.proofs.Cycles.{none-more}
+use Rattle.graph.proofs.Lists.{below-more}
 use Rattle.engine_idle.proofs.first_alive.Statement.{statement}
 use Rattle.engine_idle.proofs.first_alive.Tie as tie
 
@@ -31,7 +31,7 @@ loop-less : tie.Need-loop-less Inv-loop μ-loop
 loop-less c = search needs
 
 loop-again : tie.Need-loop-again Inv-loop μ-loop
-loop-again c = (omega arith, none-more (now (c .before .before .before .before .args .alive)) (c .before .before .before .loop .s) (c .before .before .before .loop .inv .1) (c .if1 .left))
+loop-again c = (omega arith, below-more (λ (i : ℕ). getD (now (c .before .before .before .before .args .alive)) i 0 ≡ 1 → ⊥) (c .before .before .before .loop .s) (c .before .before .before .loop .inv .1) (c .if1 .left))
 
 returns-2 : tie.Need-returns-2 Inv-loop μ-loop
 returns-2 c = record { lives = λ h. absurd (omega arith); none-lives = λ h s k e. c .before .loop .inv .1 s (omega arith) e }
