@@ -13,8 +13,8 @@ use Rattle.graph.specs.Walk.{Walk, CycleStates}
 use Rattle.graph.proofs.Walk.{walk-below}
 use Rattle.graph.proofs.Places.{Noted, noted-begins, noted-more, noted-closes}
 use Rattle.engine_idle.specs.declared.Cycle.{Cycle}
-use Rattle.engine_leaves.specs.Graph.{Graph, IdleEdge, Cyclic, Stable, Next}
-use Rattle.engine_leaves.proofs.Rounds.{among}
+use Rattle.engine_peel.specs.Graph.{Graph, IdleEdge, Cyclic, Stable, Next}
+use Rattle.engine_peel.proofs.Rounds.{among}
 use Rattle.engine_idle.specs.Found.{cycleCells, FirstAlive, CycleOrNone, FoundCycle}
 
 drop-replicate : (m k : ℕ) → drop k (replicate {A = ℕ} m 0) ≡ replicate (m - k) 0

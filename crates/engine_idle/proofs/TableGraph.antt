@@ -28,7 +28,7 @@ use Rattle.machine.specs.Transducer.{machine}
 use Rattle.machine.specs.Idle.{idle, Leads, CycleStates, hasIdleCycle}
 use Rattle.machine.proofs.Transducer.{arc-of, at-mem}
 use Rattle.machine.proofs.Idle.{cycle-walk, none-there, none-found}
-use Rattle.engine_leaves.specs.Graph.{Graph}
+use Rattle.engine_peel.specs.Graph.{Graph}
 use Rattle.engine_idle.specs.Found.{CycleOrNone}
 
 -- cells that hold a table hold it whole

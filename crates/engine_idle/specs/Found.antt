@@ -5,7 +5,7 @@ use mathlib.Core.Bool.{Bool}
 use mathlib.Core.List.{List, [], _∷_, _++_}
 use lib.ListN.{length, getD, replicate}
 use Rattle.graph.specs.Walk.{NoCycle, CycleStates}
-use Rattle.engine_leaves.specs.Graph.{IdleEdge}
+use Rattle.engine_peel.specs.Graph.{IdleEdge}
 use Rattle.engine_idle.specs.declared.Cycle.{Cycle}
 
 -- some states, in 256 cells

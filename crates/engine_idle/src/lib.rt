@@ -1,9 +1,9 @@
-// The search for an idle cycle. Where leaf removal (engine_leaves) leaves some states, a walk among them comes back to a state, and from
+// The search for an idle cycle. Where peeling (engine_peel) leaves some states, a walk among them comes back to a state, and from
 // there on it is a cycle. `first_alive` tells where the walk begins, `walk` makes it, `part` takes the cycle out of it.
 ghost use mathlib.Core.Path.{_≡_};
 ghost use Prim.Native.Nat.{_-_, _≤_, _<_};
 ghost use lib.ListN.{length, getD, take, drop};
-ghost use Rattle.engine_leaves.specs.Graph.{Graph, Cyclic, Stable};
+ghost use Rattle.engine_peel.specs.Graph.{Graph, Cyclic, Stable};
 ghost use Rattle.engine_idle.specs.Found.{FirstAlive, cycleCells, FoundCycle};
 
 // The states of an idle cycle, from the front; none where there is no such cycle.
@@ -55,7 +55,7 @@ fn walk(arcs: &[u16], first: &[u16], upper: bool, lower: bool, alive: &[u8], sta
         order[widen::cell_as_index(n)] = s;
         n += 1;
         place[widen::cell_as_index(s)] = n;
-        s = engine_leaves::next(arcs, first, widen::cell_as_index(s), upper, lower, alive);
+        s = engine_peel::next(arcs, first, widen::cell_as_index(s), upper, lower, alive);
         at = place[widen::cell_as_index(s)];
     }
     part(
@@ -71,7 +71,7 @@ fn among(arcs: &[u16], first: &[u16], upper: bool, lower: bool, alive: &mut [u8]
     requires { ⌜ Cyclic (now arcs) upper lower (now alive) ⌝ }
     ensures { λ r. ⌜ FoundCycle (now (arcs .entry)) upper lower r ⌝ }
 {
-    engine_leaves::settle(arcs, first, upper, lower, alive);
+    engine_peel::settle(arcs, first, upper, lower, alive);
     let s = first_alive(alive);
     if s < alive.len() {
         return walk(arcs, first, upper, lower, alive, s as u16);

@@ -24,7 +24,7 @@ use Rattle.machine.specs.Start.{firstRun, startedWith, startedAs, started, Tell
 use Rattle.machine.proofs.Asked.{loaded-rules}
 use Rattle.machine.proofs.Start.{is-started}
 use Rattle.engine_idle.specs.declared.Cycle.{Cycle}
-use Rattle.engine_leaves.specs.Graph.{Graph}
+use Rattle.engine_peel.specs.Graph.{Graph}
 use Rattle.engine_idle.specs.Found.{FoundCycle, CycleOrNone, cycleCells}
 use Rattle.engine_admission.specs.Admission.{readsAt}
 use Rattle.engine_admission.proofs.Words.{Asks, reads-of}

@@ -5,7 +5,7 @@ use mathlib.Core.Path.{sym, subst}
 use denote.Ref.{now}
 use borrow.Author.Needs.{needs}
 use Rattle.engine_idle.proofs.Cycles.{none-found}
-use Rattle.engine_leaves.specs.Graph.{Graph}
+use Rattle.engine_peel.specs.Graph.{Graph}
 use Rattle.engine_idle.proofs.among.Statement.{statement}
 use Rattle.engine_idle.proofs.among.Tie as tie
 

@@ -6,10 +6,10 @@ use denote.Ref.{now}
 use lib.ListN.{length}
 use borrow.Author.Needs.{needs}
 use lib.ListN.{length-set}
-use Rattle.engine_leaves.proofs.Rounds.{Round, round-begins, round-ends, round-dead, round-lives, round-dies}
-use Rattle.engine_leaves.specs.Graph.{Graph}
-use Rattle.engine_leaves.proofs.peel.Statement.{statement}
-use Rattle.engine_leaves.proofs.peel.Tie as tie
+use Rattle.engine_peel.proofs.Rounds.{Round, round-begins, round-ends, round-dead, round-lives, round-dies}
+use Rattle.engine_peel.specs.Graph.{Graph}
+use Rattle.engine_peel.proofs.peel.Statement.{statement}
+use Rattle.engine_peel.proofs.peel.Tie as tie
 
 abbrev Inv-loop : tie.InvT-loop
 Inv-loop arcs first upper lower alive₀ died₀ q₀ alive died q = (q ≤ length alive) × Round arcs upper lower alive₀ alive q died

@@ -2,10 +2,10 @@
 use Prim.Native.Nat.{ℕ}
 use mathlib.Core.Path.{sym, subst}
 use denote.Ref.{now}
-use Rattle.engine_leaves.proofs.Rounds.{Rounds, rounds-begin, rounds-go-on, rounds-end, left, left-less}
-use Rattle.engine_leaves.specs.Graph.{Graph}
-use Rattle.engine_leaves.proofs.settle.Statement.{statement}
-use Rattle.engine_leaves.proofs.settle.Tie as tie
+use Rattle.engine_peel.proofs.Rounds.{Rounds, rounds-begin, rounds-go-on, rounds-end, left, left-less}
+use Rattle.engine_peel.specs.Graph.{Graph}
+use Rattle.engine_peel.proofs.settle.Statement.{statement}
+use Rattle.engine_peel.proofs.settle.Tie as tie
 
 abbrev Inv-loop : tie.InvT-loop
 Inv-loop arcs first upper lower alive₀ on₀ alive on = Rounds arcs upper lower alive₀ alive on

@@ -18,7 +18,7 @@ use Rattle.graph.proofs.Lists.{below-more}
 use Rattle.graph.proofs.Walk.{rotated}
 use Rattle.machine.specs.Idle.{sideIdle}
 use Rattle.machine.proofs.Transducer.{at-mem, mem-at}
-use Rattle.engine_leaves.specs.Graph.{Graph, total, idleBy, leadsAlive, IdleEdge, Cyclic, Stable, Next, Peeled, Settled}
+use Rattle.engine_peel.specs.Graph.{Graph, total, idleBy, leadsAlive, IdleEdge, Cyclic, Stable, Next, Peeled, Settled}
 
 -- a letter on a side that is read
 pub letter-read : (read : Bool) (x : ℕ) → read ≡ true → eqb x 0 ≡ sideIdle read x

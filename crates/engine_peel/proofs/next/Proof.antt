@@ -6,9 +6,9 @@ use mathlib.Core.Bool.{false}
 use denote.Ref.{now}
 use lib.ListN.{getD}
 use borrow.Author.Needs.{needs}
-use Rattle.engine_leaves.proofs.Rounds.{fails-more, leadsAt, next-found, next-none}
-use Rattle.engine_leaves.proofs.next.Statement.{statement}
-use Rattle.engine_leaves.proofs.next.Tie as tie
+use Rattle.engine_peel.proofs.Rounds.{fails-more, leadsAt, next-found, next-none}
+use Rattle.engine_peel.proofs.next.Statement.{statement}
+use Rattle.engine_peel.proofs.next.Tie as tie
 
 abbrev Inv-loop : tie.InvT-loop
 Inv-loop arcs first q upper lower alive end n₀ n = (getD first q 0 ≤ n) × (end ≡ getD first (q + 1) 0) × ((i : ℕ) → getD first q 0 ≤ i → i < n → leadsAt arcs upper lower alive i ≡ false)

@@ -1,12 +1,12 @@
-// Leaf removal in the graph of a table's idle arcs: in rounds, a state without an idle arc to a state that remains is removed, until none
-// is. A state remains ("is alive") while its cell is 1. `leads` looks at an arc, `next` at the arcs of a state, `peel` makes a round,
+// Peeling: in the graph of a table's idle arcs, a state without an idle arc to a state that remains is removed, in rounds, until none is (leaf
+// removal). A state remains ("is alive") while its cell is 1. `leads` looks at an arc, `next` at the arcs of a state, `peel` makes a round,
 // `settle` all of them.
 ghost use mathlib.Core.Path.{_≡_};
 ghost use Prim.Native.Nat.{_<_};
 ghost use lib.ListN.{length};
 ghost use Rattle.table_format.specs.Cells.{arcCount, arcOf};
 ghost use Rattle.machine.specs.Idle.{sideIdle};
-ghost use Rattle.engine_leaves.specs.Graph.{Graph, leadsAlive, Next, Peeled, Settled};
+ghost use Rattle.engine_peel.specs.Graph.{Graph, leadsAlive, Next, Peeled, Settled};
 
 // A letter passes nothing that is read.
 fn side_idle(read: bool, letter: u16) -> bool
@@ -18,8 +18,8 @@ fn side_idle(read: bool, letter: u16) -> bool
     true
 }
 
-// Arc `n` is idle and leads to a living state. The arc is looked at again once its upper letter passes, so that the loop over arcs fetches
-// one letter of most arcs and not whole arcs.
+// Arc `n` is idle and leads to a living state. It is looked at again once its upper letter passes: of each look only the cells that are used
+// are fetched, so that the loop over arcs fetches one letter of most arcs and not whole arcs.
 fn leads(arcs: &[u16], n: usize, upper: bool, lower: bool, alive: &[u8]) -> bool
     requires { ⌜ n < arcCount (now arcs) ⌝ }
     requires { ⌜ arcOf (now arcs) n .target < length (now alive) ⌝ }

@@ -1,4 +1,4 @@
--- What leaf removal says, on the cells of a table's arcs; upper and lower tell whether a side is read.
+-- What peeling says, on the cells of a table's arcs; upper and lower tell whether a side is read.
 use Prim.Native.Nat.{ℕ, _+_, _<_, _≤_}
 use mathlib.Core.Path.{_≡_}
 use mathlib.Core.Bool.{Bool, true, false, _&&_}

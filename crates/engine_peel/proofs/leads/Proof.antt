@@ -8,9 +8,9 @@ use lib.ListN.{getD}
 use borrow.Author.Needs.{needs}
 use Rattle.table_format.specs.declared.Arc as held
 use Rattle.table_format.specs.Cells.{arcOf}
-use Rattle.engine_leaves.proofs.Rounds.{leads-by-target, lower-stops, upper-stops}
-use Rattle.engine_leaves.proofs.leads.Statement.{statement}
-use Rattle.engine_leaves.proofs.leads.Tie as tie
+use Rattle.engine_peel.proofs.Rounds.{leads-by-target, lower-stops, upper-stops}
+use Rattle.engine_peel.proofs.leads.Statement.{statement}
+use Rattle.engine_peel.proofs.leads.Tie as tie
 
 arc-at-requires : tie.Need-arc-at-requires
 arc-at-requires c κs = search needs

@@ -1,2 +1,0 @@
--- What leaf removal says.
-pub mod Graph

@@ -1,0 +1,2 @@
+-- What peeling says.
+pub mod Graph
