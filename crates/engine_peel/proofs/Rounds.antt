@@ -1,7 +1,7 @@
 -- Laws of the rounds in which states die: the arcs of a state, one state's turn in a round, and the rounds.
 use Prim.Native.Nat.{ℕ, zero, suc, _+_, _-_, _<_, _≤_}
 use native.Mathlib.Omega.{arith}
-use mathlib.Core.Path.{_≡_, refl, sym, ap, subst, _∙_}
+use mathlib.Core.Path.{_≡_, refl, sym, ap, ap₂, subst, _∙_}
 use mathlib.Core.Bool.{Bool, true, false, cond, _&&_, true≢false}
 use mathlib.Core.List.{List, [], _∷_, List·Memᴰ}
 use lib.Dec.{eqb}
@@ -31,35 +31,12 @@ letter-read read x e = go x ∙ ap (λ (b : Bool). sideIdle b x) (sym e)
 pub letter-written : (read : Bool) (x : ℕ) → read ≡ false → true ≡ sideIdle read x
 letter-written read x e = ap (λ (b : Bool). sideIdle b x) (sym e)
 
--- two tests that hold before a third; a test that fails
-both-then : (a b c : Bool) → a ≡ true → b ≡ true → c ≡ ((a && b) && c)
-both-then a b c p q = ap (λ (x : Bool). x && c) (sym (and-both p q))
-
-first-fails : (a b c : Bool) → a ≡ false → false ≡ ((a && b) && c)
-first-fails a b c p = ap (λ (x : Bool). (x && b) && c) (sym p)
-
-second-fails : (a b c : Bool) → b ≡ false → false ≡ ((a && b) && c)
-second-fails true b c p = ap (λ (x : Bool). x && c) (sym p)
-second-fails false b c p = refl
-
--- an arc that is looked at twice: its upper letter, then its lower letter and its target
-module _ (upper lower : Bool) (alive : List ℕ) (a : Arc) where
-  upper-first : (r : held.Arc) (b : Bool) → r ≡ arcHeld a → sideIdle upper (r .upper) ≡ b → sideIdle upper (a .upper) ≡ b
-  upper-first r b e w = sym (ap (λ (x : held.Arc). sideIdle upper (x .upper)) e) ∙ w
-
-  lower-then : (r : held.Arc) (b : Bool) → r ≡ arcHeld a → sideIdle lower (r .lower) ≡ b → sideIdle lower (a .lower) ≡ b
-  lower-then r b e w = sym (ap (λ (x : held.Arc). sideIdle lower (x .lower)) e) ∙ w
-
-  pub leads-by-target : (r r′ : held.Arc) → r ≡ arcHeld a → r′ ≡ arcHeld a → sideIdle upper (r .upper) ≡ true → sideIdle lower (r′ .lower) ≡ true
-      → eqb (getD alive (r′ .target) 0) 1 ≡ leadsAlive upper lower alive a
-  leads-by-target r r′ e e′ u l =
-      ap (λ (x : held.Arc). eqb (getD alive (x .target) 0) 1) e′ ∙ both-then (sideIdle upper (a .upper)) (sideIdle lower (a .lower)) _ (upper-first r true e u) (lower-then r′ true e′ l)
-
-  pub lower-stops : (r : held.Arc) → r ≡ arcHeld a → sideIdle lower (r .lower) ≡ false → false ≡ leadsAlive upper lower alive a
-  lower-stops r e l = second-fails (sideIdle upper (a .upper)) (sideIdle lower (a .lower)) (eqb (getD alive (a .target) 0) 1) (lower-then r false e l)
-
-  pub upper-stops : (r : held.Arc) → r ≡ arcHeld a → sideIdle upper (r .upper) ≡ false → false ≡ leadsAlive upper lower alive a
-  upper-stops r e u = first-fails (sideIdle upper (a .upper)) (sideIdle lower (a .lower)) (eqb (getD alive (a .target) 0) 1) (upper-first r false e u)
+-- an arc that is looked at twice, its upper letter first
+pub leads-by : (upper lower : Bool) (alive : List ℕ) (a : Arc) (r r′ : held.Arc) {x y : Bool} → r ≡ arcHeld a → r′ ≡ arcHeld a
+    → sideIdle upper (r .upper) ≡ x → sideIdle lower (r′ .lower) ≡ y → ((x && y) && eqb (getD alive (r′ .target) 0) 1) ≡ leadsAlive upper lower alive a
+leads-by upper lower alive a r r′ e e′ u l =
+    ap₂ (λ (x y : Bool). (x && y) && eqb (getD alive (r′ .target) 0) 1) (sym u) (sym l)
+    ∙ ap₂ (λ (z w : held.Arc). (sideIdle upper (z .upper) && sideIdle lower (w .lower)) && eqb (getD alive (w .target) 0) 1) e e′
 
 -- sums of cells
 pub total-set : (l : List ℕ) (i : ℕ) → i < length l → getD l i 0 ≡ 1 → total (set l i 0) < total l
