@@ -19,7 +19,7 @@ use Rattle.table_format.proofs.All.{All}
 use Rattle.table_format.proofs.Rules.{Keeps, keeps-parts}
 use Rattle.table_format.proofs.Line.{IsByte, lines-join, join-lines}
 use Rattle.table_format.proofs.Text.{number-value, header-says, header-only, end-only, lines-bytes}
-use Rattle.table_format.proofs.Parse.{parseBytes, parse-one, one-parsed, parse-lines, Said, lines-parsed, tableWith, initialPhase, terminalPhase, arcPhase, parse-items, Items, items-parsed, header-line-clear, header-onward, end-clear, end-onward, closed-parsed}
+use Rattle.table_format.proofs.Parse.{parseBytes, parse-one, one-parsed, parse-lines, ParsedLines, lines-parsed, tableWith, initialPhase, terminalPhase, arcPhase, parse-items, Items, items-parsed, header-line-clear, header-onward, end-clear, end-onward, closed-parsed}
 
 -- The text of a table that keeps the rules is read.
 
@@ -138,7 +138,7 @@ pub read-text : (x : List ℕ) (t : Table) → parsed x ≡ accepted t → (keep
 unfolding parsed textOf
 read-text x t e = go (lines-parsed opening (linesOf x) t e)
   where
-    go : Said opening (linesOf x) t → (keepsRules t ≡ true) × (x ≡ textOf t)
+    go : ParsedLines opening (linesOf x) t → (keepsRules t ≡ true) × (x ≡ textOf t)
     go s =
         let r = lines-read (s .bytes) t (s .small) (s .parse) in
         (r .0, join-lines x (s .bytes) (s .lines) ∙ ap joinLines (r .1))

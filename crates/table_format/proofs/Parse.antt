@@ -69,13 +69,13 @@ parse-lines p (b ∷ bs) h =
     ∙ ap (decide (bytesFaults p b)) (parse-lines (onward p b) bs (h .1))
 
 -- the bytes of lines that are accepted
-pub record Said (p : Progress) (ls : List Line) (t : Table) : Type 0 where
+pub record ParsedLines (p : Progress) (ls : List Line) (t : Table) : Type 0 where
   pub bytes : List (List ℕ)
   pub lines : ls ≡ map lineWith bytes
   pub small : All (All IsByte) bytes
   pub parse : parseBytes p bytes ≡ accepted t
 
-pub lines-parsed : (p : Progress) (ls : List Line) (t : Table) → parseFrom p ls ≡ accepted t → Said p ls t
+pub lines-parsed : (p : Progress) (ls : List Line) (t : Table) → parseFrom p ls ≡ accepted t → ParsedLines p ls t
 unfolding parseFrom parseBytes
 lines-parsed p [] t e = record { bytes = []; lines = refl; small = tt; parse = e }
 lines-parsed p (l ∷ ls) t e =
