@@ -45,7 +45,7 @@ use Rattle.machine.specs.declared.Run.{Run}
 use Rattle.machine.specs.declared.Called.{Called}
 use Rattle.engine.proofs.Parameters.{parameters, spells, tells}
 use Rattle.engine.proofs.Walking as Walking
-use Rattle.engine.proofs.Walking.{slice, exits, ends, fm, by-hand}
+use Rattle.engine.proofs.Walking.{slice, slice-fits, exits, ends, fm, by-hand}
 use Rattle.machine.proofs.Run as R
 use Rattle.machine.proofs.Run.Laws as R′
 use Rattle.machine.proofs.Answer as S
@@ -141,10 +141,9 @@ module _ {M : Type 1} (𝓤 : URA M) (H : Heap 𝓤) (A : Atoms 𝓤) (W : Given
         move ! (0 ∷ 1 ∷ 7 ∷ []) $ enter ! C Λ code.function passed _ $
         alloc1 ! (λ l₀. alloc1 ! (λ l₁. alloc1 ! (λ l₂. alloc1 ! (λ l₃. alloc1 ! (λ l₄. alloc1 ! (λ l₅. alloc1 ! (λ l₆.
         alloc1 ! (λ l₇. alloc1 ! (λ l₈. alloc1 ! (λ l₉. alloc1 ! (λ l₁₀. alloc1 ! (λ l₁₁. alloc1 ! (λ l₁₂. alloc1 ! (λ l₁₃. alloc0 ! $ params1 ! $
-        pass1 ! (init ! 24 refl (tt, (tt, (record { fits = rt .0 }, tt)))) $ pass1 ! (init ! 22 refl (tt, (tt, (record { fits = ru .0 }, tt)))) $
-        pass1 ! (init ! 20 refl (tt, (tt, (record { fits = rl .0 }, tt)))) $ pass1 ! (init ! 18 refl (tt, tt)) $
-        pass1 ! (init ! 16 refl (tt, (tt, (record { fits = rs .0 }, tt)))) $ pass1 ! (init ! 14 refl (tt, record { fits = n-fits })) $
-        pass1 ! (init ! 12 refl (tt, (tt, (record { fits = ro .0 }, tt)))) $ pass0 ! $
+        pass1 ! (init ! 24 refl (slice-fits (rt .0))) $ pass1 ! (init ! 22 refl (slice-fits (ru .0))) $ pass1 ! (init ! 20 refl (slice-fits (rl .0))) $
+        pass1 ! (init ! 18 refl (tt, tt)) $ pass1 ! (init ! 16 refl (slice-fits (rs .0))) $ pass1 ! (init ! 14 refl (tt, record { fits = n-fits })) $
+        pass1 ! (init ! 12 refl (slice-fits (ro .0))) $ pass0 ! $
         -- the borrow of the run is opened
         move ! (28 ∷ 29 ∷ 30 ∷ []) $ opens ! tt R.the-row {h = x .now} (x .ptr .0) (x .ptr .1) (λ vs.
         spelt ! R.the-row (Is R.the-row) (shows 𝓤 H A R.the-row) (LL.vals R.the-type R′.the-laws) (LL.tells R.the-type R′.the-laws)
@@ -156,10 +155,10 @@ module _ {M : Type 1} (𝓤 : URA M) (H : Heap 𝓤) (A : Atoms 𝓤) (W : Given
         (init ! 13 refl (LL.lawful R.the-type R′.the-laws 𝓤 H A W .typed (x .now) _ is .0)) $
         assigns ! (addr ! (from ! (fld ! refl (hop ! (look-in ! 21 (sub ! 0 refl (whole !))) (stop !))))) (from ! (stop !)) (init ! 11 refl (tt, tt)) $
         assigns ! (agg ! (and-then ! (load ! (from ! (stop !)) (look ! 11 refl)) (and-then ! (load ! (from ! (fld ! refl (stop !))) (look-in ! 21 (sub ! 1 refl (whole !)))) (no-more !)))) (from ! (stop !))
-        (init ! 9 refl (tt, (tt, (record { fits = rs .0 }, tt)))) $
+        (init ! 9 refl (slice-fits (rs .0))) $
         assigns ! (addr ! (from ! (fld ! refl (hop ! (look-in ! 17 (sub ! 0 refl (whole !))) (stop !))))) (from ! (stop !)) (init ! 7 refl (tt, tt)) $
         assigns ! (agg ! (and-then ! (load ! (from ! (stop !)) (look ! 7 refl)) (and-then ! (load ! (from ! (fld ! refl (stop !))) (look-in ! 17 (sub ! 1 refl (whole !)))) (no-more !)))) (from ! (stop !))
-        (init ! 5 refl (tt, (tt, (record { fits = ro .0 }, tt)))) $
+        (init ! 5 refl (slice-fits (ro .0))) $
         -- what `advance` asks is put together
         move ! (0 ∷ 33 ∷ []) $ fjoin ! $ move ! (33 ∷ 0 ∷ []) $ fjoin ! $ move ! (33 ∷ 0 ∷ []) $ fjoin ! $ move ! (33 ∷ 0 ∷ []) $ fjoin ! $
         move ! (33 ∷ 0 ∷ []) $ use2 W (raw (Advance 𝓤 H A mem run .pre to)) goes $

@@ -43,7 +43,7 @@ use Rattle.capi_numbers.specs.declared.Reply.{Reply}
 use Rattle.capi_numbers.specs.Numbers.{replyTold}
 use Rattle.engine.proofs.Parameters.{parameters, spells, tells}
 use Rattle.engine.proofs.Walking as Walking
-use Rattle.engine.proofs.Walking.{slice, exits, ends, fm, by-hand}
+use Rattle.engine.proofs.Walking.{slice, slice-fits, exits, ends, fm, by-hand}
 use Rattle.machine.proofs.Answer as S
 use Rattle.machine.proofs.Answer.Laws as S′
 use Rattle.capi_numbers.proofs.Reply as F
@@ -119,18 +119,17 @@ module _ {M : Type 1} (𝓤 : URA M) (H : Heap 𝓤) (A : Atoms 𝓤) (W : Given
         qed W (Six ∷ Params-own ∷ []) ∵ enter ! C Λ code.function passed _ $
         alloc1 ! (λ l₀. alloc1 ! (λ l₁. alloc1 ! (λ l₂. alloc1 ! (λ l₃. alloc1 ! (λ l₄. alloc1 ! (λ l₅. alloc1 ! (λ l₆.
         alloc1 ! (λ l₇. alloc1 ! (λ l₈. alloc1 ! (λ l₉. alloc1 ! (λ l₁₀. alloc1 ! (λ l₁₁. alloc1 ! (λ l₁₂. alloc1 ! (λ l₁₃. alloc0 ! $ params1 ! $
-        pass1 ! (init ! 24 refl (tt, (tt, (record { fits = rt .0 }, tt)))) $ pass1 ! (init ! 22 refl (tt, (tt, (record { fits = ru .0 }, tt)))) $
-        pass1 ! (init ! 20 refl (tt, (tt, (record { fits = rl .0 }, tt)))) $ pass1 ! (init ! 18 refl (tt, tt)) $
-        pass1 ! (init ! 16 refl (tt, (tt, (record { fits = rs .0 }, tt)))) $ pass1 ! (init ! 14 refl (tt, record { fits = n-fits })) $
-        pass1 ! (init ! 12 refl (tt, (tt, (record { fits = ro .0 }, tt)))) $ pass0 ! $
+        pass1 ! (init ! 24 refl (slice-fits (rt .0))) $ pass1 ! (init ! 22 refl (slice-fits (ru .0))) $ pass1 ! (init ! 20 refl (slice-fits (rl .0))) $
+        pass1 ! (init ! 18 refl (tt, tt)) $ pass1 ! (init ! 16 refl (slice-fits (rs .0))) $ pass1 ! (init ! 14 refl (tt, record { fits = n-fits })) $
+        pass1 ! (init ! 12 refl (slice-fits (ro .0))) $ pass0 ! $
         -- the references are passed on
         assigns ! (addr ! (from ! (hop ! (look ! 18 refl) (stop !)))) (from ! (stop !)) (init ! 8 refl (tt, tt)) $
         assigns ! (addr ! (from ! (fld ! refl (hop ! (look-in ! 16 (sub ! 0 refl (whole !))) (stop !))))) (from ! (stop !)) (init ! 6 refl (tt, tt)) $
         assigns ! (agg ! (and-then ! (load ! (from ! (stop !)) (look ! 6 refl)) (and-then ! (load ! (from ! (fld ! refl (stop !))) (look-in ! 16 (sub ! 1 refl (whole !)))) (no-more !)))) (from ! (stop !))
-        (init ! 4 refl (tt, (tt, (record { fits = rs .0 }, tt)))) $
+        (init ! 4 refl (slice-fits (rs .0))) $
         assigns ! (addr ! (from ! (fld ! refl (hop ! (look-in ! 12 (sub ! 0 refl (whole !))) (stop !))))) (from ! (stop !)) (init ! 2 refl (tt, tt)) $
         assigns ! (agg ! (and-then ! (load ! (from ! (stop !)) (look ! 2 refl)) (and-then ! (load ! (from ! (fld ! refl (stop !))) (look-in ! 12 (sub ! 1 refl (whole !)))) (no-more !)))) (from ! (stop !))
-        (init ! 0 refl (tt, (tt, (record { fits = ro .0 }, tt)))) $
+        (init ! 0 refl (slice-fits (ro .0))) $
         -- [_13 at 0; …; _0 at 26; …; the tokens at 28; what the parameters own]
         move ! (28 ∷ 29 ∷ []) $ use2 W (raw (Next 𝓤 H A mem run .pre to)) goes $
         calls-at ! fm (Next 𝓤 H A mem run) known to

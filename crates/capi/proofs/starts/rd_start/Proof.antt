@@ -41,7 +41,7 @@ use Rattle.machine.specs.declared.Run.{Run}
 use Rattle.capi.specs.declared.Begun.{Begun}
 use Rattle.capi.specs.Start.{StartReplyIs}
 use Rattle.engine.proofs.Walking as Walking
-use Rattle.engine.proofs.Walking.{slice, exits, ends, fm, by-hand}
+use Rattle.engine.proofs.Walking.{slice, slice-fits, exits, ends, fm, by-hand}
 use Rattle.machine.proofs.Run as R
 use Rattle.machine.proofs.Run.Laws as R′
 use Rattle.capi.proofs.StartReply as S
@@ -136,8 +136,8 @@ module _ {M : Type 1} (𝓤 : URA M) (H : Heap 𝓤) (A : Atoms 𝓤) (W : Given
         fsplit3 ! $ drop ! $ move ! (0 ∷ 1 ∷ 8 ∷ []) $ enter ! C Λ code.function passed _ $
         alloc1 ! (λ l₀. alloc1 ! (λ l₁. alloc1 ! (λ l₂. alloc1 ! (λ l₃. alloc1 ! (λ l₄. alloc1 ! (λ l₅. alloc1 ! (λ l₆. alloc1 ! (λ l₇.
         alloc0 ! $ params1 ! $
-        pass1 ! (init ! 12 refl (tt, (tt, (record { fits = rt .0 }, tt)))) $ pass1 ! (init ! 10 refl (tt, record { fits = n-fits })) $
-        pass1 ! (init ! 8 refl (tt, (tt, (record { fits = ru .0 }, tt)))) $ pass1 ! (init ! 6 refl (tt, (tt, (record { fits = rl .0 }, tt)))) $
+        pass1 ! (init ! 12 refl (slice-fits (rt .0))) $ pass1 ! (init ! 10 refl (tt, record { fits = n-fits })) $
+        pass1 ! (init ! 8 refl (slice-fits (ru .0))) $ pass1 ! (init ! 6 refl (slice-fits (rl .0))) $
         pass1 ! (init ! 4 refl (tt, tt)) $ pass0 ! $
         -- the borrow of the run is opened
         move ! (16 ∷ 17 ∷ 18 ∷ []) $ opens ! tt R.the-row {h = x .now} (x .ptr .0) (x .ptr .1) (λ vs.
