@@ -18,17 +18,25 @@ pub struct Digits {
 pub fn value(c: u8) -> Decoded
     ensures { λ r. ⌜ r ≡ valueOf c ⌝ }
 {
-    if 48 <= c {
-        if c <= 57 {
-            return Decoded::Value(c - 48);
-        }
-        if 65 <= c {
-            if c <= 70 {
-                return Decoded::Value(c - 55);
-            }
-        }
+    match c {
+        48 => Decoded::Value(0), // '0'
+        49 => Decoded::Value(1), // '1'
+        50 => Decoded::Value(2), // '2'
+        51 => Decoded::Value(3), // '3'
+        52 => Decoded::Value(4), // '4'
+        53 => Decoded::Value(5), // '5'
+        54 => Decoded::Value(6), // '6'
+        55 => Decoded::Value(7), // '7'
+        56 => Decoded::Value(8), // '8'
+        57 => Decoded::Value(9), // '9'
+        65 => Decoded::Value(10), // 'A'
+        66 => Decoded::Value(11), // 'B'
+        67 => Decoded::Value(12), // 'C'
+        68 => Decoded::Value(13), // 'D'
+        69 => Decoded::Value(14), // 'E'
+        70 => Decoded::Value(15), // 'F'
+        _ => Decoded::Invalid,
     }
-    Decoded::Invalid
 }
 
 // The byte of two digits.
