@@ -8,9 +8,13 @@ fn say(text: &[u8]) {
 
 // A number in three columns.
 fn number(n: u8) {
-    let hundreds = if n < 100 { b' ' } else { b'0' + n / 100 };
-    let tens = if n < 10 { b' ' } else { b'0' + n / 10 % 10 };
-    say(&[hundreds, tens, b'0' + n % 10]);
+    if n < 100 {
+        say(b" ");
+    }
+    if n < 10 {
+        say(b" ");
+    }
+    io::print_decimal(1, n as u64);
 }
 
 // The character of a byte in five columns, blank where none shows.

@@ -14,7 +14,7 @@ pub struct Digits {
     pub low: u8,
 }
 
-// The value of a digit.
+// The value of a digit: a case for each, by its number in ASCII, to be held against a chart.
 pub fn value(c: u8) -> Decoded
     ensures { λ r. ⌜ r ≡ valueOf c ⌝ }
 {
