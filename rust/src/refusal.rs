@@ -47,7 +47,7 @@ refusals! {
     LineCount = 9: "the end line's number is not the count of lines before it"
     WordFault = 10: "a word has more than 64 letters, or a letter 0 or over 63"
     TaskFault = 11: "unknown task, or a word on a side that the task does not read"
-    IdleCycle = 12: "arcs that read nothing for the task go round in a cycle, so a search could be endless"
+    IdleCycle = 12: "from an initial state arcs lead to a cycle of arcs that read nothing for the task, so a search could be endless"
     LoadedTable = 20: "the loaded table breaks a rule, or is cut short"
     Place = 21: "the run or its used frames are not a place in a search"
     StackFull = 22: "the stack is full; the same run goes on with a longer one that begins with the same used frames"

@@ -63,8 +63,8 @@ fn a_start_tells_why_it_is_refused() {
     assert_eq!(long, (Refusal::WordFault, vec![]));
     let high = refused(&k, Task::Synthesis, &[limits::MOST_LETTER + 1], &[]);
     assert_eq!(high, (Refusal::WordFault, vec![]));
-    // States 1 and 2 lead to each other and read nothing above.
-    let cells = [3, 1, 0, 2, 0, 1, 0, 5, 2, 2, 0, 0, 1];
+    // States 1, which is initial, and 2 lead to each other and read nothing above.
+    let cells = [3, 1, 0, 2, 1, 1, 0, 5, 2, 2, 0, 0, 1];
     let table = Table::from_cells(&cells).unwrap();
     let (refusal, mut cycle) = refused(&table, Task::Synthesis, &[], &[]);
     cycle.sort();

@@ -3,19 +3,26 @@ use Prim.Native.Nat.{ℕ, zero, suc, _+_, _-_, _<_, _≤_}
 use native.Mathlib.Omega.{arith}
 use native.Mathlib.Numerals.{unary-clauses}
 use mathlib.Core.Path.{_≡_, refl, sym, ap, ap₂, subst, _∙_}
+use mathlib.Core.Logic.{_↔_, ⊎-elim}
 use mathlib.Core.Bool.{Bool, true, false}
-use mathlib.Core.List.{List, [], _∷_, _++_}
-use lib.Dec.{ltb}
+use mathlib.Core.List.{List, [], _∷_, _++_, List·Memᴰ·head}
+use lib.Dec.{ltb, leb}
 use lib.ListN.{length, getD, set, take, drop, replicate, length-drop, length-replicate, getD-replicate}
 use lib.Seq.{getD-take, length-take-le}
-use borrow.Author.Tests.{ltb-true, ltb-false}
-use Rattle.graph.specs.Walk.{Walk, CycleStates}
+use borrow.Author.Tests.{ltb-true, ltb-false, leb-true, leb-false}
+use Rattle.table_format.specs.Cells.{arcsAs}
+use Rattle.graph.specs.Walk.{Walk, NoCycle, CycleStates, Among}
+use Rattle.graph.specs.Reached.{initial, NoReachedCycle}
 use Rattle.graph.proofs.Walk.{walk-below}
 use Rattle.graph.proofs.Places.{Noted, noted-begins, noted-more, noted-closes}
+use Rattle.graph.proofs.Search.{stable-cycle}
+use Rattle.machine.specs.Idle.{AnyArc}
+use Rattle.engine_reach.specs.Graph.{Graph, ReachedBy}
+use Rattle.engine_reach.specs.Reach.{Unmarked, ReachedCells}
+use Rattle.engine_reach.proofs.Edges.{among}
+use Rattle.engine_peel.specs.Peel.{idleBy, IdleEdge, Cyclic, Stable, Next, Settled}
 use Rattle.engine_idle.specs.declared.Cycle.{Cycle}
-use Rattle.engine_peel.specs.Graph.{Graph, IdleEdge, Cyclic, Stable, Next}
-use Rattle.engine_peel.proofs.Rounds.{among}
-use Rattle.engine_idle.specs.Found.{cycleCells, FirstAlive, CycleOrNone, FoundCycle}
+use Rattle.engine_idle.specs.Found.{cycleCells, AllAlive, FirstAlive, LivingCycle, FoundCycle}
 
 drop-replicate : (m k : ℕ) → drop k (replicate {A = ℕ} m 0) ≡ replicate (m - k) 0
 drop-replicate m zero = simp unary-clauses refl
@@ -42,11 +49,11 @@ pub record Walked (arcs : List ℕ) (upper lower : Bool) (alive order place : Li
 module _ (arcs : List ℕ) (upper lower : Bool) (first alive : List ℕ) (G : Graph arcs first (length alive)) where
   -- a state on a cycle is a state
   pub cyclic-below : (s : ℕ) → Walk (IdleEdge arcs upper lower) s s → s < length alive
-  cyclic-below s w = walk-below (IdleEdge arcs upper lower) (length alive) (among arcs upper lower first (length alive) G) s s w
+  cyclic-below s w = walk-below (IdleEdge arcs upper lower) (length alive) (among arcs (idleBy upper lower) first (length alive) G) s s w
 
-  -- none lives: there is no cycle
-  pub none-found : Cyclic arcs upper lower alive → (r : ℕ) → FirstAlive alive r → length alive ≤ r → FoundCycle arcs upper lower (cycleCells [])
-  none-found C r F h = record { cycle = []; cells = refl; is = λ s w. F .none-lives h s (cyclic-below s w) (C s w) }
+  -- none lives: no cycle is reached
+  pub none-found : (initials : List ℕ) → Cyclic arcs upper lower initials alive → (r : ℕ) → FirstAlive alive r → length alive ≤ r → NoReachedCycle (AnyArc (arcsAs arcs)) (IdleEdge arcs upper lower) initials
+  none-found initials C r F h s R w = F .none-lives h s (cyclic-below s w) (C s R w)
 
   pub walk-begins : (s : ℕ) → s < length alive → getD alive s 0 ≡ 1 → Walked arcs upper lower alive (replicate 256 0) (replicate 256 0) 0 s
   walk-begins s h e = record { noted = noted-begins (IdleEdge arcs upper lower) 256 s (omega (arith, G .few)); inside = h; lives = e }
@@ -56,7 +63,7 @@ module _ (arcs : List ℕ) (upper lower : Bool) (first alive : List ℕ) (G : Gr
     next-lives s r h e N =
         let k : r < 256 = small in
         let E = N .leads-on k .0 in
-        (E, among arcs upper lower first (length alive) G s r E .1, N .leads-on k .1)
+        (E, among arcs (idleBy upper lower) first (length alive) G s r E .1, N .leads-on k .1)
       where
         small : r < 256
         small = go (ltb r 256) refl
@@ -77,35 +84,69 @@ module _ (arcs : List ℕ) (upper lower : Bool) (first alive : List ℕ) (G : Gr
         pub walk-part : (i - 1 ≤ j) × (j ≤ length order) × (length order ≡ 256)
         walk-part = let N = W .noted in let k : getD place s 0 ≤ n = N .held s (omega arith) .0 in (omega arith, omega (arith, N .count, N .order-long), N .order-long)
 
-        pub walk-found : (c : Cycle) → c ≡ cycleCells (take (j - (i - 1)) (drop (i - 1) order)) → FoundCycle arcs upper lower c
+        pub walk-found : (c : Cycle) → c ≡ cycleCells (take (j - (i - 1)) (drop (i - 1) order)) → LivingCycle arcs upper lower alive c
         walk-found c e =
-            subst (λ (x : Cycle). FoundCycle arcs upper lower x)
+            subst (λ (x : Cycle). LivingCycle arcs upper lower alive x)
             (sym (e ∙ ap (λ (m : ℕ). cycleCells (take (m - (i - 1)) (drop (i - 1) order))) q ∙ ap (λ (m : ℕ). cycleCells (take (n - (m - 1)) (drop (m - 1) order))) (p ∙ a)))
-            (record { cycle = part; cells = refl; is = closed part (noted-closes (W .noted) (omega arith)) })
+            (let C = noted-closes (W .noted) (omega arith) in closed (take (n - (getD place s 0 - 1)) (drop (getD place s 0 - 1) order)) (C .0) (C .1))
           where
-            part : List ℕ
-            part = take (n - (getD place s 0 - 1)) (drop (getD place s 0 - 1) order)
+            closed : (l : List ℕ) → CycleStates (IdleEdge arcs upper lower) l → getD l 0 0 ≡ s → LivingCycle arcs upper lower alive (cycleCells l)
+            closed [] C z = absurd C
+            closed (x ∷ l) C z = record { first = x; others = l; cells = refl; is = C; lives = ap (λ (y : ℕ). getD alive y 0) z ∙ W .lives }
 
-            closed : (l : List ℕ) → CycleStates (IdleEdge arcs upper lower) l → CycleOrNone arcs upper lower l
-            closed [] C = absurd C
-            closed (x ∷ l) C = C
+-- WHERE ALL STATES LIVE AT FIRST, those that are left tell whether there is a cycle.
 
--- at first all states live
-abbrev allOnes : List ℕ
-allOnes = replicate 256 1
+module _ (arcs : List ℕ) (upper lower : Bool) (first before after : List ℕ) (G : Graph arcs first (length before)) (A : AllAlive before) (S : Settled arcs upper lower before after) where
+  graph-after : Graph arcs first (length after)
+  graph-after = subst (λ (n : ℕ). Graph arcs first n) (sym (S .same-length)) G
 
-pub all-long : (states : ℕ) → states ≤ 256 → length (take states allOnes) ≡ states
-all-long states h = length-take-le states allOnes (omega (arith, length-replicate {A = ℕ} 256 1))
+  none-left : (r : ℕ) → FirstAlive after r → length after ≤ r → NoCycle (IdleEdge arcs upper lower)
+  none-left r F h s w =
+      none-found arcs upper lower first after graph-after (s ∷ []) (S .keeps (s ∷ []) (λ x R v. A x (cyclic-below arcs upper lower first before G x v))) r F h s (initial (List·Memᴰ·head refl)) w
 
-pub all-live : (arcs : List ℕ) (upper lower : Bool) (first : List ℕ) (states : ℕ) → Graph arcs first states
-    → Graph arcs first (length (take states allOnes)) × Cyclic arcs upper lower (take states allOnes)
-all-live arcs upper lower first states G = (H, λ s w. lives s (cyclic-below arcs upper lower first (take states allOnes) H s w))
-  where
-    long : length (take states allOnes) ≡ states
-    long = all-long states (G .few)
+  some-left : (r : ℕ) → FirstAlive after r → r < length after → NoCycle (IdleEdge arcs upper lower) → ⊥
+  some-left r F h N = let C = stable-cycle (IdleEdge arcs upper lower) (length after) E (λ x. (x < length after) × (getD after x 0 ≡ 1)) on r (h, F .lives h) in N (C .0) (C .2)
+    where
+      E : Among (IdleEdge arcs upper lower) (length after)
+      E = among arcs (idleBy upper lower) first (length after) graph-after
 
-    H : Graph arcs first (length (take states allOnes))
-    H = subst (λ (m : ℕ). Graph arcs first m) (sym long) G
+      on : (x : ℕ) → (x < length after) × (getD after x 0 ≡ 1) → (y : ℕ) × IdleEdge arcs upper lower x y × ((y < length after) × (getD after y 0 ≡ 1))
+      on x L = let P = S .stable x (L .0) (L .1) in (P .0, P .1, (E x (P .0) (P .1) .1, P .2))
 
-    lives : (s : ℕ) → s < length (take states allOnes) → getD (take states allOnes) s 0 ≡ 1
-    lives s h = let l = long in let f = G .few in getD-take states allOnes s 0 (omega arith) ∙ getD-replicate 256 s 1 0 (omega arith)
+  pub acyclic-is : (r : ℕ) → FirstAlive after r → (leb (length after) r ≡ true) ↔ NoCycle (IdleEdge arcs upper lower)
+  acyclic-is r F = (λ e. none-left r F (leb-true _ _ e), λ N. go (leb (length after) r) refl N)
+    where
+      go : (b : Bool) → leb (length after) r ≡ b → NoCycle (IdleEdge arcs upper lower) → b ≡ true
+      go true e N = refl
+      go false e N = absurd (some-left r F (leb-false _ _ e) N)
+
+-- WHERE ONLY WHAT IS REACHED LIVES AT FIRST, those that are left tell whether a cycle is reached.
+
+module _ (arcs initials : List ℕ) (upper lower : Bool) (before after : List ℕ) (M : ReachedCells arcs initials before) (S : Settled arcs upper lower before after) where
+  pub nothing-found : (first : List ℕ) → Graph arcs first (length after) → (r : ℕ) → FirstAlive after r → length after ≤ r → (c : Cycle) → c ≡ cycleCells [] → FoundCycle arcs initials upper lower c
+  nothing-found first G r F h c e =
+      record {
+        cycle = [];
+        cells = e;
+        is = none-found arcs upper lower first after G initials (S .keeps initials (λ s R w. ⊎-elim (λ y. y .0) (λ n. absurd (n .1 R)) (M s))) r F h;
+      }
+
+  pub living-found : (c : Cycle) → LivingCycle arcs upper lower after c → FoundCycle arcs initials upper lower c
+  living-found c L = record { cycle = L .first ∷ L .others; cells = L .cells; is = (reached, L .is) }
+    where
+      reached : ReachedBy arcs initials (L .first)
+      reached = ⊎-elim (λ y. y .1) (λ n. absurd (let y = n .0 in let z = S .only (L .first) (L .lives) in omega arith)) (M (L .first))
+
+-- THE CELLS AT FIRST, one a state.
+
+pub first-cells : (x states : ℕ) → states ≤ 256 → length (take states (replicate 256 x)) ≡ states
+first-cells x states h = length-take-le states (replicate 256 x) (omega (arith, length-replicate {A = ℕ} 256 x))
+
+pub all-alive : (states : ℕ) → states ≤ 256 → AllAlive (take states (replicate 256 1))
+all-alive states h s k = let l = first-cells 1 states h in getD-take states (replicate 256 1) s 0 (omega arith) ∙ getD-replicate 256 s 1 0 (omega arith)
+
+pub none-marked : (states n : ℕ) → Unmarked (take states (replicate n 0))
+none-marked zero n s = refl
+none-marked (suc k) zero s = refl
+none-marked (suc k) (suc n) zero = refl
+none-marked (suc k) (suc n) (suc s) = none-marked k n s

@@ -20,15 +20,14 @@ use Rattle.table_format.proofs.Arcs.{length-arcs, getD-arcs}
 use Rattle.table_format.proofs.Index.{length-index, index-at}
 use Rattle.table_check.proofs.Parts.{laid-out}
 use Rattle.table_format.proofs.Ruled.{Ruled}
-use Rattle.graph.specs.Walk as walks
-use Rattle.graph.specs.Walk.{NoCycle}
+use Rattle.graph.specs.Reached.{NoReachedCycle, ReachedCycle}
 use Rattle.machine.specs.Query.{Task, recognition, upperSide, lowerSide, reads, Query}
 use Rattle.machine.specs.Machine.{ArcOf}
 use Rattle.machine.specs.Transducer.{machine}
-use Rattle.machine.specs.Idle.{idle, Leads, CycleStates, hasIdleCycle}
+use Rattle.machine.specs.Idle.{idle, Leads, AnyArc, CycleStates, hasIdleCycle}
 use Rattle.machine.proofs.Transducer.{arc-of, at-mem}
 use Rattle.machine.proofs.Idle.{cycle-walk, none-there, none-found}
-use Rattle.engine_peel.specs.Graph.{Graph}
+use Rattle.engine_reach.specs.Graph.{Graph}
 use Rattle.engine_idle.specs.Found.{CycleOrNone}
 
 -- cells that hold a table hold it whole
@@ -99,22 +98,30 @@ module _ (t : Table) (U : Ruled t) (cells : List ℕ) (e : arcsAs cells ≡ t .a
           let inside : n < arcCount cells = omega (arith, size, R .0) in
           (inside, sym (ap (λ (x : Arc). x .source) (arc-is n inside)) ∙ R .1)
 
-  -- The graph's arcs are the table's, so its cycles are the table's idle cycles.
+  -- The graph's arcs are the table's, so its cycles are the table's idle cycles, and they are reached where those are.
 
-  module _ (k : Task) where
-    -- the edges of arcs that are idle for the task
-    abbrev idleEdges : List Arc → ℕ → ℕ → Type 0
-    idleEdges arcs = Leads arcs (idle k)
+  module _ (k : Task) (initials : List ℕ) (f : initials ≡ t .initials) where
+    -- what is found, said of any arcs and initial states
+    abbrev Told : List Arc → List ℕ → List ℕ → Type 0
+    Told arcs starts [] = NoReachedCycle (AnyArc arcs) (Leads arcs (idle k)) starts
+    Told arcs starts (s ∷ l) = ReachedCycle (AnyArc arcs) (Leads arcs (idle k)) starts (s ∷ l)
 
-    pub found-none : CycleOrNone cells (reads k upperSide) (reads k lowerSide) [] → hasIdleCycle t k ≡ false
-    found-none C = none-there t k (subst (λ (l : List Arc). NoCycle (idleEdges l)) e C)
+    of-table : (c : List ℕ) → CycleOrNone cells initials (reads k upperSide) (reads k lowerSide) c → Told (t .arcs) (t .initials) c
+    of-table c C = subst (λ (l : List Arc). Told l (t .initials) c) e (subst (λ (l : List ℕ). Told (arcsAs cells) l c) f (as-told c C))
+      where
+        as-told : (c : List ℕ) → CycleOrNone cells initials (reads k upperSide) (reads k lowerSide) c → Told (arcsAs cells) initials c
+        as-told [] C = C
+        as-told (s ∷ l) C = C
 
-    pub found-states : (s : ℕ) (l : List ℕ) → CycleOrNone cells (reads k upperSide) (reads k lowerSide) (s ∷ l) → CycleStates t k (s ∷ l)
-    found-states s l C = subst (λ (z : List Arc). walks.CycleStates (idleEdges z) (s ∷ l)) e C
+    pub found-none : CycleOrNone cells initials (reads k upperSide) (reads k lowerSide) [] → hasIdleCycle t k ≡ false
+    found-none C = none-there t k U (of-table [] C)
 
-    pub found-some : (s : ℕ) (l : List ℕ) → CycleOrNone cells (reads k upperSide) (reads k lowerSide) (s ∷ l) → hasIdleCycle t k ≡ true
+    pub found-states : (s : ℕ) (l : List ℕ) → CycleOrNone cells initials (reads k upperSide) (reads k lowerSide) (s ∷ l) → CycleStates t k (s ∷ l)
+    found-states s l C = of-table (s ∷ l) C
+
+    pub found-some : (s : ℕ) (l : List ℕ) → CycleOrNone cells initials (reads k upperSide) (reads k lowerSide) (s ∷ l) → hasIdleCycle t k ≡ true
     found-some s l C = go (hasIdleCycle t k) refl
       where
         go : (b : Bool) → hasIdleCycle t k ≡ b → b ≡ true
         go true w = refl
-        go false w = absurd (let P = cycle-walk t k (s ∷ l) (found-states s l C) in none-found t k U w (P .0) (P .1))
+        go false w = absurd (let P = cycle-walk t k (s ∷ l) (found-states s l C) in none-found t k U w (P .0) (P .1) (P .2))

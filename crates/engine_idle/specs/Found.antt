@@ -4,24 +4,39 @@ use mathlib.Core.Path.{_≡_}
 use mathlib.Core.Bool.{Bool}
 use mathlib.Core.List.{List, [], _∷_, _++_}
 use lib.ListN.{length, getD, replicate}
-use Rattle.graph.specs.Walk.{NoCycle, CycleStates}
-use Rattle.engine_peel.specs.Graph.{IdleEdge}
+use Rattle.table_format.specs.Cells.{arcsAs}
+use Rattle.graph.specs.Walk.{CycleStates}
+use Rattle.graph.specs.Reached.{NoReachedCycle, ReachedCycle}
+use Rattle.machine.specs.Idle.{AnyArc}
+use Rattle.engine_peel.specs.Peel.{IdleEdge}
 use Rattle.engine_idle.specs.declared.Cycle.{Cycle}
 
 -- some states, in 256 cells
 abbrev pub cycleCells : List ℕ → Cycle
 cycleCells l = record { states = l ++ replicate (256 - length l) 0; length = length l }
 
+-- all states are alive
+abbrev pub AllAlive : List ℕ → Type 0
+AllAlive alive = (s : ℕ) → s < length alive → getD alive s 0 ≡ 1
+
 -- the first state that is alive, or the count of states where none is
 pub record FirstAlive (alive : List ℕ) (r : ℕ) : Type 0 where
   pub lives : r < length alive → getD alive r 0 ≡ 1
   pub none-lives : length alive ≤ r → (s : ℕ) → s < length alive → getD alive s 0 ≡ 1 → ⊥
 
-module _ (arcs : List ℕ) (upper lower : Bool) where
-  -- the states of a cycle, none twice, in walking order; none where there is no cycle
+-- the cells hold the states of a cycle, and its first state is alive
+pub record LivingCycle (arcs : List ℕ) (upper lower : Bool) (alive : List ℕ) (c : Cycle) : Type 0 where
+  pub first : ℕ
+  pub others : List ℕ
+  pub cells : c ≡ cycleCells (first ∷ others)
+  pub is : CycleStates (IdleEdge arcs upper lower) (first ∷ others)
+  pub lives : getD alive first 0 ≡ 1
+
+module _ (arcs initials : List ℕ) (upper lower : Bool) where
+  -- the states of a cycle that is reached, none twice, in walking order; none where no cycle is
   abbrev pub CycleOrNone : List ℕ → Type 0
-  CycleOrNone [] = NoCycle (IdleEdge arcs upper lower)
-  CycleOrNone (s ∷ l) = CycleStates (IdleEdge arcs upper lower) (s ∷ l)
+  CycleOrNone [] = NoReachedCycle (AnyArc (arcsAs arcs)) (IdleEdge arcs upper lower) initials
+  CycleOrNone (s ∷ l) = ReachedCycle (AnyArc (arcsAs arcs)) (IdleEdge arcs upper lower) initials (s ∷ l)
 
   -- what the search finds
   pub record FoundCycle (c : Cycle) : Type 0 where

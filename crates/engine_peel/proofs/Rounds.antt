@@ -3,22 +3,23 @@ use Prim.Native.Nat.{ℕ, zero, suc, _+_, _-_, _<_, _≤_}
 use native.Mathlib.Omega.{arith}
 use mathlib.Core.Path.{_≡_, refl, sym, ap, ap₂, subst, _∙_}
 use mathlib.Core.Bool.{Bool, true, false, cond, _&&_, true≢false}
-use mathlib.Core.List.{List, [], _∷_, List·Memᴰ}
+use mathlib.Core.List.{List, [], _∷_}
 use lib.Dec.{eqb}
 use lib.ListN.{length, getD, set, length-set}
-use lib.Seq.{getD-set-other}
+use lib.Seq.{getD-set-same, getD-set-other}
 use borrow.Author.Tests.{eqb-true, eqb-false, eq-eqb, ne-eqb}
 use Rattle.table_format.proofs.Tests.{and-left, and-right, and-both}
-use Rattle.table_format.specs.Table.{Arc, noArc}
+use Rattle.table_format.specs.Table.{Arc}
 use Rattle.table_format.specs.declared.Arc as held
-use Rattle.table_format.specs.Cells.{arcHeld, arcCount, arcOf, arcsAs}
-use Rattle.table_format.proofs.Arcs.{length-arcs, getD-arcs}
-use Rattle.graph.specs.Walk.{Among}
+use Rattle.table_format.specs.Cells.{arcHeld, arcOf}
+use Rattle.graph.specs.Reached.{byEdge}
 use Rattle.graph.proofs.Lists.{below-more}
 use Rattle.graph.proofs.Walk.{rotated}
 use Rattle.machine.specs.Idle.{sideIdle}
-use Rattle.machine.proofs.Transducer.{at-mem, mem-at}
-use Rattle.engine_peel.specs.Graph.{Graph, total, idleBy, leadsAlive, IdleEdge, Cyclic, Stable, Next, Peeled, Settled}
+use Rattle.machine.proofs.Idle.{any-arc}
+use Rattle.engine_reach.specs.Graph.{Graph}
+use Rattle.engine_reach.proofs.Edges.{number-of, edge-of}
+use Rattle.engine_peel.specs.Peel.{total, idleBy, leadsAlive, IdleEdge, Cyclic, Stable, Next, Peeled, Settled}
 
 -- a letter on a side that is read
 pub letter-read : (read : Bool) (x : ℕ) → read ≡ true → eqb x 0 ≡ sideIdle read x
@@ -50,31 +51,6 @@ pub fails-more : (f : ℕ → Bool) (from n : ℕ) → ((i : ℕ) → from ≤ i
 fails-more f from n F e i h k = below-more (λ (j : ℕ). from ≤ j → f j ≡ false) n (λ j b a. F j a b) (λ _. e) i k h
 
 module _ (arcs : List ℕ) (upper lower : Bool) where
-  -- the edges by their numbers
-  edge-at : (n : ℕ) → n < arcCount arcs → idleBy upper lower (arcOf arcs n) ≡ true → IdleEdge arcs upper lower (arcOf arcs n .source) (arcOf arcs n .target)
-  edge-at n h i =
-      record {
-        arc = arcOf arcs n;
-        listed = subst (λ (a : Arc). List·Memᴰ a (arcsAs arcs)) (getD-arcs (arcCount arcs) arcs n noArc h) (at-mem (arcsAs arcs) n noArc (omega (arith, length-arcs (arcCount arcs) arcs)));
-        from = refl;
-        to = refl;
-        passes = i;
-      }
-
-  pub edge-number : {s r : ℕ} (E : IdleEdge arcs upper lower s r) → (n : ℕ) × (n < arcCount arcs) × (arcOf arcs n ≡ E .arc)
-  edge-number E =
-      let P = mem-at (arcsAs arcs) (E .arc) noArc (E .listed) in
-      let h : P .0 < arcCount arcs = omega (arith, P .1, length-arcs (arcCount arcs) arcs) in
-      (P .0, h, sym (getD-arcs (arcCount arcs) arcs (P .0) noArc h) ∙ P .2)
-
-  -- they lead among the states
-  pub among : (first : List ℕ) (states : ℕ) → Graph arcs first states → Among (IdleEdge arcs upper lower) states
-  among first states G s r E =
-      let N = edge-number E in (
-        subst (λ (x : ℕ). x < states) (ap (λ (a : Arc). a .source) (N .2) ∙ E .from) (G .source-in (N .0) (N .1)),
-        subst (λ (x : ℕ). x < states) (ap (λ (a : Arc). a .target) (N .2) ∙ E .to) (G .target-in (N .0) (N .1)),
-      )
-
   -- arc n is idle and leads to a state that is alive
   abbrev pub leadsAt : List ℕ → ℕ → Bool
   leadsAt alive n = leadsAlive upper lower alive (arcOf arcs n)
@@ -82,12 +58,11 @@ module _ (arcs : List ℕ) (upper lower : Bool) where
   module _ (first alive : List ℕ) (G : Graph arcs first (length alive)) (q : ℕ) (h : q < length alive) where
     at-number : (n : ℕ) → getD first q 0 ≤ n → n < getD first (q + 1) 0 → leadsAt alive n ≡ true → Next arcs upper lower alive q (arcOf arcs n .target)
     at-number n a b e =
-        let i = G .numbered q n h a b in
         let idle = and-left (idleBy upper lower (arcOf arcs n)) (eqb (getD alive (arcOf arcs n .target) 0) 1) e in
         let lives = and-right (idleBy upper lower (arcOf arcs n)) (eqb (getD alive (arcOf arcs n .target) 0) 1) e in
         record {
-          leads-on = λ k. (subst (λ (s : ℕ). IdleEdge arcs upper lower s (arcOf arcs n .target)) (i .1) (edge-at n (i .0) idle), eqb-true _ _ lives);
-          leads-nowhere = λ k. absurd (omega (arith, G .target-in n (i .0), G .few));
+          leads-on = λ k. (edge-of arcs (idleBy upper lower) first (length alive) G q n h a b idle, eqb-true _ _ lives);
+          leads-nowhere = λ k. absurd (omega (arith, G .target-in n (G .numbered q n h a b .0), G .few));
         }
 
     pub next-found : (n : ℕ) (r : held.Arc) → r ≡ arcHeld (arcOf arcs n) → getD first q 0 ≤ n → n < getD first (q + 1) 0 → leadsAt alive n ≡ true
@@ -99,37 +74,32 @@ module _ (arcs : List ℕ) (upper lower : Bool) where
       where
         clash : (x : ℕ) (E : IdleEdge arcs upper lower q x) → getD alive x 0 ≡ 1 → ⊥
         clash x E a =
-            let N = edge-number E in
-            let n : ℕ = N .0 in
-            let at : arcOf arcs n .source ≡ q = ap (λ (z : Arc). z .source) (N .2) ∙ E .from in
-            let i = G .indexed n (N .1) in
-            let lo : getD first q 0 ≤ n = subst (λ (s : ℕ). getD first s 0 ≤ n) at (i .0) in
-            let hi : n < getD first (q + 1) 0 = subst (λ (s : ℕ). n < getD first (s + 1) 0) at (i .1) in
-            let lives : getD alive (arcOf arcs n .target) 0 ≡ 1 = ap (λ (z : Arc). getD alive (z .target) 0) (N .2) ∙ ap (λ (z : ℕ). getD alive z 0) (E .to) ∙ a in
-            let yes : leadsAt alive n ≡ true = and-both (ap (idleBy upper lower) (N .2) ∙ E .passes) (eq-eqb _ _ lives) in
-            true≢false (sym yes ∙ f n lo hi)
+            let N = number-of arcs (idleBy upper lower) first (length alive) G q x E in
+            let lives : getD alive (arcOf arcs (N .number) .target) 0 ≡ 1 = ap (λ (z : ℕ). getD alive z 0) (N .target-is) ∙ a in
+            true≢false (sym (and-both (N .passes) (eq-eqb _ _ lives)) ∙ f (N .number) (N .from) (N .until))
 
   -- A round: from state q on, the states had their turn.
 
   pub record Round (before alive : List ℕ) (q : ℕ) (died : Bool) : Type 0 where
     pub same-length : length alive ≡ length before
-    pub keeps : Cyclic arcs upper lower before → Cyclic arcs upper lower alive
+    pub keeps : (initials : List ℕ) → Cyclic arcs upper lower initials before → Cyclic arcs upper lower initials alive
+    pub only : (s : ℕ) → getD alive s 0 ≡ 1 → getD before s 0 ≡ 1
     pub no-more : total alive ≤ total before
     pub fewer : died ≡ true → total alive < total before
     pub seen : died ≡ false → (s : ℕ) → q ≤ s → s < length alive → getD alive s 0 ≡ 1 → (r : ℕ) × IdleEdge arcs upper lower s r × (getD alive r 0 ≡ 1)
 
   pub round-begins : (alive : List ℕ) (q : ℕ) → q ≡ length alive → Round alive alive q false
   round-begins alive q h =
-      record { same-length = refl; keeps = λ C. C; no-more = omega arith; fewer = λ e. absurd (true≢false (sym e)); seen = λ e s a b. absurd (omega arith) }
+      record { same-length = refl; keeps = λ initials C. C; only = λ s e. e; no-more = omega arith; fewer = λ e. absurd (true≢false (sym e)); seen = λ e s a b. absurd (omega arith) }
 
   pub round-ends : (before alive : List ℕ) (q : ℕ) (died : Bool) → q ≤ 0 → Round before alive q died → Peeled arcs upper lower before alive died
   round-ends before alive q died h R =
-      record { same-length = R .same-length; keeps = R .keeps; no-more = R .no-more; fewer = R .fewer; stable = λ e s k a. R .seen e s (omega arith) k a }
+      record { same-length = R .same-length; keeps = R .keeps; only = R .only; no-more = R .no-more; fewer = R .fewer; stable = λ e s k a. R .seen e s (omega arith) k a }
 
   module _ (before alive : List ℕ) (q : ℕ) (died : Bool) (h : 0 < q) (R : Round before alive q died) where
     -- one state more, where it needs nothing or has what it needs
     stays : ((getD alive (q - 1) 0 ≡ 1) → (r : ℕ) × IdleEdge arcs upper lower (q - 1) r × (getD alive r 0 ≡ 1)) → Round before alive (q - 1) died
-    stays f = record { same-length = R .same-length; keeps = R .keeps; no-more = R .no-more; fewer = R .fewer; seen = λ e s a b w. go e s a b w (eqb s (q - 1)) refl }
+    stays f = record { same-length = R .same-length; keeps = R .keeps; only = R .only; no-more = R .no-more; fewer = R .fewer; seen = λ e s a b w. go e s a b w (eqb s (q - 1)) refl }
       where
         go : died ≡ false → (s : ℕ) → q - 1 ≤ s → s < length alive → getD alive s 0 ≡ 1 → (b : Bool) → eqb s (q - 1) ≡ b → (r : ℕ) × IdleEdge arcs upper lower s r × (getD alive r 0 ≡ 1)
         go e s a k w true z = let y = eqb-true s (q - 1) z in subst (λ (x : ℕ). (r : ℕ) × IdleEdge arcs upper lower x r × (getD alive r 0 ≡ 1)) (sym y) (f (subst (λ (x : ℕ). getD alive x 0 ≡ 1) y w))
@@ -148,37 +118,44 @@ module _ (arcs : List ℕ) (upper lower : Bool) where
           let few = R .no-more in
           record {
             same-length = length-set alive (q - 1) 0 ∙ R .same-length;
-            keeps = λ C. kept (R .keeps C);
+            keeps = λ initials C. kept initials (R .keeps initials C);
+            only = λ s e. R .only s (was s e (eqb s (q - 1)) refl);
             no-more = omega arith;
             fewer = λ e. omega arith;
             seen = λ e. absurd (true≢false e);
           }
         where
-          kept : Cyclic arcs upper lower alive → Cyclic arcs upper lower (set alive (q - 1) 0)
-          kept C s w = go (eqb s (q - 1)) refl
+          was : (s : ℕ) → getD (set alive (q - 1) 0) s 0 ≡ 1 → (b : Bool) → eqb s (q - 1) ≡ b → getD alive s 0 ≡ 1
+          was s e true z =
+              absurd (let y : getD (set alive (q - 1) 0) s 0 ≡ 0 = ap (λ (x : ℕ). getD (set alive (q - 1) 0) x 0) (eqb-true s (q - 1) z) ∙ getD-set-same alive (q - 1) 0 0 (omega arith) in omega arith)
+          was s e false z = sym (getD-set-other alive (q - 1) s 0 0 (eqb-false s (q - 1) z)) ∙ e
+
+          kept : (initials : List ℕ) → Cyclic arcs upper lower initials alive → Cyclic arcs upper lower initials (set alive (q - 1) 0)
+          kept initials C s R w = go (eqb s (q - 1)) refl
             where
               go : (b : Bool) → eqb s (q - 1) ≡ b → getD (set alive (q - 1) 0) s 0 ≡ 1
               go true z =
                   let O = rotated (IdleEdge arcs upper lower) s w in
-                  absurd (N .leads-nowhere k (O .0) (subst (λ (x : ℕ). IdleEdge arcs upper lower x (O .0)) (eqb-true s (q - 1) z) (O .1)) (C (O .0) (O .2)))
-              go false z = getD-set-other alive (q - 1) s 0 0 (eqb-false s (q - 1) z) ∙ C s w
+                  absurd (N .leads-nowhere k (O .0) (subst (λ (x : ℕ). IdleEdge arcs upper lower x (O .0)) (eqb-true s (q - 1) z) (O .1)) (C (O .0) (byEdge R (any-arc s (O .0) (O .1))) (O .2)))
+              go false z = getD-set-other alive (q - 1) s 0 0 (eqb-false s (q - 1) z) ∙ C s R w
 
   -- The rounds.
 
   pub record Rounds (before alive : List ℕ) (on : Bool) : Type 0 where
     pub same-length : length alive ≡ length before
-    pub keeps : Cyclic arcs upper lower before → Cyclic arcs upper lower alive
+    pub keeps : (initials : List ℕ) → Cyclic arcs upper lower initials before → Cyclic arcs upper lower initials alive
+    pub only : (s : ℕ) → getD alive s 0 ≡ 1 → getD before s 0 ≡ 1
     pub stable : on ≡ false → Stable arcs upper lower alive
 
   pub rounds-begin : (alive : List ℕ) → Rounds alive alive true
-  rounds-begin alive = record { same-length = refl; keeps = λ C. C; stable = λ e. absurd (true≢false e) }
+  rounds-begin alive = record { same-length = refl; keeps = λ initials C. C; only = λ s e. e; stable = λ e. absurd (true≢false e) }
 
   pub rounds-go-on : (before alive after : List ℕ) (on died : Bool) → Rounds before alive on → Peeled arcs upper lower alive after died → Rounds before after died
   rounds-go-on before alive after on died R P =
-      record { same-length = P .same-length ∙ R .same-length; keeps = λ C. P .keeps (R .keeps C); stable = P .stable }
+      record { same-length = P .same-length ∙ R .same-length; keeps = λ initials C. P .keeps initials (R .keeps initials C); only = λ s e. R .only s (P .only s e); stable = P .stable }
 
   pub rounds-end : (before alive : List ℕ) (on : Bool) → on ≡ false → Rounds before alive on → Settled arcs upper lower before alive
-  rounds-end before alive on e R = record { same-length = R .same-length; keeps = R .keeps; stable = R .stable e }
+  rounds-end before alive on e R = record { same-length = R .same-length; keeps = R .keeps; only = R .only; stable = R .stable e }
 
   -- what falls with each round
   abbrev pub left : List ℕ → Bool → ℕ

@@ -1,2 +1,2 @@
 -- What peeling says.
-pub mod Graph
+pub mod Peel

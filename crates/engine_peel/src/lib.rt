@@ -6,7 +6,8 @@ ghost use Prim.Native.Nat.{_<_};
 ghost use lib.ListN.{length};
 ghost use Rattle.table_format.specs.Cells.{arcCount, arcOf};
 ghost use Rattle.machine.specs.Idle.{sideIdle};
-ghost use Rattle.engine_peel.specs.Graph.{Graph, leadsAlive, Next, Peeled, Settled};
+ghost use Rattle.engine_reach.specs.Graph.{Graph};
+ghost use Rattle.engine_peel.specs.Peel.{leadsAlive, Next, Peeled, Settled};
 
 // A letter passes nothing that is read.
 fn side_idle(read: bool, letter: u16) -> bool

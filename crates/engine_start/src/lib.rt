@@ -58,11 +58,14 @@ pub fn start(table: &[u16], task: u32, upper: &[u8], lower: &[u8]) -> Started
     let first = checked.first;
     let at = checked.layout;
     let states = at.states as usize;
+    let initials = at.initials;
+    let terminals = at.terminals;
     let arcs = at.arcs;
     let end = at.end;
     let found = engine_idle::find(
         &table[arcs..end],
         &first,
+        &table[initials..terminals],
         states,
         engine_admission::reads(task, Side::Upper),
         engine_admission::reads(task, Side::Lower),

@@ -1,4 +1,4 @@
--- The computed test tells whether a walk comes back.
+-- The computed test tells whether a walk comes back to a state.
 use Prim.Native.Nat.{ℕ, zero, suc}
 use mathlib.Core.Path.{_≡_, refl, ap, subst}
 use mathlib.Core.Bool.{Bool, true}
@@ -8,9 +8,9 @@ use Rattle.table_format.specs.Rules.{any}
 use Rattle.table_format.proofs.Any.{any-found, any-mem}
 use Rattle.graph.specs.Lists.{upTo}
 use Rattle.graph.specs.Walk.{Through, Walk, Among, Decides}
-use Rattle.graph.specs.Cycle.{enough, backIn, backAfter, onCycle, hasCycle}
-use Rattle.graph.proofs.Lists.{member-mem, mem-member, upTo-mem, keep-mem, mem-keep}
-use Rattle.graph.proofs.Walk.{WalkThrough, freed, freed-short, walk-below}
+use Rattle.graph.specs.Cycle.{enough, backIn, backAfter, onCycle}
+use Rattle.graph.proofs.Lists.{mem-member, upTo-mem, keep-mem, mem-keep}
+use Rattle.graph.proofs.Walk.{WalkThrough, freed, freed-short}
 
 module _ (E : ℕ → ℕ → Type 0) (e : ℕ → ℕ → Bool) (n : ℕ) (D : Decides E e) where
   pub back-steps : (s m x : ℕ) → List·Memᴰ x (backIn e n s m) → WalkThrough E s m x
@@ -19,16 +19,6 @@ module _ (E : ℕ → ℕ → Type 0) (e : ℕ → ℕ → Bool) (n : ℕ) (D : 
       let R = any-found (e x) (backIn e n s m) (keep-mem (λ y. any (e y) (backIn e n s m)) (upTo n) x h .1) in
       let S = back-steps s m (R .0) (R .1) in
       (R .0 ∷ S .0, (D x (R .0) .0 (R .2), S .1), ap suc (S .2))
-
-  on-walk : (s : ℕ) → onCycle e n s ≡ true → Walk E s s
-  on-walk s h =
-      let R = any-found (backAfter e n s) (enough n) h in
-      let S = back-steps s (R .0) s (member-mem s (backIn e n s (R .0)) (R .2)) in
-      (S .0, S .1)
-
-  -- where the test says so, a walk comes back
-  pub has-walk : hasCycle e n ≡ true → (s : ℕ) × Walk E s s
-  has-walk h = let R = any-found (onCycle e n) (upTo n) h in (R .0, on-walk (R .0) (R .2))
 
   module _ (G : Among E n) where
     through-back : (s x : ℕ) (l : List ℕ) → Through E x l s → List·Memᴰ x (backIn e n s (length l))
@@ -46,7 +36,3 @@ module _ (E : ℕ → ℕ → Type 0) (e : ℕ → ℕ → Bool) (n : ℕ) (D : 
         let F = freed E s (w .0) s (w .1) in
         any-mem (backAfter e n s) (enough n) (length (F .states)) (upTo-mem n (length (F .states)) (freed-short E n G F))
         (mem-member s (backIn e n s (length (F .states))) (through-back s s (F .states) (F .leads)))
-
-    -- where a walk comes back, the test says so
-    pub walk-has : (s : ℕ) → Walk E s s → hasCycle e n ≡ true
-    walk-has s w = any-mem (onCycle e n) (upTo n) s (upTo-mem n s (walk-below E n G s s w)) (walk-on s w)

@@ -118,9 +118,10 @@ module _ {E : ℕ → ℕ → Type 0} {size : ℕ} {order place : List ℕ} {n s
           subst (λ (x : ℕ). E x (getD (set order n s) (i + 1) 0)) (sym (old i (omega arith)))
           (subst (λ (x : ℕ). E (getD order i 0) x) (sym (old (i + 1) (omega arith))) (W .edges i (omega arith)))
 
-  -- the state has a place: the walk from there on is a cycle
-  pub noted-closes : 0 < getD place s 0 → CycleStates E (take (n - (getD place s 0 - 1)) (drop (getD place s 0 - 1) order))
-  noted-closes h = cycle-places E part (omega (arith, part-long, p-few)) part-edges (subst (λ (x : ℕ). E (getD part (length part - 1) 0) x) (sym first-is) last-edge) part-distinct
+  -- the state has a place: the walk from there on is a cycle, and begins with this state
+  pub noted-closes : 0 < getD place s 0
+      → let c = take (n - (getD place s 0 - 1)) (drop (getD place s 0 - 1) order) in CycleStates E c × (getD c 0 0 ≡ s)
+  noted-closes h = (cycle-places E part (omega (arith, part-long, p-few)) part-edges (subst (λ (x : ℕ). E (getD part (length part - 1) 0) x) (sym first-is) last-edge) part-distinct, first-is)
     where
       from : ℕ
       from = getD place s 0 - 1

@@ -4,14 +4,14 @@ use native.Mathlib.Omega.{arith}
 use mathlib.Core.Path.{_≡_, subst}
 use mathlib.Core.Logic.{_⊎_, inl, inr, ⊎-elim, _↔_}
 use mathlib.Core.Bool.{Bool, _||_}
-use mathlib.Core.List.{List, [], _∷_, List·Memᴰ}
+use mathlib.Core.List.{List, [], _∷_, List·Memᴰ, List·Memᴰ·not-nil, List·Memᴰ·cases-cons}
 use lib.ListN.{length}
 use Rattle.table_format.specs.Rules.{any}
 use Rattle.table_format.proofs.Tests.{or-cases, or-left, or-right}
 use Rattle.table_format.proofs.Any.{any-found, any-mem}
 use Rattle.graph.specs.Lists.{AllBelow, member, upTo}
 use Rattle.graph.specs.Walk.{Through, Walk, Among, Decides}
-use Rattle.graph.specs.Reached.{Reached, initial, byEdge, reachedIn, reached}
+use Rattle.graph.specs.Reached.{Reached, initial, byEdge, ReachedCycle, reachedIn, reached}
 use Rattle.graph.proofs.Lists.{same?, member-mem, mem-member, upTo-mem, mem-upTo, keep-mem, mem-keep}
 use Rattle.graph.proofs.Walk.{edge-walk, walk-then, freed, freed-short}
 
@@ -23,6 +23,15 @@ reached-map f (byEdge {s} {r} R g) = byEdge (reached-map f R) (f s r g)
 pub reached-walk : (E : ℕ → ℕ → Type 0) (starts : List ℕ) {s : ℕ} → Reached E starts s → List·Memᴰ s starts ⊎ ((i : ℕ) × List·Memᴰ i starts × Walk E i s)
 reached-walk E starts (initial m) = inl m
 reached-walk E starts (byEdge {s} R g) = inr (⊎-elim (λ m. (s, m, edge-walk E g)) (λ W. (W .0, W .1, walk-then E (W .2) g)) (reached-walk E starts R))
+
+-- where edges of E are edges of A, a cycle of E that is reached is so in all its states
+pub cycle-reached : (A E : ℕ → ℕ → Type 0) (starts : List ℕ) → ((s r : ℕ) → E s r → A s r) → (c : List ℕ) → ReachedCycle A E starts c → (x : ℕ) → List·Memᴰ x c → Reached A starts x
+cycle-reached A E starts f [] C x m = absurd C
+cycle-reached A E starts f (s ∷ l) C x m = go s l s (C .0) (C .1 .0) x m
+  where
+    go : (s : ℕ) (l : List ℕ) (r : ℕ) → Reached A starts s → Through E s l r → (x : ℕ) → List·Memᴰ x (s ∷ l) → Reached A starts x
+    go s [] r R T x m = ⊎-elim (λ u. rw u R) (λ u. absurd (List·Memᴰ·not-nil u)) (List·Memᴰ·cases-cons m)
+    go s (y ∷ l) r R T x m = ⊎-elim (λ u. rw u R) (go y l r (byEdge R (f s y (T .0))) (T .1) x) (List·Memᴰ·cases-cons m)
 
 module _ (E : ℕ → ℕ → Type 0) (e : ℕ → ℕ → Bool) (n : ℕ) (starts : List ℕ) (D : Decides E e) where
   abbrev test : List ℕ → ℕ → Bool

@@ -12,7 +12,7 @@ use Rattle.table_format.proofs.Any.{any-found, any-mem}
 use Rattle.graph.specs.Lists.{Distinct, AllBelow, member, upTo, lowest}
 use Rattle.graph.specs.Walk.{Through, Walk, CycleStates, Among, Decides}
 use Rattle.graph.specs.Cycle.{enough, backIn, backAfter, onCycle}
-use Rattle.graph.specs.Reached.{Reached, NoReachedCycle, reached}
+use Rattle.graph.specs.Reached.{Reached, NoReachedCycle, ReachedCycle, reached}
 use Rattle.graph.specs.Shown.{ShownFrom, Shown, nextThrough, firstThrough, looped, hasReachedCycle, shownCycle}
 use Rattle.graph.proofs.Lists.{member-mem, mem-member, upTo-mem, mem-upTo, Lowest, lowest-is, before-trans, before-never}
 use Rattle.graph.proofs.Walk.{WalkThrough, through-map, walk-map, freed, walk-below}
@@ -40,6 +40,11 @@ module _ (A E : ℕ → ℕ → Type 0) (starts : List ℕ) where
   shown-distinct (s ∷ l) P =
       let F = freed E s l s (P .closed) in
       (P .closed, ⊎-elim (λ u. subst (λ (x : List ℕ). Distinct (s ∷ x)) u (F .distinct)) (λ u. absurd (let h : length l ≤ length (F .states) = P .shortest (F .states) (F .leads) in omega arith)) (F .no-longer))
+
+  -- so it is a cycle that is reached
+  pub shown-cycle : (c : List ℕ) → Shown A E starts c → ReachedCycle A E starts c
+  shown-cycle [] P = P
+  shown-cycle (s ∷ l) P = (P .is-reached, shown-distinct (s ∷ l) P)
 
 -- the same of another graph that has the same edges
 module _ {A E B F : ℕ → ℕ → Type 0} (starts : List ℕ) (to : (s r : ℕ) → A s r ↔ B s r) (on : (s r : ℕ) → E s r ↔ F s r) where
@@ -128,6 +133,10 @@ module _ (A E : ℕ → ℕ → Type 0) (a e : ℕ → ℕ → Bool) (n : ℕ) (
   shown-test h =
       let R = any-found (looped a e n starts) (upTo n) h in
       rw h (from-is (lowest (looped a e n starts) n) (lowest-is (looped a e n starts) n (R .0) (mem-upTo n (R .0) (R .1)) (R .2)))
+
+  -- so there are states of a reached cycle
+  pub some-test : hasReachedCycle a e n starts ≡ true → (c : List ℕ) × ReachedCycle A E starts c
+  some-test h = (shownCycle a e n starts, shown-cycle A E starts (shownCycle a e n starts) (shown-test h))
 
   pub none-test : hasReachedCycle a e n starts ≡ false → NoReachedCycle A E starts × (shownCycle a e n starts ≡ [])
   unfolding shownCycle

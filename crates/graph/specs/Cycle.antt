@@ -22,7 +22,3 @@ module _ (e : ℕ → ℕ → Bool) (n : ℕ) where
   -- some walk leads from s to s
   abbrev pub onCycle : ℕ → Bool
   onCycle s = any (backAfter s) (enough n)
-
-  -- some walk comes back to its start
-  abbrev pub hasCycle : Bool
-  hasCycle = any onCycle (upTo n)

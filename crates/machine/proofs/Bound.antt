@@ -1,4 +1,4 @@
--- Without an idle cycle a path that the words allow has fewer arcs than (letters to read + 1) × states.
+-- Where no idle cycle is reached, a path that the words allow has fewer arcs than (letters to read + 1) × states.
 use Prim.Native.Nat.{ℕ, zero, suc, _+_, _<_, _≤_}
 use mathlib.Core.Path.{_≡_, refl, subst}
 use mathlib.Core.Bool.{Bool, true, false, _&&_}
@@ -16,8 +16,8 @@ use Rattle.graph.proofs.Cost.{few-edges}
 use Rattle.machine.specs.Query.{Side, upperSide, lowerSide, reads, letter, word, Query}
 use Rattle.machine.specs.Transducer.{arcAt, sideFollow, sideToRead, Passed, passed, nothingPassed, followArc, toReadOn, lettersToRead, machine}
 use Rattle.machine.specs.Machine.{Path, start, more, final, datum, size, Allowed, Bounded}
-use Rattle.machine.specs.Idle.{sideIdle, idleOn, idle, Leads, IdleArc, NoIdleCycle}
-use Rattle.machine.proofs.Idle.{among}
+use Rattle.machine.specs.Idle.{sideIdle, idleOn, idle, anyArc, AnyArc, IdleArc, NoIdleCycle}
+use Rattle.machine.proofs.Idle.{among, any-arc}
 use Rattle.machine.proofs.Transducer.{arc-of, at-mem, bind-parts, follow-parts, somewhen-parts, getD-lt}
 
 abbrev pub countIf : Bool → ℕ → ℕ
@@ -42,13 +42,6 @@ side-law false w (suc x) n m e = record { within = λ h. omega arith; grows = om
 other-false : (a b : Bool) → (a && b) ≡ false → a ≡ true → b ≡ false
 other-false true b e h = e
 other-false false b e h = cc
-
--- any arc of the table; one that passes a test is one
-abbrev AnyArc : Table → ℕ → ℕ → Type 0
-AnyArc t = Leads (t .arcs) (λ a. true)
-
-any-arc : {arcs : List Arc} {test : Arc → Bool} (s r : ℕ) → Leads arcs test s r → Leads arcs (λ a. true) s r
-any-arc s r A = record { arc = A .arc; listed = A .listed; from = A .from; to = A .to; passes = refl }
 
 module _ (t : Table) (q : Query) where
   abbrev pub readOn : Side → Passed → ℕ
@@ -98,7 +91,7 @@ module _ (t : Table) (q : Query) where
       from : ℕ
       initially : List·Memᴰ from (t .initials)
       cost : ℕ
-      walk : Costly (AnyArc t) (IdleArc t (q .task)) from (final (machine t q) p) (size p) cost
+      walk : Costly (AnyArc (t .arcs)) (IdleArc t (q .task)) from (final (machine t q) p) (size p) cost
       within-read : cost ≤ readCount d
 
     cost-of : (p : Path) → Allowed (machine t q) p → (d : Passed) → datum (machine t q) p ≡ some d → CostOf p d
@@ -134,5 +127,5 @@ module _ (t : Table) (q : Query) where
         omega (
           arith,
           mul-le-mul-right (t .states) h,
-          few-edges (AnyArc t) (IdleArc t (q .task)) (t .states) (t .initials) any-arc (among t R (λ a. true)) (λ s r w. none-idle s w) (R .initial-in) (C .from) (C .initially) (C .walk),
+          few-edges (AnyArc (t .arcs)) (IdleArc t (q .task)) (t .states) (t .initials) any-arc (among t R anyArc) none-idle (R .initial-in) (C .from) (C .initially) (C .walk),
         )

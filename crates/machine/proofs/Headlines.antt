@@ -30,7 +30,7 @@ use Rattle.machine.specs.Call.{Replied, Steps, Stops}
 use Rattle.machine.specs.Order.{accepting, outputs, ListsAllowed, Lists, Narrows}
 use Rattle.machine.specs.Denotation.{initialsTell}
 use Rattle.machine.specs.Transducer.{arcAt, Passed, lettersToRead, writtenBy, machine}
-use Rattle.machine.specs.Idle.{IdleWalk, NoIdleCycle, CycleStates, hasIdleCycle}
+use Rattle.machine.specs.Idle.{StateReached, IdleWalk, NoIdleCycle, CycleStates, hasIdleCycle}
 use Rattle.machine.specs.Stack.{mostFrames, framesIn}
 use Rattle.refusal.specs.Told.{foundKind, refusedKind}
 use Rattle.machine.specs.Asked.{Asked, runs, asked}
@@ -119,14 +119,19 @@ all-not-finite t a m F = finite.all-infinite (F .locally-finite a m)
 module _ (t : Table) (rules : keepsRules t ≡ true) (k : Task) where
   -- The test says whether there is one.
   pub cycle-test : (hasIdleCycle t k ≡ false) ↔ NoIdleCycle t k
-  cycle-test = (idles.none-found t k (ruled t rules), idles.none-there t k)
+  cycle-test = (idles.none-found t k (ruled t rules), idles.none-there t k (ruled t rules))
 
-  -- "Report 6487 calls a machine without infinite paths noetherian; here the two agree."
+  -- Of a cycle that is told, every state is reached.
+  pub told-reached : (c : List ℕ) → CycleStates t k c → (s : ℕ) → List·Memᴰ s c → StateReached t s
+  told-reached = idles.told-reached t k
+
+  -- "Report 6487 calls a machine without infinite paths noetherian; here the two agree." As document 004 says it: no computation from an initial
+  -- cell is endless.
   pub noetherian-is : NoIdleCycle t k ↔ Noetherian (kernel t k)
   noetherian-is = (noether.noetherian t k (ruled t rules), noether.no-idle-cycle t k (ruled t rules))
 
   -- "Readings of a word from a finite Eilenberg machine": report 6486's finite machine is locally finite and noetherian, and it is that exactly
-  -- where there is no idle cycle.
+  -- where no idle cycle is reached.
   pub finite-is : NoIdleCycle t k ↔ Finite (kernel t k)
   finite-is = (λ none. record { locally-finite = λ a m. finite.label-finite k a; noetherian = noetherian-is .0 none }, λ F. noetherian-is .1 (F .noetherian))
 
@@ -182,14 +187,14 @@ arcs-of t rules q = transducer.arc-of t q (ruled t rules .rising)
 pub written-length : (t : Table) (q : Query) (p : Path) (d : Passed) → datum (machine t q) p ≡ some d → length (output (machine t q) p) ≡ writtenBy q d
 written-length = transducer.written-length
 
--- THE START: 12, after 20, 11 and 10, exactly where there is an idle cycle, with the states of one; and its promise can be kept.
+-- THE START: 12, after 20, 11 and 10, exactly where an idle cycle is reached, with the states of one; and its promise can be kept.
 
 module _ (cells : List ℕ) (task : ℕ) (upper lower : List ℕ) where
   pub start-there : (s : Started) × StartIs cells task upper lower s
   start-there = starts.start-there cells task upper lower
 
   module _ (s : Started) (S : StartIs cells task upper lower s) where
-    pub twelve : (startToldBy s .number ≡ 12) ↔ ((t : Table) × (q : Query) × (asked cells task upper lower ≡ runs t q) × ((x : ℕ) × IdleWalk t (q .task) x x))
+    pub twelve : (startToldBy s .number ≡ 12) ↔ ((t : Table) × (q : Query) × (asked cells task upper lower ≡ runs t q) × ((x : ℕ) × StateReached t x × IdleWalk t (q .task) x x))
     twelve = starts.twelve cells task upper lower s S
 
     pub twelve-tells : (t : Table) (q : Query) → asked cells task upper lower ≡ runs t q → startToldBy s .number ≡ 12 → CycleStates t (q .task) (take (startToldBy s .length) (s .cycle))
@@ -268,11 +273,11 @@ module _ (cells : List ℕ) (task : ℕ) (upper lower : List ℕ) (s : Started) 
         λ xs H L. ended-whole upper lower (R .table) (R .query) (s .run) xs (D .3 xs H) L ∙ order.readings-outputs (machine (R .table) (R .query)) (tour (machine (R .table) (R .query))),
       )
 
-  -- a start is ready exactly where 20, 11 and 10 are not given and there is no idle cycle
+  -- a start is ready exactly where 20, 11 and 10 are not given and no idle cycle is reached
   pub ready-is : (s .answer ≡ Ready) ↔ ((t : Table) × (q : Query) × (asked cells task upper lower ≡ runs t q) × NoIdleCycle t (q .task))
   ready-is = (
     λ e. let E = start-to-end e in (E .0, E .1, E .2, E .4),
-    λ w. starts.ready-where cells task upper lower s S (w .0) (w .1) (w .2) (idles.none-there (w .0) (w .1 .task) (w .3)),
+    λ w. starts.ready-where cells task upper lower s S (w .0) (w .1) (w .2) (idles.none-there (w .0) (w .1 .task) (ruled (w .0) (asks.asked-facts cells task upper lower (w .0) (w .1) (w .2) .keeps-rules)) (w .3)),
   )
 
 -- THE END COMES, after a start without a refusal: of calls with room enough, no more than the tree's size do not answer Ended; so the last of a

@@ -1,4 +1,4 @@
--- Report 6486's machine is noetherian exactly where there is no idle cycle.
+-- Report 6486's machine is noetherian, as document 004 says it, exactly where no idle cycle is reached.
 use Prim.Native.Nat.{ℕ, zero, suc, _<_}
 use native.Mathlib.Omega.{arith}
 use mathlib.Core.Path.{_≡_, refl, sym, ap, subst, _∙_}
@@ -9,12 +9,14 @@ use lib.ListN.{length}
 use Rattle.table_format.specs.Table.{Arc, Table}
 use Rattle.table_format.proofs.Tests.{and-left, and-right}
 use Rattle.table_format.proofs.Ruled.{Ruled}
+use Rattle.graph.specs.Reached.{initial, byEdge}
 use Rattle.graph.proofs.Walk.{rotated}
+use Rattle.graph.proofs.Search.{closed-reached}
 use Rattle.machine.specs.Query.{Task, Side, upperSide, lowerSide, reads, letter, Query}
 use Rattle.machine.specs.Machine.{Path, start, more, size}
 use Rattle.machine.specs.Transducer.{sideWrites, nothingPassed, machine}
-use Rattle.machine.specs.Idle.{sideIdle, idle, IdleArc, IdleWalk, NoIdleCycle}
-use Rattle.machine.specs.Report.{Word, Cell, Edge, Noetherian, kernel}
+use Rattle.machine.specs.Idle.{sideIdle, idle, AnyArc, StateReached, IdleArc, IdleWalk, NoIdleCycle}
+use Rattle.machine.specs.Report.{Word, Cell, Edge, InitialCell, Noetherian, kernel}
 use Rattle.machine.specs.Agree.{arcsBack}
 use Rattle.machine.proofs.Bound.{bounded}
 use Rattle.machine.proofs.Traces.{sideData, sideRel, on, from-sides, PathOf, extend}
@@ -84,15 +86,21 @@ module _ (t : Table) (k : Task) (U : Ruled t) where
         extend t′ q′ v U′ 0 (c n) (c (suc n)) (edges n) (path n)
         (record { arc = E n .arc; listed = E n .listed; from = E n .from; to = E n .to; related = E n .related })
 
-    never : NoIdleCycle t k → ⊥
-    never N =
+    -- what is reached from where the trace starts is reached
+    from-there : InitialCell (kernel t k) (c 0) → {s : ℕ} → StateReached t′ s → StateReached t s
+    from-there I =
+        closed-reached (AnyArc (t .arcs)) (c 0 .1 ∷ []) (StateReached t) (λ s m. ⊎-elim (λ u. initial (rw u I)) (λ u. absurd (List·Memᴰ·not-nil u)) (List·Memᴰ·cases-cons m))
+        (λ s r R g. byEdge R g)
+
+    never : InitialCell (kernel t k) (c 0) → NoIdleCycle t k → ⊥
+    never I N =
         let n : ℕ = machine t′ q′ .limit in
         let P = path n in
-        let h : size (P .path) < n = bounded t′ q′ N U′ (P .path) (P .allowed) in
+        let h : size (P .path) < n = bounded t′ q′ (λ s R w. N s (from-there I R) w) U′ (P .path) (P .allowed) in
         let e : size (P .path) ≡ n = size-is t′ (P .path) ∙ ap length (P .arcs-are) ∙ edges-length n in
         omega (arith, h, e)
 
-  -- An idle cycle is an endless trace.
+  -- An idle cycle is an endless trace, with any data at its beginning.
   abbrev sideMoved : Bool → ℕ → Word → Word
   sideMoved true x w = w
   sideMoved false x w = w ++ sideWrites false x
@@ -110,7 +118,7 @@ module _ (t : Table) (k : Task) (U : Ruled t) where
   idle-related a d e upperSide = side-idle (reads k upperSide) (a .upper) (d .0) (and-left (sideIdle (reads k upperSide) (a .upper)) (sideIdle (reads k lowerSide) (a .lower)) e)
   idle-related a d e lowerSide = side-idle (reads k lowerSide) (a .lower) (d .1) (and-right (sideIdle (reads k upperSide) (a .upper)) (sideIdle (reads k lowerSide) (a .lower)) e)
 
-  module _ (s : ℕ) (w : IdleWalk t k s s) where
+  module _ (s : ℕ) (w : IdleWalk t k s s) (u : Word × Word) where
     abbrev turn : ℕ → (x : ℕ) × IdleWalk t k x x
     turn zero = (s, w)
     turn (suc n) = (rotated (IdleArc t k) (turn n .0) (turn n .1) .0, rotated (IdleArc t k) (turn n .0) (turn n .1) .2)
@@ -119,7 +127,7 @@ module _ (t : Table) (k : Task) (U : Ruled t) where
     arcAfter n = rotated (IdleArc t k) (turn n .0) (turn n .1) .1
 
     abbrev dataAt : ℕ → Word × Word
-    dataAt zero = ([], [])
+    dataAt zero = u
     dataAt (suc n) = movedBy (arcAfter n .arc) (dataAt n)
 
     endless : (n : ℕ) → Edge (kernel t k) (dataAt n, turn n .0) (dataAt (suc n), turn (suc n) .0)
@@ -127,8 +135,72 @@ module _ (t : Table) (k : Task) (U : Ruled t) where
         let A = arcAfter n in
         record { arc = A .arc; listed = A .listed; from = A .from; to = A .to; related = from-sides k (A .arc) (dataAt n) (dataAt (suc n)) (idle-related (A .arc) (dataAt n) (A .passes)) }
 
+  -- An endless trace from a state: what is written there is given, and what is to be read is not.
+  abbrev Given : Bool → Word → Word → Type 0
+  Given true v w = Unit {0}
+  Given false v w = v ≡ w
+
+  record EndlessFrom (s : ℕ) (u : Word × Word) : Type 0 where
+    cells : ℕ → Cell (kernel t k)
+    edges-of : (n : ℕ) → Edge (kernel t k) (cells n) (cells (suc n))
+    at : cells 0 .1 ≡ s
+    given : (x : Side) → Given (reads k x) (on x (cells 0 .0)) (on x u)
+
+  -- An arc to that state, put before it: its letter is read first, or was written last.
+  abbrev sideBefore : Bool → ℕ → Word → Word → Word
+  sideBefore true zero u w = w
+  sideBefore true (suc x) u w = suc x ∷ w
+  sideBefore false x u w = u
+
+  before-related : (r : Bool) (x : ℕ) (u w : Word) → Given r w (u ++ sideWrites false x) → sideRel r x (sideBefore r x u w) w
+  before-related true zero u w e = refl
+  before-related true (suc x) u w e = refl
+  before-related false zero u w e = sym (e ∙ append-nil u)
+  before-related false (suc x) u w e = e
+
+  before-given : (r : Bool) (x : ℕ) (u w : Word) → Given r (sideBefore r x u w) u
+  before-given true x u w = tt
+  before-given false x u w = refl
+
+  given-same : (r : Bool) (u : Word) → Given r u u
+  given-same true u = tt
+  given-same false u = refl
+
+  abbrev writtenAfter : Arc → Word × Word → Word × Word
+  writtenAfter a u = (u .0 ++ sideWrites false (a .upper), u .1 ++ sideWrites false (a .lower))
+
+  put-before : (s r : ℕ) (g : AnyArc (t .arcs) s r) (u : Word × Word) → EndlessFrom r (writtenAfter (g .arc) u) → EndlessFrom s u
+  put-before s r g u W = record { cells = cells′; edges-of = edge; at = refl; given = given′ }
+    where
+      d : Word × Word
+      d = (sideBefore (reads k upperSide) (g .arc .upper) (u .0) (W .cells 0 .0 .0), sideBefore (reads k lowerSide) (g .arc .lower) (u .1) (W .cells 0 .0 .1))
+
+      cells′ : ℕ → Cell (kernel t k)
+      cells′ zero = (d, s)
+      cells′ (suc n) = W .cells n
+
+      related : (x : Side) → sideRel (reads k x) (letter x (g .arc)) (on x d) (on x (W .cells 0 .0))
+      related upperSide = before-related (reads k upperSide) (g .arc .upper) (u .0) (W .cells 0 .0 .0) (W .given upperSide)
+      related lowerSide = before-related (reads k lowerSide) (g .arc .lower) (u .1) (W .cells 0 .0 .1) (W .given lowerSide)
+
+      edge : (n : ℕ) → Edge (kernel t k) (cells′ n) (cells′ (suc n))
+      edge zero = record { arc = g .arc; listed = g .listed; from = g .from; to = g .to ∙ sym (W .at); related = from-sides k (g .arc) d (W .cells 0 .0) related }
+      edge (suc n) = W .edges-of n
+
+      given′ : (x : Side) → Given (reads k x) (on x d) (on x u)
+      given′ upperSide = before-given (reads k upperSide) (g .arc .upper) (u .0) (W .cells 0 .0 .0)
+      given′ lowerSide = before-given (reads k lowerSide) (g .arc .lower) (u .1) (W .cells 0 .0 .1)
+
+  around : (s : ℕ) → IdleWalk t k s s → (u : Word × Word) → EndlessFrom s u
+  around s w u = record { cells = λ n. (dataAt s w u n, turn s w u n .0); edges-of = endless s w u; at = refl; given = λ x. given-same (reads k x) (on x u) }
+
+  -- so one from a reached state becomes one from an initial cell
+  ends : Noetherian (kernel t k) → {s : ℕ} → StateReached t s → ((u : Word × Word) → EndlessFrom s u) → ⊥
+  ends N (initial m) W = let X = W ([], []) in N (X .cells) (rw (X .at) m) (X .edges-of)
+  ends N (byEdge {s} {r} R g) W = ends N R (λ u. put-before s r g u (W (writtenAfter (g .arc) u)))
+
   pub noetherian : NoIdleCycle t k → Noetherian (kernel t k)
-  noetherian N c E = never c E N
+  noetherian N c I E = never c E I N
 
   pub no-idle-cycle : Noetherian (kernel t k) → NoIdleCycle t k
-  no-idle-cycle N s w = N (λ n. (dataAt s w n, turn s w n .0)) (endless s w)
+  no-idle-cycle N s R w = ends N R (around s w)

@@ -1,10 +1,10 @@
--- What a start tells: where it is ready, all that demand 3 uses; 12 exactly where there is an idle cycle; and a start can always be made.
+-- What a start tells: where it is ready, all that demand 3 uses; 12 exactly where an idle cycle is reached; and a start can always be made.
 use Prim.Native.Nat.{ℕ, _-_, _≤_}
 use native.Mathlib.Omega.{arith}
 use mathlib.Core.Path.{_≡_, refl, sym, ap, subst, _∙_}
 use mathlib.Core.Logic.{_↔_, ⊎-elim}
 use mathlib.Core.Bool.{Bool, true, false, cond}
-use mathlib.Core.List.{List, []}
+use mathlib.Core.List.{List, [], _∷_}
 use lib.ListN.{length, take, replicate, length-append, length-replicate}
 use lib.Seq.{take-append-seam}
 use Rattle.refusal.specs.declared.Refusal.{Refusal}
@@ -18,7 +18,7 @@ use Rattle.graph.proofs.Walk.{cycle-short}
 use Rattle.machine.specs.declared.StartAnswer.the-variants.{Ready, Refused}
 use Rattle.machine.specs.declared.Started.{Started}
 use Rattle.machine.specs.Query.{Task, Query}
-use Rattle.machine.specs.Idle.{idle, IdleArc, IdleWalk, CycleStates, hasIdleCycle}
+use Rattle.machine.specs.Idle.{idle, StateReached, IdleArc, IdleWalk, CycleStates, hasIdleCycle}
 use Rattle.machine.specs.Asked.{Asked, turned, runs, asked}
 use Rattle.machine.specs.Start.{firstRun, startedWith, startedAs, started, TellsCycle, startToldBy, StartedIs, StartIs}
 use Rattle.machine.proofs.Told.{start-told-one}
@@ -77,7 +77,7 @@ module _ (cells : List ℕ) (task : ℕ) (upper lower : List ℕ) where
   start-there = go (asked cells task upper lower) refl
     where
       by-test : (t : Table) (q : Query) → asked cells task upper lower ≡ runs t q → (b : Bool) → hasIdleCycle t (q .task) ≡ b → (c : List ℕ) × TellsCycle (asked cells task upper lower) c
-      by-test t q a true h = let C = cycle-there t (q .task) h in (C .0, subst (λ (z : Asked). TellsCycle z (C .0)) (sym a) (λ e. C .1))
+      by-test t q a true h = let C = cycle-there t (q .task) (ruled t (asked-facts cells task upper lower t q a .keeps-rules)) h in (C .0, subst (λ (z : Asked). TellsCycle z (C .0)) (sym a) (λ e. C .1))
       by-test t q a false h = ([], subst (λ (z : Asked). TellsCycle z []) (sym a) (λ e. absurd (let z : _≡_ {A = Bool} true false = sym e ∙ h in let y : _≡_ {A = ℕ} 0 1 = cc in omega arith)))
 
       cycle-for : (w : Asked) → asked cells task upper lower ≡ w → (c : List ℕ) × TellsCycle (asked cells task upper lower) c
@@ -90,7 +90,8 @@ module _ (cells : List ℕ) (task : ℕ) (upper lower : List ℕ) where
 -- a cycle's states are states, at most as many as there are
 module _ (t : Table) (k : Task) (U : Ruled t) where
   pub cycle-length : (c : List ℕ) → CycleStates t k c → length c ≤ t .states
-  cycle-length = cycle-short (IdleArc t k) (t .states) (among t U (idle k))
+  cycle-length [] C = absurd C
+  cycle-length (s ∷ l) C = cycle-short (IdleArc t k) (t .states) (among t U (idle k)) (s ∷ l) (C .1)
 
 -- a start that is asked for a table and a query
 module _ (cells : List ℕ) (task : ℕ) (upper lower : List ℕ) (t : Table) (q : Query) (U : Ruled t) (a : asked cells task upper lower ≡ runs t q) (s : Started) (S : StartIs cells task upper lower s) where
@@ -109,11 +110,11 @@ module _ (cells : List ℕ) (task : ℕ) (upper lower : List ℕ) (t : Table) (q
       go true e = y e
       go false e = n e
 
-  -- 12 exactly where there is an idle cycle
-  pub twelve-where : (startToldBy s .number ≡ 12) ↔ ((x : ℕ) × IdleWalk t (q .task) x x)
+  -- 12 exactly where an idle cycle is reached
+  pub twelve-where : (startToldBy s .number ≡ 12) ↔ ((x : ℕ) × StateReached t x × IdleWalk t (q .task) x x)
   twelve-where =
-      by-test (λ z. (startToldBy z .number ≡ 12) ↔ ((x : ℕ) × IdleWalk t (q .task) x x)) (λ h. (λ e. cycle-walk t (q .task) (S .cycle) (tells h), λ w. refl))
-      (λ h. (λ e. absurd (omega arith), λ w. absurd (none-found t (q .task) U h (w .0) (w .1))))
+      by-test (λ z. (startToldBy z .number ≡ 12) ↔ ((x : ℕ) × StateReached t x × IdleWalk t (q .task) x x)) (λ h. (λ e. cycle-walk t (q .task) (S .cycle) (tells h), λ w. refl))
+      (λ h. (λ e. absurd (omega arith), λ w. absurd (none-found t (q .task) U h (w .0) (w .1) (w .2))))
 
   -- the states told with it
   pub twelve-tells : startToldBy s .number ≡ 12 → CycleStates t (q .task) (take (startToldBy s .length) (s .cycle))
@@ -138,14 +139,14 @@ module _ (cells : List ℕ) (task : ℕ) (upper lower : List ℕ) (s : Started) 
   table-ruled : (t : Table) (q : Query) → asked cells task upper lower ≡ runs t q → Ruled t
   table-ruled t q a = ruled t (asked-facts cells task upper lower t q a .keeps-rules)
 
-  pub twelve : (startToldBy s .number ≡ 12) ↔ ((t : Table) × (q : Query) × (asked cells task upper lower ≡ runs t q) × ((x : ℕ) × IdleWalk t (q .task) x x))
+  pub twelve : (startToldBy s .number ≡ 12) ↔ ((t : Table) × (q : Query) × (asked cells task upper lower ≡ runs t q) × ((x : ℕ) × StateReached t x × IdleWalk t (q .task) x x))
   twelve = (
     to (asked cells task upper lower) refl (turned-by cells task upper lower),
     λ w. twelve-where cells task upper lower (w .0) (w .1) (table-ruled (w .0) (w .1) (w .2)) (w .2) s S .1 (w .3),
   )
     where
       to : (z : Asked) → asked cells task upper lower ≡ z → TurnedBy z → startToldBy s .number ≡ 12
-          → (t : Table) × (q : Query) × (asked cells task upper lower ≡ runs t q) × ((x : ℕ) × IdleWalk t (q .task) x x)
+          → (t : Table) × (q : Query) × (asked cells task upper lower ≡ runs t q) × ((x : ℕ) × StateReached t x × IdleWalk t (q .task) x x)
       to (turned r) a N e =
           let z : numberOf r ≡ 12 = ap (λ (z : Started). startToldBy z .number) (sym (turned-as r a)) ∙ e in
           absurd (⊎-elim (λ x. omega arith) (⊎-elim (λ x. omega arith) (λ x. omega arith)) N)

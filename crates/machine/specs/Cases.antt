@@ -1,4 +1,4 @@
--- Document 01, "Cases on table K", the starred ones, as rows of one table. A row is right where the definitions of the start, of the call
+-- Document 01, "Cases on table K", the starred ones, and those of document 02, as rows of one table. A row is right where the definitions of the start, of the call
 -- for a reading and of the search tree, run on a loaded table's cells, give what it says.
 use Prim.Native.Nat.{ℕ, _+_, _*_, _≤_, _<_}
 use Prim.Native.Char.{code}
@@ -176,6 +176,21 @@ lone u l k c =
       course = c;
     }
 
+-- table K with states 3 and 4, which idle arcs join in a loop, and before these arcs further ones of state 2
+abbrev corner : List Arc → ℕ → List ℕ → List ℕ → Course → Row
+corner more k u l c =
+    record {
+      table = record { states = 5; initials = 0 ∷ []; terminals = 1 ∷ 2 ∷ []; arcs = tableK [] .arcs ++ (more ++ (arcAs 3 0 0 4 ∷ arcAs 4 0 0 3 ∷ [])) };
+      task = k;
+      upper = u;
+      lower = l;
+      course = c;
+    }
+
+-- an arc from there into the loop, with letters that the words do not have
+abbrev connected : List Arc
+connected = arcAs 2 7 8 3 ∷ []
+
 -- two initial states, 1 before 0, each with one arc to state 2 that reads 1; synthesis of 01
 abbrev pair : ℕ → ℕ → Course → Row
 pair x y c =
@@ -243,6 +258,13 @@ rows =
     ∷ lone 1 0 1 (goes (big ∷ []) (saysEnded 3 ∷ []) 3)
     ∷ lone 1 0 2 (goes (big ∷ []) (saysEnded 3 ∷ []) 3)
     ∷ lone 1 0 3 (refusedWith 12)
+    -- Document 02, slip 2: a loop that no arcs reach changes nothing; one that arcs reach is refused, whatever their letters and the words
+    ∷ corner [] 1 (1 ∷ 2 ∷ []) (1 ∷ 3 ∷ 2 ∷ []) (goes (big ∷ big ∷ []) (saysFound 6 [] ∷ saysEnded 6 ∷ []) 12)
+    ∷ corner [] 2 (1 ∷ 2 ∷ []) [] (goes (big ∷ big ∷ big ∷ []) (saysFound 3 (1 ∷ 2 ∷ []) ∷ saysFound 8 (1 ∷ 3 ∷ 2 ∷ []) ∷ saysEnded 9 ∷ []) 20)
+    ∷ corner [] 3 [] (1 ∷ 3 ∷ 2 ∷ []) (goes (big ∷ big ∷ []) (saysFound 6 (1 ∷ 2 ∷ []) ∷ saysEnded 6 ∷ []) 12)
+    ∷ corner connected 1 (1 ∷ 2 ∷ []) (1 ∷ 3 ∷ 2 ∷ []) (refusedWith 12)
+    ∷ corner connected 2 (1 ∷ 2 ∷ []) [] (refusedWith 12)
+    ∷ corner connected 3 [] (1 ∷ 3 ∷ 2 ∷ []) (refusedWith 12)
     -- "Here the first listed goes first."
     ∷ pair 5 6 (goes (big ∷ big ∷ big ∷ []) (saysFound 2 (6 ∷ []) ∷ saysFound 4 (5 ∷ []) ∷ saysEnded 2 ∷ []) 8)
     -- "two paths with the same output give it twice"

@@ -1,4 +1,4 @@
--- Document 01, "Table and paths": idle arcs and idle cycles; refusal 12 and the cycle that it tells.
+-- Document 01, "Table and paths": idle arcs and idle cycles; document 02, slip 2: those that are reached; refusal 12 and the cycle that it tells.
 use Prim.Native.Nat.{ℕ, zero, suc}
 use mathlib.Core.Path.{_≡_}
 use mathlib.Core.Bool.{Bool, true, false, _&&_}
@@ -6,9 +6,9 @@ use mathlib.Core.List.{List, List·Memᴰ}
 use lib.Dec.{eqb}
 use Rattle.table_format.specs.Table.{Arc, Table}
 use Rattle.table_format.specs.Rules.{any}
-use Rattle.graph.specs.Walk as walks
-use Rattle.graph.specs.Walk.{Walk, NoCycle}
-use Rattle.graph.specs.Cycle.{hasCycle}
+use Rattle.graph.specs.Walk.{Walk}
+use Rattle.graph.specs.Reached.{Reached, NoReachedCycle, ReachedCycle}
+use Rattle.graph.specs.Shown.{hasReachedCycle}
 use Rattle.machine.specs.Query.{Task, Side, upperSide, lowerSide, reads, letter}
 
 -- a letter x passes nothing that is read: its side is written, or it is 0
@@ -37,6 +37,18 @@ pub record Leads (arcs : List Arc) (test : Arc → Bool) (s r : ℕ) : Type 0 wh
 abbrev pub leadsBy : List Arc → (Arc → Bool) → ℕ → ℕ → Bool
 leadsBy arcs test s r = any (λ a. test a && (eqb (a .source) s && eqb (a .target) r)) arcs
 
+-- any arc, whatever its letters
+abbrev pub anyArc : Arc → Bool
+anyArc a = true
+
+-- one leads from s to r
+abbrev pub AnyArc : List Arc → ℕ → ℕ → Type 0
+AnyArc arcs = Leads arcs anyArc
+
+-- a state "can be reached by arcs from an initial state", by none or more of them
+abbrev pub StateReached : Table → ℕ → Type 0
+StateReached t = Reached (AnyArc (t .arcs)) (t .initials)
+
 module _ (t : Table) (k : Task) where
   -- an idle arc leads from s to r
   abbrev pub IdleArc : ℕ → ℕ → Type 0
@@ -46,14 +58,14 @@ module _ (t : Table) (k : Task) where
   abbrev pub IdleWalk : ℕ → ℕ → Type 0
   IdleWalk = Walk IdleArc
 
-  -- "An idle cycle is a closed walk of one or more idle arcs, in any part of the table": there is none
+  -- "An idle cycle is a closed walk of one or more idle arcs": no state that is reached is on one
   abbrev pub NoIdleCycle : Type 0
-  NoIdleCycle = NoCycle IdleArc
+  NoIdleCycle = NoReachedCycle (AnyArc (t .arcs)) IdleArc (t .initials)
 
-  -- 12: "the states of one such cycle, none twice, in walking order"
+  -- 12: "the states of one such cycle, none twice, in walking order"; the first of them is reached, and so are all
   abbrev pub CycleStates : List ℕ → Type 0
-  CycleStates = walks.CycleStates IdleArc
+  CycleStates = ReachedCycle (AnyArc (t .arcs)) IdleArc (t .initials)
 
   -- whether there is one (cycle-test)
   unfoldable pub hasIdleCycle : Bool
-  hasIdleCycle = hasCycle (leadsBy (t .arcs) (idle k)) (t .states)
+  hasIdleCycle = hasReachedCycle (leadsBy (t .arcs) anyArc) (leadsBy (t .arcs) (idle k)) (t .states) (t .initials)

@@ -71,9 +71,14 @@ module _ (K : Kernel) where
   abbrev pub Characteristic : Rel (K .Data) (K .Data)
   Characteristic d e = (q : ℕ) × (r : ℕ) × List·Memᴰ q (K .table .initials) × List·Memᴰ r (K .table .terminals) × ((w : KernelPath q r) × label w d e)
 
-  -- definition 1.1: "there is no infinite trace"
+  -- document 004: "La cellule est dite initiale .. si q est un état initial"
+  abbrev pub InitialCell : Cell → Type 0
+  InitialCell c = List·Memᴰ (c .1) (K .table .initials)
+
+  -- document 004: "noëthérienne si tous ses calculs sont finis", and a computation begins at an initial cell; definition 1.1 has "no infinite
+  -- trace", from any cell
   abbrev pub Noetherian : Type 0
-  Noetherian = (c : ℕ → Cell) → ((n : ℕ) → Edge (c n) (c (suc n))) → ⊥
+  Noetherian = (c : ℕ → Cell) → InitialCell (c 0) → ((n : ℕ) → Edge (c n) (c (suc n))) → ⊥
 
   -- definition 1.1: a machine is locally finite where every relation of its arcs is, and "called finite iff it is locally finite and noetherian"
   pub record Finite : Type 0 where

@@ -3,10 +3,15 @@ use crate::query;
 use crate::random::Random;
 use crate::table::{Arc, Table};
 
+/// The letter of ways into a corner, which no other arc has and few words have.
+const WAY_IN: u16 = 4;
+
 /// What a random table is drawn from.
 #[derive(Clone, Copy, Debug)]
 struct Plan {
     states: usize,
+    /// So many states are a corner, which at most one arc leads to from the rest.
+    corner: usize,
     letters: usize,
     arcs: usize,
     /// One letter in so many is 0.
@@ -22,6 +27,11 @@ fn plan(random: &mut Random) -> Plan {
     };
     Plan {
         states,
+        corner: if random.one_in(2) {
+            random.within(1, 3).min(states - 1)
+        } else {
+            0
+        },
         letters: random.within(1, 3),
         arcs: random.below(3 * states + 3),
         blank: random.within(2, 4),
@@ -36,17 +46,16 @@ fn letter(random: &mut Random, plan: Plan) -> u16 {
     }
 }
 
-/// Some different states in any order.
-fn states(random: &mut Random, count: usize, low: usize) -> Vec<u16> {
-    let mut all: Vec<u16> = (0..count as u16).collect();
-    random.shuffle(&mut all);
-    all.truncate(random.within(low, count));
-    all
+/// Some of these states in any order.
+fn some(random: &mut Random, states: &[u16], least: usize) -> Vec<u16> {
+    let mut some = states.to_vec();
+    random.shuffle(&mut some);
+    some.truncate(random.within(least, states.len()));
+    some
 }
 
 /// A letter on a side that the task reads, so that the arc is not idle.
-fn wake(random: &mut Random, task: u32, arc: &mut Arc, plan: Plan) {
-    let letter = random.within(1, plan.letters) as u16;
+fn wake(random: &mut Random, task: u32, arc: &mut Arc, letter: u16) {
     match query::sides(task) {
         Some((true, true)) if random.one_in(2) => arc.lower = letter,
         Some((false, _)) => arc.lower = letter,
@@ -62,36 +71,61 @@ fn is_blank(task: u32, arc: &Arc) -> bool {
     }
 }
 
-/// A table that keeps the rules. With `falling` the arcs that read nothing for the task lead down a random order of the states,
-/// so that none of them are in a cycle.
-pub fn table(random: &mut Random, task: u32, falling: bool) -> Table {
-    let plan = plan(random);
-    let mut rank: Vec<usize> = (0..plan.states).collect();
-    random.shuffle(&mut rank);
+/// Arcs between any states, but none into the corner, which is the front of the order, from the rest. With `falling` those of the rest
+/// that read nothing for the task lead up the order, so that none of them are in a cycle.
+fn arcs(random: &mut Random, task: u32, plan: Plan, order: &[u16], falling: bool) -> Vec<Arc> {
     let mut arcs = Vec::new();
     for _ in 0..plan.arcs {
-        let (source, target) = (random.below(plan.states), random.below(plan.states));
+        let from = random.below(order.len());
+        let in_corner = from < plan.corner;
+        let to = random.within(if in_corner { 0 } else { plan.corner }, order.len() - 1);
         let (upper, lower) = (letter(random, plan), letter(random, plan));
-        let mut arc = Arc::new(source as u16, upper, lower, target as u16);
-        if falling && is_blank(task, &arc) && rank[source] >= rank[target] {
-            wake(random, task, &mut arc, plan);
+        let mut arc = Arc::new(order[from], upper, lower, order[to]);
+        if falling && !in_corner && is_blank(task, &arc) && from >= to {
+            let letter = random.within(1, plan.letters) as u16;
+            wake(random, task, &mut arc, letter);
         }
-        if !arcs.contains(&arc) {
-            arcs.push(arc);
-        }
+        arcs.push(arc);
     }
-    if random.one_in(2) {
-        arcs.sort_by_key(|arc| arc.source); // in any order within a source
-    } else {
-        arcs.sort();
-    }
+    arcs
+}
+
+/// Arcs that read and write nothing, round some states.
+fn ring(states: &[u16]) -> impl Iterator<Item = Arc> {
+    let next = states.iter().cycle().skip(1);
+    states.iter().zip(next).map(|(a, b)| Arc::new(*a, 0, 0, *b))
+}
+
+/// A table that keeps the rules. With `falling` arcs lead from the initial states to no cycle that reads nothing for the task; without,
+/// they may, in any part or in the corner alone.
+pub fn table(random: &mut Random, task: u32, falling: bool) -> Table {
+    let plan = plan(random);
+    let mut order: Vec<u16> = (0..plan.states as u16).collect();
+    random.shuffle(&mut order);
+    let (corner, rest) = order.split_at(plan.corner);
     let initials = if random.one_in(3) {
-        states(random, plan.states, 1)
+        some(random, rest, 1)
     } else {
-        vec![random.below(plan.states) as u16]
+        vec![*random.pick(rest)]
     };
-    let mut terminals = states(random, plan.states, 0);
+    let mut terminals = some(random, &order, 0);
     terminals.sort();
+    let way_in = !falling && !corner.is_empty() && random.one_in(2);
+    let mut arcs = arcs(random, task, plan, &order, falling || way_in);
+    if random.one_in(2) {
+        arcs.extend(ring(corner));
+    }
+    if way_in {
+        let mut arc = Arc::new(*random.pick(rest), 0, 0, *random.pick(corner));
+        wake(random, task, &mut arc, WAY_IN);
+        arcs.push(arc);
+    }
+    arcs.sort();
+    arcs.dedup();
+    if random.one_in(2) {
+        random.shuffle(&mut arcs);
+        arcs.sort_by_key(|arc| arc.source); // in any order within a source
+    }
     Table {
         states: plan.states as u16,
         initials,

@@ -1,6 +1,7 @@
 //! The proved library on random searches, starts and damaged places, against the model and the lister.
 use readings_check::answer::{DONE, ENDED, FOUND, PAUSED};
 use readings_check::compare::fixed;
+use readings_check::compare::loops::Loops;
 use readings_check::compare::tally::Tally;
 use readings_check::library::Library;
 
@@ -12,12 +13,14 @@ fn agreed(result: Result<Tally, String>) -> Tally {
 fn searches_agree() {
     let tally = agreed(fixed::searches(&Library));
     tally.demand(1_000, &[DONE, FOUND, PAUSED, ENDED], &[12, 21, 22, 23]);
+    tally.demand_loops(1_000, &[Loops::Apart]);
 }
 
 #[test]
 fn starts_agree() {
     let tally = agreed(fixed::starts(&Library));
     tally.demand(500, &[DONE], &[10, 11, 12, 20]);
+    tally.demand_loops(400, &[Loops::Apart, Loops::Both, Loops::Barred]);
 }
 
 #[test]

@@ -46,6 +46,38 @@ fn idle_cycles_of_the_wrong_task_are_noticed() {
 fn a_frame_dropped_too_early_is_noticed() {
     found(
         &Twin::<{ fault::DROPPED_EARLY }>,
-        "steps: 6, length: 0 }, expected Answer { kind: 1, number: 0, steps: 6, length: 1 }",
+        "steps: 3, length: 0 }, expected Answer { kind: 1, number: 0, steps: 3, length: 1 }",
+    );
+}
+
+#[test]
+fn every_state_as_reached_is_noticed() {
+    found(
+        &Twin::<{ fault::ALL_REACHED }>,
+        "expected Answer { kind: 0, number: 0, steps: 0, length: 0 }, loops Some(Apart)",
+    );
+}
+
+#[test]
+fn the_initial_states_alone_as_reached_are_noticed() {
+    found(
+        &Twin::<{ fault::INITIALS_REACHED }>,
+        "expected Answer { kind: 4, number: 12, steps: 0, length: 0 }, loops None",
+    );
+}
+
+#[test]
+fn a_cycle_that_is_not_reached_is_noticed() {
+    found(
+        &Twin::<{ fault::UNREACHED_TOLD }>,
+        "no idle cycle that is reached: [0, 3], loops Some(Both)",
+    );
+}
+
+#[test]
+fn reach_by_the_letters_of_the_words_is_noticed() {
+    found(
+        &Twin::<{ fault::WORD_REACHED }>,
+        "expected Answer { kind: 4, number: 12, steps: 0, length: 0 }, loops Some(Barred)",
     );
 }

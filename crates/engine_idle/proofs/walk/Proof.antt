@@ -7,7 +7,7 @@ use lib.ListN.{getD, set, getD-replicate}
 use borrow.Author.Needs.{needs}
 use Rattle.graph.proofs.Places.{noted-room}
 use Rattle.engine_idle.proofs.Cycles.{Walked, walk-begins, next-lives, walk-next, walk-part, walk-found}
-use Rattle.engine_peel.specs.Graph.{Next}
+use Rattle.engine_peel.specs.Peel.{Next}
 use Rattle.engine_idle.proofs.walk.Statement.{statement}
 use Rattle.engine_idle.proofs.walk.Tie as tie
 

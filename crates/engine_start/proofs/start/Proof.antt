@@ -8,7 +8,7 @@ use Rattle.table_check.proofs.Passing.{laid}
 use Rattle.machine.specs.Start.{StartIs}
 use Rattle.machine.specs.declared.Started.{Started}
 use Rattle.engine_admission.proofs.Words.{asking-turned, asking-passes}
-use Rattle.engine_start.proofs.Starts.{start-turned, start-laid, start-graph, start-ready, start-cycle}
+use Rattle.engine_start.proofs.Starts.{start-turned, start-laid, start-graph, start-initials, start-ready, start-cycle}
 use Rattle.engine_start.proofs.start.Statement.{statement}
 use Rattle.engine_start.proofs.start.Tie as tie
 
@@ -48,6 +48,18 @@ part-find-end c = let l = start-laid (now (c .before .before .before .before .be
 slice-aggregate-find : tie.Need-slice-aggregate-find
 slice-aggregate-find c = search needs
 
+mul-find-2 : tie.Need-mul-find-2
+mul-find-2 c = let l = start-laid (now (c .before .before .before .before .before .before .before .before .before .before .before .before .args .table)) (c .before .before .before .before .before .before .before .before .before .before .before .before .args .task) (now (c .before .before .before .before .before .before .before .before .before .before .before .before .args .upper)) (now (c .before .before .before .before .before .before .before .before .before .before .before .before .args .lower)) (asking-passes (c .before .before .before .before .before .before .before .before .before .before .before .before .args .task) (now (c .before .before .before .before .before .before .before .before .before .before .before .before .args .upper)) (now (c .before .before .before .before .before .before .before .before .before .before .before .before .args .lower)) (now (c .before .before .before .before .before .before .before .before .before .before .before .before .args .table)) (c .before .before .before .before .before .before .before .before .check .result .ok) (ap (λ (x : Checked). x .ok) (c .before .before .before .before .before .before .before .before .check .ensures)) (sym (c .before .before .before .before .before .enum-told .given .1) ∙ c .before .before .before .before .before .before .before .asked .ensures (now (c .before .before .before .before .before .before .before .before .before .before .before .before .args .table)) (ap (λ (x : Checked). x .ok) (c .before .before .before .before .before .before .before .before .check .ensures)))) (c .before .before .before .before .before .before .before .before .check .result .layout) (laid (now (c .before .before .before .before .before .before .before .before .before .before .before .before .args .table)) (c .before .before .before .before .before .before .before .before .check .result) (c .before .before .before .before .before .before .before .before .check .ensures)) in omega (arith, l .initials-is, l .terminals-is, l .whole)
+
+sub-find-2 : tie.Need-sub-find-2
+sub-find-2 c = let l = start-laid (now (c .before .before .before .before .before .before .before .before .before .before .before .before .args .table)) (c .before .before .before .before .before .before .before .before .before .before .before .before .args .task) (now (c .before .before .before .before .before .before .before .before .before .before .before .before .args .upper)) (now (c .before .before .before .before .before .before .before .before .before .before .before .before .args .lower)) (asking-passes (c .before .before .before .before .before .before .before .before .before .before .before .before .args .task) (now (c .before .before .before .before .before .before .before .before .before .before .before .before .args .upper)) (now (c .before .before .before .before .before .before .before .before .before .before .before .before .args .lower)) (now (c .before .before .before .before .before .before .before .before .before .before .before .before .args .table)) (c .before .before .before .before .before .before .before .before .check .result .ok) (ap (λ (x : Checked). x .ok) (c .before .before .before .before .before .before .before .before .check .ensures)) (sym (c .before .before .before .before .before .enum-told .given .1) ∙ c .before .before .before .before .before .before .before .asked .ensures (now (c .before .before .before .before .before .before .before .before .before .before .before .before .args .table)) (ap (λ (x : Checked). x .ok) (c .before .before .before .before .before .before .before .before .check .ensures)))) (c .before .before .before .before .before .before .before .before .check .result .layout) (laid (now (c .before .before .before .before .before .before .before .before .before .before .before .before .args .table)) (c .before .before .before .before .before .before .before .before .check .result) (c .before .before .before .before .before .before .before .before .check .ensures)) in omega (arith, l .initials-is, l .terminals-is, l .whole)
+
+part-find-start-2 : tie.Need-part-find-start-2
+part-find-start-2 c = let l = start-laid (now (c .before .before .before .before .before .before .before .before .before .before .before .before .args .table)) (c .before .before .before .before .before .before .before .before .before .before .before .before .args .task) (now (c .before .before .before .before .before .before .before .before .before .before .before .before .args .upper)) (now (c .before .before .before .before .before .before .before .before .before .before .before .before .args .lower)) (asking-passes (c .before .before .before .before .before .before .before .before .before .before .before .before .args .task) (now (c .before .before .before .before .before .before .before .before .before .before .before .before .args .upper)) (now (c .before .before .before .before .before .before .before .before .before .before .before .before .args .lower)) (now (c .before .before .before .before .before .before .before .before .before .before .before .before .args .table)) (c .before .before .before .before .before .before .before .before .check .result .ok) (ap (λ (x : Checked). x .ok) (c .before .before .before .before .before .before .before .before .check .ensures)) (sym (c .before .before .before .before .before .enum-told .given .1) ∙ c .before .before .before .before .before .before .before .asked .ensures (now (c .before .before .before .before .before .before .before .before .before .before .before .before .args .table)) (ap (λ (x : Checked). x .ok) (c .before .before .before .before .before .before .before .before .check .ensures)))) (c .before .before .before .before .before .before .before .before .check .result .layout) (laid (now (c .before .before .before .before .before .before .before .before .before .before .before .before .args .table)) (c .before .before .before .before .before .before .before .before .check .result) (c .before .before .before .before .before .before .before .before .check .ensures)) in omega (arith, l .initials-is, l .terminals-is, l .whole)
+
+part-find-end-2 : tie.Need-part-find-end-2
+part-find-end-2 c = let l = start-laid (now (c .before .before .before .before .before .before .before .before .before .before .before .before .args .table)) (c .before .before .before .before .before .before .before .before .before .before .before .before .args .task) (now (c .before .before .before .before .before .before .before .before .before .before .before .before .args .upper)) (now (c .before .before .before .before .before .before .before .before .before .before .before .before .args .lower)) (asking-passes (c .before .before .before .before .before .before .before .before .before .before .before .before .args .task) (now (c .before .before .before .before .before .before .before .before .before .before .before .before .args .upper)) (now (c .before .before .before .before .before .before .before .before .before .before .before .before .args .lower)) (now (c .before .before .before .before .before .before .before .before .before .before .before .before .args .table)) (c .before .before .before .before .before .before .before .before .check .result .ok) (ap (λ (x : Checked). x .ok) (c .before .before .before .before .before .before .before .before .check .ensures)) (sym (c .before .before .before .before .before .enum-told .given .1) ∙ c .before .before .before .before .before .before .before .asked .ensures (now (c .before .before .before .before .before .before .before .before .before .before .before .before .args .table)) (ap (λ (x : Checked). x .ok) (c .before .before .before .before .before .before .before .before .check .ensures)))) (c .before .before .before .before .before .before .before .before .check .result .layout) (laid (now (c .before .before .before .before .before .before .before .before .before .before .before .before .args .table)) (c .before .before .before .before .before .before .before .before .check .result) (c .before .before .before .before .before .before .before .before .check .ensures)) in omega (arith, l .initials-is, l .terminals-is, l .whole)
+
 reads-requires : tie.Need-reads-requires
 reads-requires c κs = search needs
 
@@ -55,19 +67,19 @@ reads-requires-2 : tie.Need-reads-requires-2
 reads-requires-2 c κs = search needs
 
 find-requires : tie.Need-find-requires
-find-requires c κs = start-graph (now (c .before .before .before .before .before .before .before .before .before .before .before .before .before .before .args .table)) (c .before .before .before .before .before .before .before .before .before .before .before .before .before .before .args .task) (now (c .before .before .before .before .before .before .before .before .before .before .before .before .before .before .args .upper)) (now (c .before .before .before .before .before .before .before .before .before .before .before .before .before .before .args .lower)) (asking-passes (c .before .before .before .before .before .before .before .before .before .before .before .before .before .before .args .task) (now (c .before .before .before .before .before .before .before .before .before .before .before .before .before .before .args .upper)) (now (c .before .before .before .before .before .before .before .before .before .before .before .before .before .before .args .lower)) (now (c .before .before .before .before .before .before .before .before .before .before .before .before .before .before .args .table)) (c .before .before .before .before .before .before .before .before .before .before .check .result .ok) (ap (λ (x : Checked). x .ok) (c .before .before .before .before .before .before .before .before .before .before .check .ensures)) (sym (c .before .before .before .before .before .before .before .enum-told .given .1) ∙ c .before .before .before .before .before .before .before .before .before .asked .ensures (now (c .before .before .before .before .before .before .before .before .before .before .before .before .before .before .args .table)) (ap (λ (x : Checked). x .ok) (c .before .before .before .before .before .before .before .before .before .before .check .ensures)))) (c .before .before .before .before .before .before .before .before .before .before .check .result .layout) (laid (now (c .before .before .before .before .before .before .before .before .before .before .before .before .before .before .args .table)) (c .before .before .before .before .before .before .before .before .before .before .check .result) (c .before .before .before .before .before .before .before .before .before .before .check .ensures)) (c .before .before .before .before .before .before .before .before .before .before .check .result) (c .before .before .before .before .before .before .before .before .before .before .check .ensures)
+find-requires c κs = (start-graph (now (c .before .before .before .before .before .before .before .before .before .before .before .before .before .before .before .args .table)) (c .before .before .before .before .before .before .before .before .before .before .before .before .before .before .before .args .task) (now (c .before .before .before .before .before .before .before .before .before .before .before .before .before .before .before .args .upper)) (now (c .before .before .before .before .before .before .before .before .before .before .before .before .before .before .before .args .lower)) (asking-passes (c .before .before .before .before .before .before .before .before .before .before .before .before .before .before .before .args .task) (now (c .before .before .before .before .before .before .before .before .before .before .before .before .before .before .before .args .upper)) (now (c .before .before .before .before .before .before .before .before .before .before .before .before .before .before .before .args .lower)) (now (c .before .before .before .before .before .before .before .before .before .before .before .before .before .before .before .args .table)) (c .before .before .before .before .before .before .before .before .before .before .before .check .result .ok) (ap (λ (x : Checked). x .ok) (c .before .before .before .before .before .before .before .before .before .before .before .check .ensures)) (sym (c .before .before .before .before .before .before .before .before .enum-told .given .1) ∙ c .before .before .before .before .before .before .before .before .before .before .asked .ensures (now (c .before .before .before .before .before .before .before .before .before .before .before .before .before .before .before .args .table)) (ap (λ (x : Checked). x .ok) (c .before .before .before .before .before .before .before .before .before .before .before .check .ensures)))) (c .before .before .before .before .before .before .before .before .before .before .before .check .result .layout) (laid (now (c .before .before .before .before .before .before .before .before .before .before .before .before .before .before .before .args .table)) (c .before .before .before .before .before .before .before .before .before .before .before .check .result) (c .before .before .before .before .before .before .before .before .before .before .before .check .ensures)) (c .before .before .before .before .before .before .before .before .before .before .before .check .result) (c .before .before .before .before .before .before .before .before .before .before .before .check .ensures), start-initials (now (c .before .before .before .before .before .before .before .before .before .before .before .before .before .before .before .args .table)) (c .before .before .before .before .before .before .before .before .before .before .before .before .before .before .before .args .task) (now (c .before .before .before .before .before .before .before .before .before .before .before .before .before .before .before .args .upper)) (now (c .before .before .before .before .before .before .before .before .before .before .before .before .before .before .before .args .lower)) (asking-passes (c .before .before .before .before .before .before .before .before .before .before .before .before .before .before .before .args .task) (now (c .before .before .before .before .before .before .before .before .before .before .before .before .before .before .before .args .upper)) (now (c .before .before .before .before .before .before .before .before .before .before .before .before .before .before .before .args .lower)) (now (c .before .before .before .before .before .before .before .before .before .before .before .before .before .before .before .args .table)) (c .before .before .before .before .before .before .before .before .before .before .before .check .result .ok) (ap (λ (x : Checked). x .ok) (c .before .before .before .before .before .before .before .before .before .before .before .check .ensures)) (sym (c .before .before .before .before .before .before .before .before .enum-told .given .1) ∙ c .before .before .before .before .before .before .before .before .before .before .asked .ensures (now (c .before .before .before .before .before .before .before .before .before .before .before .before .before .before .before .args .table)) (ap (λ (x : Checked). x .ok) (c .before .before .before .before .before .before .before .before .before .before .before .check .ensures)))) (c .before .before .before .before .before .before .before .before .before .before .before .check .result .layout) (laid (now (c .before .before .before .before .before .before .before .before .before .before .before .before .before .before .before .args .table)) (c .before .before .before .before .before .before .before .before .before .before .before .check .result) (c .before .before .before .before .before .before .before .before .before .before .before .check .ensures)))
 
 ready-requires : tie.Need-ready-requires
 ready-requires c κs = search needs
 
 returns-2 : tie.Need-returns-2
-returns-2 c = subst (λ (x : Started). StartIs (now (c .before .before .before .before .before .before .before .before .before .before .before .before .before .before .before .before .before .before .args .table)) (c .before .before .before .before .before .before .before .before .before .before .before .before .before .before .before .before .before .before .args .task) (now (c .before .before .before .before .before .before .before .before .before .before .before .before .before .before .before .before .before .before .args .upper)) (now (c .before .before .before .before .before .before .before .before .before .before .before .before .before .before .before .before .before .before .args .lower)) x) (sym (c .ready .ensures)) (start-ready (now (c .before .before .before .before .before .before .before .before .before .before .before .before .before .before .before .before .before .before .args .table)) (c .before .before .before .before .before .before .before .before .before .before .before .before .before .before .before .before .before .before .args .task) (now (c .before .before .before .before .before .before .before .before .before .before .before .before .before .before .before .before .before .before .args .upper)) (now (c .before .before .before .before .before .before .before .before .before .before .before .before .before .before .before .before .before .before .args .lower)) (asking-passes (c .before .before .before .before .before .before .before .before .before .before .before .before .before .before .before .before .before .before .args .task) (now (c .before .before .before .before .before .before .before .before .before .before .before .before .before .before .before .before .before .before .args .upper)) (now (c .before .before .before .before .before .before .before .before .before .before .before .before .before .before .before .before .before .before .args .lower)) (now (c .before .before .before .before .before .before .before .before .before .before .before .before .before .before .before .before .before .before .args .table)) (c .before .before .before .before .before .before .before .before .before .before .before .before .before .before .check .result .ok) (ap (λ (x : Checked). x .ok) (c .before .before .before .before .before .before .before .before .before .before .before .before .before .before .check .ensures)) (sym (c .before .before .before .before .before .before .before .before .before .before .before .enum-told .given .1) ∙ c .before .before .before .before .before .before .before .before .before .before .before .before .before .asked .ensures (now (c .before .before .before .before .before .before .before .before .before .before .before .before .before .before .before .before .before .before .args .table)) (ap (λ (x : Checked). x .ok) (c .before .before .before .before .before .before .before .before .before .before .before .before .before .before .check .ensures)))) (c .before .before .before .before .before .before .before .before .before .before .before .before .before .before .check .result .layout) (laid (now (c .before .before .before .before .before .before .before .before .before .before .before .before .before .before .before .before .before .before .args .table)) (c .before .before .before .before .before .before .before .before .before .before .before .before .before .before .check .result) (c .before .before .before .before .before .before .before .before .before .before .before .before .before .before .check .ensures)) (c .before .before .before .before .before .reads .result) (c .before .before .before .before .reads2 .result) (c .before .before .before .before .before .reads .ensures) (c .before .before .before .before .reads2 .ensures) (c .before .before .before .find .result) (c .before .before .before .find .ensures) (c .before .if1 .taken))
+returns-2 c = subst (λ (x : Started). StartIs (now (c .before .before .before .before .before .before .before .before .before .before .before .before .before .before .before .before .before .before .before .args .table)) (c .before .before .before .before .before .before .before .before .before .before .before .before .before .before .before .before .before .before .before .args .task) (now (c .before .before .before .before .before .before .before .before .before .before .before .before .before .before .before .before .before .before .before .args .upper)) (now (c .before .before .before .before .before .before .before .before .before .before .before .before .before .before .before .before .before .before .before .args .lower)) x) (sym (c .ready .ensures)) (start-ready (now (c .before .before .before .before .before .before .before .before .before .before .before .before .before .before .before .before .before .before .before .args .table)) (c .before .before .before .before .before .before .before .before .before .before .before .before .before .before .before .before .before .before .before .args .task) (now (c .before .before .before .before .before .before .before .before .before .before .before .before .before .before .before .before .before .before .before .args .upper)) (now (c .before .before .before .before .before .before .before .before .before .before .before .before .before .before .before .before .before .before .before .args .lower)) (asking-passes (c .before .before .before .before .before .before .before .before .before .before .before .before .before .before .before .before .before .before .before .args .task) (now (c .before .before .before .before .before .before .before .before .before .before .before .before .before .before .before .before .before .before .before .args .upper)) (now (c .before .before .before .before .before .before .before .before .before .before .before .before .before .before .before .before .before .before .before .args .lower)) (now (c .before .before .before .before .before .before .before .before .before .before .before .before .before .before .before .before .before .before .before .args .table)) (c .before .before .before .before .before .before .before .before .before .before .before .before .before .before .before .check .result .ok) (ap (λ (x : Checked). x .ok) (c .before .before .before .before .before .before .before .before .before .before .before .before .before .before .before .check .ensures)) (sym (c .before .before .before .before .before .before .before .before .before .before .before .before .enum-told .given .1) ∙ c .before .before .before .before .before .before .before .before .before .before .before .before .before .before .asked .ensures (now (c .before .before .before .before .before .before .before .before .before .before .before .before .before .before .before .before .before .before .before .args .table)) (ap (λ (x : Checked). x .ok) (c .before .before .before .before .before .before .before .before .before .before .before .before .before .before .before .check .ensures)))) (c .before .before .before .before .before .before .before .before .before .before .before .before .before .before .before .check .result .layout) (laid (now (c .before .before .before .before .before .before .before .before .before .before .before .before .before .before .before .before .before .before .before .args .table)) (c .before .before .before .before .before .before .before .before .before .before .before .before .before .before .before .check .result) (c .before .before .before .before .before .before .before .before .before .before .before .before .before .before .before .check .ensures)) (c .before .before .before .before .before .reads .result) (c .before .before .before .before .reads2 .result) (c .before .before .before .before .before .reads .ensures) (c .before .before .before .before .reads2 .ensures) (c .before .before .before .find .result) (c .before .before .before .find .ensures) (c .before .if1 .taken))
 
 first-run-requires : tie.Need-first-run-requires
 first-run-requires c κs = search needs
 
 returns-3 : tie.Need-returns-3
-returns-3 c = start-cycle (now (c .before .before .before .before .before .before .before .before .before .before .before .before .before .before .before .before .before .before .before .args .table)) (c .before .before .before .before .before .before .before .before .before .before .before .before .before .before .before .before .before .before .before .args .task) (now (c .before .before .before .before .before .before .before .before .before .before .before .before .before .before .before .before .before .before .before .args .upper)) (now (c .before .before .before .before .before .before .before .before .before .before .before .before .before .before .before .before .before .before .before .args .lower)) (asking-passes (c .before .before .before .before .before .before .before .before .before .before .before .before .before .before .before .before .before .before .before .args .task) (now (c .before .before .before .before .before .before .before .before .before .before .before .before .before .before .before .before .before .before .before .args .upper)) (now (c .before .before .before .before .before .before .before .before .before .before .before .before .before .before .before .before .before .before .before .args .lower)) (now (c .before .before .before .before .before .before .before .before .before .before .before .before .before .before .before .before .before .before .before .args .table)) (c .before .before .before .before .before .before .before .before .before .before .before .before .before .before .before .check .result .ok) (ap (λ (x : Checked). x .ok) (c .before .before .before .before .before .before .before .before .before .before .before .before .before .before .before .check .ensures)) (sym (c .before .before .before .before .before .before .before .before .before .before .before .before .enum-told .given .1) ∙ c .before .before .before .before .before .before .before .before .before .before .before .before .before .before .asked .ensures (now (c .before .before .before .before .before .before .before .before .before .before .before .before .before .before .before .before .before .before .before .args .table)) (ap (λ (x : Checked). x .ok) (c .before .before .before .before .before .before .before .before .before .before .before .before .before .before .before .check .ensures)))) (c .before .before .before .before .before .before .before .before .before .before .before .before .before .before .before .check .result .layout) (laid (now (c .before .before .before .before .before .before .before .before .before .before .before .before .before .before .before .before .before .before .before .args .table)) (c .before .before .before .before .before .before .before .before .before .before .before .before .before .before .before .check .result) (c .before .before .before .before .before .before .before .before .before .before .before .before .before .before .before .check .ensures)) (c .before .before .before .before .before .before .reads .result) (c .before .before .before .before .before .reads2 .result) (c .before .before .before .before .before .before .reads .ensures) (c .before .before .before .before .before .reads2 .ensures) (c .before .before .before .before .find .result) (c .before .before .before .before .find .ensures) (c .first-run .result) (c .first-run .ensures) (c .before .before .if1 .left)
+returns-3 c = start-cycle (now (c .before .before .before .before .before .before .before .before .before .before .before .before .before .before .before .before .before .before .before .before .args .table)) (c .before .before .before .before .before .before .before .before .before .before .before .before .before .before .before .before .before .before .before .before .args .task) (now (c .before .before .before .before .before .before .before .before .before .before .before .before .before .before .before .before .before .before .before .before .args .upper)) (now (c .before .before .before .before .before .before .before .before .before .before .before .before .before .before .before .before .before .before .before .before .args .lower)) (asking-passes (c .before .before .before .before .before .before .before .before .before .before .before .before .before .before .before .before .before .before .before .before .args .task) (now (c .before .before .before .before .before .before .before .before .before .before .before .before .before .before .before .before .before .before .before .before .args .upper)) (now (c .before .before .before .before .before .before .before .before .before .before .before .before .before .before .before .before .before .before .before .before .args .lower)) (now (c .before .before .before .before .before .before .before .before .before .before .before .before .before .before .before .before .before .before .before .before .args .table)) (c .before .before .before .before .before .before .before .before .before .before .before .before .before .before .before .before .check .result .ok) (ap (λ (x : Checked). x .ok) (c .before .before .before .before .before .before .before .before .before .before .before .before .before .before .before .before .check .ensures)) (sym (c .before .before .before .before .before .before .before .before .before .before .before .before .before .enum-told .given .1) ∙ c .before .before .before .before .before .before .before .before .before .before .before .before .before .before .before .asked .ensures (now (c .before .before .before .before .before .before .before .before .before .before .before .before .before .before .before .before .before .before .before .before .args .table)) (ap (λ (x : Checked). x .ok) (c .before .before .before .before .before .before .before .before .before .before .before .before .before .before .before .before .check .ensures)))) (c .before .before .before .before .before .before .before .before .before .before .before .before .before .before .before .before .check .result .layout) (laid (now (c .before .before .before .before .before .before .before .before .before .before .before .before .before .before .before .before .before .before .before .before .args .table)) (c .before .before .before .before .before .before .before .before .before .before .before .before .before .before .before .before .check .result) (c .before .before .before .before .before .before .before .before .before .before .before .before .before .before .before .before .check .ensures)) (c .before .before .before .before .before .before .reads .result) (c .before .before .before .before .before .reads2 .result) (c .before .before .before .before .before .before .reads .ensures) (c .before .before .before .before .before .reads2 .ensures) (c .before .before .before .before .find .result) (c .before .before .before .before .find .ensures) (c .first-run .result) (c .first-run .ensures) (c .before .before .if1 .left)
 
 pub start-spec : {M : Type 1} → statement M
 start-spec =
@@ -85,6 +97,10 @@ start-spec =
     part-find-start
     part-find-end
     slice-aggregate-find
+    mul-find-2
+    sub-find-2
+    part-find-start-2
+    part-find-end-2
     reads-requires
     reads-requires-2
     find-requires

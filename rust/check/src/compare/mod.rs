@@ -3,6 +3,7 @@
 pub mod call;
 pub mod damage;
 pub mod fixed;
+pub mod loops;
 pub mod search;
 pub mod start;
 pub mod tally;

@@ -53,7 +53,7 @@ fn begin(
         lower,
     };
     let (answer, run) = start::compare(engine, &start)?;
-    tally.add(answer);
+    tally.add_start(&start, answer);
     let Start { upper, lower, .. } = start;
     Ok((!answer.is_refused()).then(|| Way {
         cells: start.table,

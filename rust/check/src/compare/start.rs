@@ -1,6 +1,6 @@
 //! One start: the answer, the run, and the cycle that the answer holds, of which only document 01's properties are fixed.
 use super::tally::Tally;
-use super::{RUN_GUARD, same};
+use super::{RUN_GUARD, loops, same};
 use crate::answer::{Answer, Run, Started};
 use crate::draw;
 use crate::engine::{self, Engine};
@@ -20,7 +20,7 @@ pub struct Start {
 }
 
 impl Start {
-    fn lend(&self) -> engine::Start<'_> {
+    pub fn lend(&self) -> engine::Start<'_> {
         engine::Start {
             table: &self.table,
             task: self.task,
@@ -30,13 +30,13 @@ impl Start {
     }
 }
 
-/// On 12 a cycle: idle arcs of the table, in walking order, closed, no state twice.
+/// On 12 a cycle: idle arcs of the table that are reached, in walking order, closed, no state twice.
 fn cycle_holds(start: &Start, states: &[u16]) -> Result<(), String> {
     let table = Table::loaded(&start.table).ok_or("a cycle of a bad table")?;
     if idle::is_cycle(&table, start.task, states) {
         Ok(())
     } else {
-        Err(format!("no idle cycle: {states:?}"))
+        Err(format!("no idle cycle that is reached: {states:?}"))
     }
 }
 
@@ -84,7 +84,10 @@ fn check(engine: &impl Engine, start: &Start) -> Result<(Answer, Run), String> {
 
 /// Starts with the model, with the engine, and compares.
 pub fn compare(engine: &impl Engine, start: &Start) -> Result<(Answer, Run), String> {
-    check(engine, start).map_err(|difference| format!("{difference}, in {start:?}"))
+    check(engine, start).map_err(|difference| {
+        let loops = loops::of(start);
+        format!("{difference}, loops {loops:?}, in {start:?}")
+    })
 }
 
 /// A start of any task on a random table, with and without idle cycles, with words that may be bad.
@@ -102,7 +105,8 @@ pub fn any(engine: &impl Engine, random: &mut Random, tally: &mut Tally) -> Resu
     if random.one_in(2) {
         spoil(random, &mut start);
     }
-    tally.add(compare(engine, &start)?.0);
+    let (answer, _) = compare(engine, &start)?;
+    tally.add_start(&start, answer);
     Ok(())
 }
 

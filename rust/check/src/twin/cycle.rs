@@ -1,6 +1,9 @@
-//! The search for an idle cycle. Idle arcs whose target has none fall away until nothing changes; what is left leads round.
+//! The search for an idle cycle that is reached. Idle arcs whose target has none fall away until nothing changes; what is left leads
+//! round, and only then it matters what is reached.
 use super::check::{Arc, View};
+use super::reach;
 use crate::answer::CYCLE;
+use crate::engine::Start;
 
 /// The source and the target of an idle arc.
 type Step = [u8; 2];
@@ -12,7 +15,11 @@ fn is_idle<const UP: bool, const LOW: bool>(arc: &Arc) -> bool {
 
 /// Writes the states of a cycle into cells of zeros, and tells how many there are; 0 and nothing written where there is none.
 #[inline(always)]
-pub fn find<const UP: bool, const LOW: bool>(view: &View, cycle: &mut [u16; CYCLE]) -> usize {
+pub fn find<const UP: bool, const LOW: bool, const FAULT: u8>(
+    view: &View,
+    start: Start,
+    cycle: &mut [u16; CYCLE],
+) -> usize {
     let mut idle: [Step; 1024] = [[0; 2]; 1024];
     let mut count = 0;
     let mut leaving = [0u16; 256]; // idle arcs from each state
@@ -38,21 +45,21 @@ pub fn find<const UP: bool, const LOW: bool>(view: &View, cycle: &mut [u16; CYCL
             return 0;
         }
         if kept == count {
-            return walk(&idle[..kept], cycle);
+            let begin = reach::begin::<UP, LOW, FAULT>(view, start, &leaving);
+            return begin.map_or(0, |state| walk(state as u8, &idle[..kept], cycle));
         }
         count = kept;
     }
 }
 
-/// A walk along arcs, each of whose targets has one, until a state comes again; from there on it is a cycle.
+/// A walk from a state along arcs, each of whose targets has one, until a state comes again; from there on it is a cycle.
 #[cold]
-fn walk(idle: &[Step], cycle: &mut [u16; CYCLE]) -> usize {
+fn walk(mut state: u8, idle: &[Step], cycle: &mut [u16; CYCLE]) -> usize {
     let mut next = [0; 256];
     for [source, target] in idle {
         next[*source as usize] = *target;
     }
     let mut order = Vec::new();
-    let mut state = idle[0][0];
     let begin = loop {
         if let Some(begin) = order.iter().position(|s| *s == state) {
             break begin;

@@ -11,3 +11,11 @@ pub const ALLOWANCE_FIRST: u8 = 3;
 pub const RECOGNITION_CYCLES: u8 = 4;
 /// A frame without arcs left is dropped while its letter is still needed.
 pub const DROPPED_EARLY: u8 = 5;
+/// Every state counts as reached from an initial one.
+pub const ALL_REACHED: u8 = 6;
+/// The initial states alone count as reached.
+pub const INITIALS_REACHED: u8 = 7;
+/// The cycle is looked for from a state that is not reached, where there is one; whether 12 is given is decided rightly.
+pub const UNREACHED_TOLD: u8 = 8;
+/// Reached is what arcs lead to whose letters the words have: each letter on a side that is read is 0 or stands somewhere in its word.
+pub const WORD_REACHED: u8 = 9;

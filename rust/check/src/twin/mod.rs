@@ -4,6 +4,7 @@ mod check;
 mod cycle;
 pub mod fault;
 mod place;
+mod reach;
 mod scan;
 mod search;
 
@@ -57,10 +58,10 @@ impl<const FAULT: u8, const VECTOR: bool> Engine for Twin<FAULT, VECTOR> {
         let cycle = &mut started.cycle;
         let both = FAULT == fault::RECOGNITION_CYCLES && task == 2;
         let found = match task {
-            1 => cycle::find::<true, true>(&view, cycle),
-            2 if both => cycle::find::<true, true>(&view, cycle),
-            2 => cycle::find::<true, false>(&view, cycle),
-            _ => cycle::find::<false, true>(&view, cycle),
+            1 => cycle::find::<true, true, FAULT>(&view, start, cycle),
+            2 if both => cycle::find::<true, true, FAULT>(&view, start, cycle),
+            2 => cycle::find::<true, false, FAULT>(&view, start, cycle),
+            _ => cycle::find::<false, true, FAULT>(&view, start, cycle),
         };
         if found == 0 {
             *run = Run::of(task);

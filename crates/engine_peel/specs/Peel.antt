@@ -6,18 +6,10 @@ use mathlib.Core.List.{List, [], _∷_}
 use lib.Dec.{eqb}
 use lib.ListN.{length, getD}
 use Rattle.table_format.specs.Table.{Arc}
-use Rattle.table_format.specs.Cells.{arcCount, arcOf, arcsAs}
+use Rattle.table_format.specs.Cells.{arcsAs}
 use Rattle.graph.specs.Walk.{Walk}
 use Rattle.machine.specs.Idle.{sideIdle, Leads}
-
--- the arcs lead among the states, and those of state q are numbered from the index at q up to the index at q + 1
-pub record Graph (arcs first : List ℕ) (states : ℕ) : Type 0 where
-  pub few : states ≤ 256
-  pub index : length first ≡ 257
-  pub source-in : (n : ℕ) → n < arcCount arcs → arcOf arcs n .source < states
-  pub target-in : (n : ℕ) → n < arcCount arcs → arcOf arcs n .target < states
-  pub indexed : (n : ℕ) → n < arcCount arcs → (getD first (arcOf arcs n .source) 0 ≤ n) × (n < getD first (arcOf arcs n .source + 1) 0)
-  pub numbered : (q n : ℕ) → q < states → getD first q 0 ≤ n → n < getD first (q + 1) 0 → (n < arcCount arcs) × (arcOf arcs n .source ≡ q)
+use Rattle.engine_reach.specs.Graph.{ReachedBy}
 
 -- the sum of cells
 unfoldable pub total : List ℕ → ℕ
@@ -39,9 +31,9 @@ module _ (arcs : List ℕ) (upper lower : Bool) where
 
   -- A state is alive where its cell is 1.
 
-  -- every state on a cycle is alive
-  abbrev pub Cyclic : List ℕ → Type 0
-  Cyclic alive = (s : ℕ) → Walk IdleEdge s s → getD alive s 0 ≡ 1
+  -- every state that is reached and on a cycle is alive
+  abbrev pub Cyclic : List ℕ → List ℕ → Type 0
+  Cyclic initials alive = (s : ℕ) → ReachedBy arcs initials s → Walk IdleEdge s s → getD alive s 0 ≡ 1
 
   -- an idle arc leads from every state that is alive to one that is
   abbrev pub Stable : List ℕ → Type 0
@@ -55,7 +47,8 @@ module _ (arcs : List ℕ) (upper lower : Bool) where
   -- a round, and whether a state died in it
   pub record Peeled (before after : List ℕ) (died : Bool) : Type 0 where
     pub same-length : length after ≡ length before
-    pub keeps : Cyclic before → Cyclic after
+    pub keeps : (initials : List ℕ) → Cyclic initials before → Cyclic initials after
+    pub only : (s : ℕ) → getD after s 0 ≡ 1 → getD before s 0 ≡ 1
     pub no-more : total after ≤ total before
     pub fewer : died ≡ true → total after < total before
     pub stable : died ≡ false → Stable after
@@ -63,5 +56,6 @@ module _ (arcs : List ℕ) (upper lower : Bool) where
   -- all rounds
   pub record Settled (before after : List ℕ) : Type 0 where
     pub same-length : length after ≡ length before
-    pub keeps : Cyclic before → Cyclic after
+    pub keeps : (initials : List ℕ) → Cyclic initials before → Cyclic initials after
+    pub only : (s : ℕ) → getD after s 0 ≡ 1 → getD before s 0 ≡ 1
     pub stable : Stable after

@@ -1,0 +1,122 @@
+//! Idle loops that no arcs lead to from an initial state do not matter; one arc into them, whatever its letters, gives 12.
+use readings_check::answer::Run;
+use readings_check::compare::start::{self, Start};
+use readings_check::engine::Engine;
+use readings_check::library::Library;
+use readings_check::session::session;
+use readings_check::table::{Arc, Table};
+use readings_check::text::{self, K};
+use readings_check::twin::SOUND;
+
+/// A table with one more arc.
+fn with(mut table: Table, arc: Arc) -> Table {
+    table.arcs.push(arc);
+    table.arcs.sort_by_key(|arc| arc.source);
+    table
+}
+
+/// In every task, with empty words, a start tells a cycle of these states; with none it passes.
+fn tells(engine: &impl Engine, table: &Table, expected: &[u16]) {
+    for task in 1..=3 {
+        let start = Start {
+            table: table.cells(),
+            task,
+            upper: vec![],
+            lower: vec![],
+        };
+        start::compare(engine, &start).unwrap_or_else(|difference| panic!("{difference}"));
+        let started = engine.start(start.lend(), &mut Run::default());
+        let mut states = started.cycle[..started.answer.length as usize].to_vec();
+        states.sort();
+        assert_eq!(states, expected, "in task {task}");
+    }
+}
+
+/// Table K, and an idle loop through two states more.
+fn k_and_loop() -> Table {
+    let mut table = text::parse(K.as_bytes()).expect("table K");
+    table.states = 5;
+    table
+        .arcs
+        .extend([Arc::new(3, 0, 0, 4), Arc::new(4, 0, 0, 3)]);
+    table
+}
+
+/// A query of each task, and what a session on table K prints.
+const QUERIES: [(&str, &str); 3] = [
+    ("100102010203010302\n", "2000010000\n2F0001\n"),
+    (
+        "100202010200\n",
+        "20000100020102\n2000020003010302\n2F0002\n",
+    ),
+    ("10030003010302\n", "20000100020102\n2F0001\n"),
+];
+
+fn beside_k(engine: &impl Engine) {
+    let mut apart = vec![k_and_loop()];
+    apart.push(with(k_and_loop(), Arc::new(4, 1, 1, 0))); // out of the loop, not into it
+    for table in apart {
+        tells(engine, &table, &[]);
+        for (query, lines) in QUERIES {
+            let input = [&text::print(&table), query.as_bytes()].concat();
+            let printed = String::from_utf8(session(engine, &input)).expect("text");
+            assert_eq!(printed, lines);
+        }
+    }
+    for source in 0..3 {
+        tells(
+            engine,
+            &with(k_and_loop(), Arc::new(source, 9, 9, 3)),
+            &[3, 4],
+        );
+    }
+}
+
+/// State 0 is initial, and the other 255 are one idle cycle.
+fn largest(engine: &impl Engine) {
+    let next = |state| if state == 255 { 1 } else { state + 1 };
+    let table = Table {
+        states: 256,
+        initials: vec![0],
+        terminals: vec![0],
+        arcs: (1..256).map(|s| Arc::new(s, 0, 0, next(s))).collect(),
+    };
+    let others: Vec<u16> = (1..256).collect();
+    tells(engine, &table, &[]);
+    tells(engine, &with(table, Arc::new(0, 9, 9, 255)), &others);
+}
+
+/// From state 255, which is initial, arcs lead down to state 0 and its idle loop, against the order of the arcs; or one is missing.
+fn farthest(engine: &impl Engine) {
+    let chain = |missing: Option<u16>| Table {
+        states: 256,
+        initials: vec![255],
+        terminals: vec![0],
+        arcs: (1..256)
+            .filter(|s| Some(*s) != missing)
+            .map(|s| Arc::new(s, 9, 9, s - 1))
+            .collect(),
+    };
+    let round = Arc::new(0, 0, 0, 0);
+    tells(engine, &chain(None), &[]);
+    tells(engine, &with(chain(None), round), &[0]);
+    for missing in [1, 128, 255] {
+        tells(engine, &with(chain(Some(missing)), round), &[]);
+    }
+}
+
+fn all(engine: &impl Engine) {
+    beside_k(engine);
+    largest(engine);
+    farthest(engine);
+}
+
+#[test]
+fn the_library_starts_beside_corners() {
+    all(&Library);
+}
+
+#[test]
+fn the_twin_starts_beside_corners() {
+    all(&SOUND);
+}
