@@ -8,6 +8,7 @@ use Rattle.table_format.specs.Cells.{arcsAs}
 use Rattle.graph.specs.Walk.{CycleStates}
 use Rattle.graph.specs.Reached.{NoReachedCycle, ReachedCycle}
 use Rattle.machine.specs.Idle.{AnyArc}
+use Rattle.engine_reach.specs.Graph.{ReachedBy}
 use Rattle.engine_peel.specs.Peel.{IdleEdge}
 use Rattle.engine_idle.specs.declared.Cycle.{Cycle}
 
@@ -19,18 +20,18 @@ cycleCells l = record { states = l ++ replicate (256 - length l) 0; length = len
 abbrev pub AllAlive : List ℕ → Type 0
 AllAlive alive = (s : ℕ) → s < length alive → getD alive s 0 ≡ 1
 
--- the first state that is alive, or the count of states where none is
-pub record FirstAlive (alive : List ℕ) (r : ℕ) : Type 0 where
-  pub lives : r < length alive → getD alive r 0 ≡ 1
-  pub none-lives : length alive ≤ r → (s : ℕ) → s < length alive → getD alive s 0 ≡ 1 → ⊥
+-- the first state that is alive and reached, or the count of states where none is
+pub record FirstBoth (alive reached : List ℕ) (r : ℕ) : Type 0 where
+  pub both : r < length alive → (getD alive r 0 ≡ 1) × (getD reached r 0 ≡ 1)
+  pub none-is : length alive ≤ r → (s : ℕ) → s < length alive → getD alive s 0 ≡ 1 → getD reached s 0 ≡ 1 → ⊥
 
--- the cells hold the states of a cycle, and its first state is alive
-pub record LivingCycle (arcs : List ℕ) (upper lower : Bool) (alive : List ℕ) (c : Cycle) : Type 0 where
+-- the cells hold the states of a cycle, and the first of them is reached from a state s
+pub record CycleAfter (arcs : List ℕ) (upper lower : Bool) (s : ℕ) (c : Cycle) : Type 0 where
   pub first : ℕ
   pub others : List ℕ
   pub cells : c ≡ cycleCells (first ∷ others)
   pub is : CycleStates (IdleEdge arcs upper lower) (first ∷ others)
-  pub lives : getD alive first 0 ≡ 1
+  pub reached-from : ReachedBy arcs (s ∷ []) first
 
 module _ (arcs initials : List ℕ) (upper lower : Bool) where
   -- the states of a cycle that is reached, none twice, in walking order; none where no cycle is

@@ -1,18 +1,15 @@
-// The search for an idle cycle that is reached. Where peeling (engine_peel) leaves some of the reached states (engine_reach), a walk among them
-// comes back to a state, and from there on it is a cycle. `first_alive` tells where the walk begins, `walk` makes it, `part` takes the cycle out
-// of it.
+// The search for an idle cycle that is reached. Where peeling (engine_peel) leaves some states, and one of them is reached (engine_reach), a walk
+// from there among those that are left comes back to a state, and from then on it is a cycle. `first_both` tells where the walk begins, `walk`
+// makes it, `part` takes the cycle out of it.
 ghost use mathlib.Core.Path.{_≡_};
-ghost use mathlib.Core.Logic.{_↔_};
-ghost use mathlib.Core.Bool.{true};
 ghost use mathlib.Core.List.{[]};
 ghost use Prim.Native.Nat.{_-_, _≤_, _<_};
 ghost use lib.ListN.{length, getD, take, drop};
 ghost use Rattle.graph.specs.Lists.{AllBelow};
-ghost use Rattle.graph.specs.Walk.{NoCycle};
 ghost use Rattle.engine_reach.specs.Graph.{Graph};
 ghost use Rattle.engine_reach.specs.Reach.{Unmarked};
-ghost use Rattle.engine_peel.specs.Peel.{IdleEdge, Stable};
-ghost use Rattle.engine_idle.specs.Found.{AllAlive, FirstAlive, cycleCells, LivingCycle, FoundCycle};
+ghost use Rattle.engine_peel.specs.Peel.{Stable};
+ghost use Rattle.engine_idle.specs.Found.{AllAlive, FirstBoth, cycleCells, CycleAfter, FoundCycle};
 
 // The states of an idle cycle, from the front; none where there is no such cycle.
 pub struct Cycle {
@@ -20,14 +17,17 @@ pub struct Cycle {
     pub length: u32,
 }
 
-// The first living state, the count of states where none lives.
-fn first_alive(alive: &[u8]) -> usize
-    ensures { λ r. ⌜ FirstAlive (now (alive .entry)) r ⌝ }
+// The first state that is both alive and reached, the count of states where none is.
+fn first_both(alive: &[u8], reached: &[u8]) -> usize
+    requires { ⌜ length (now reached) ≡ length (now alive) ⌝ }
+    ensures { λ r. ⌜ FirstBoth (now (alive .entry)) (now (reached .entry)) r ⌝ }
 {
     let mut s = 0;
     while s < alive.len() {
         if alive[s] == 1 {
-            return s;
+            if reached[s] == 1 {
+                return s;
+            }
         }
         s += 1;
     }
@@ -52,7 +52,7 @@ fn walk(arcs: &[u16], first: &[u16], upper: bool, lower: bool, alive: &[u8], sta
     requires { ⌜ Graph (now arcs) (now first) (length (now alive)) ⌝ }
     requires { ⌜ Stable (now arcs) upper lower (now alive) ⌝ }
     requires { ⌜ (start < length (now alive)) × (getD (now alive) start 0 ≡ 1) ⌝ }
-    ensures { λ r. ⌜ LivingCycle (now (arcs .entry)) upper lower (now (alive .entry)) r ⌝ }
+    ensures { λ r. ⌜ CycleAfter (now (arcs .entry)) upper lower start r ⌝ }
 {
     let mut order = [0u16; 256];
     let mut place = [0u16; 256];
@@ -83,18 +83,8 @@ fn none() -> Cycle
     }
 }
 
-// Whether idle arcs lead round nowhere in the table, where all states live at first.
-fn is_acyclic(arcs: &[u16], first: &[u16], upper: bool, lower: bool, alive: &mut [u8]) -> bool
-    requires { ⌜ Graph (now arcs) (now first) (length (now alive)) ⌝ }
-    requires { ⌜ AllAlive (now alive) ⌝ }
-    ensures { λ r. ⌜ (r ≡ true) ↔ NoCycle (IdleEdge (now (arcs .entry)) upper lower) ⌝ }
-{
-    engine_peel::settle(arcs, first, upper, lower, alive);
-    let s = first_alive(alive);
-    alive.len() <= s
-}
-
-// The states of an idle cycle that is reached, where only what is reached lives at first; its cells are 0 before.
+// The states of an idle cycle that is reached. All states live at first, and none is marked as reached: most tables have no idle cycle in any
+// part, and then nothing needs to be marked.
 fn among(
     arcs: &[u16],
     first: &[u16],
@@ -102,22 +92,28 @@ fn among(
     upper: bool,
     lower: bool,
     alive: &mut [u8],
+    reached: &mut [u8],
 ) -> Cycle
     requires { ⌜ Graph (now arcs) (now first) (length (now alive)) ⌝ }
     requires { ⌜ AllBelow (length (now alive)) (now initials) ⌝ }
-    requires { ⌜ Unmarked (now alive) ⌝ }
+    requires { ⌜ AllAlive (now alive) ⌝ }
+    requires { ⌜ (length (now reached) ≡ length (now alive)) × Unmarked (now reached) ⌝ }
     ensures { λ r. ⌜ FoundCycle (now (arcs .entry)) (now (initials .entry)) upper lower r ⌝ }
 {
-    engine_reach::reach(arcs, first, initials, alive);
     engine_peel::settle(arcs, first, upper, lower, alive);
-    let s = first_alive(alive);
+    let left = first_both(alive, alive);
+    if alive.len() <= left {
+        return none();
+    }
+    engine_reach::reach(arcs, first, initials, reached);
+    let s = first_both(alive, reached);
     if s < alive.len() {
         return walk(arcs, first, upper, lower, alive, s as u16);
     }
     none()
 }
 
-// The states of an idle cycle that arcs reach from the initial states. Most tables have no idle cycle at all, and then nothing needs to be marked.
+// The states of an idle cycle that arcs reach from the initial states.
 pub fn find(
     arcs: &[u16],
     first: &[u16],
@@ -131,9 +127,14 @@ pub fn find(
     ensures { λ r. ⌜ FoundCycle (now (arcs .entry)) (now (initials .entry)) upper lower r ⌝ }
 {
     let mut alive = [1u8; 256];
-    if is_acyclic(arcs, first, upper, lower, &mut alive[..states]) {
-        return none();
-    }
     let mut reached = [0u8; 256];
-    among(arcs, first, initials, upper, lower, &mut reached[..states])
+    among(
+        arcs,
+        first,
+        initials,
+        upper,
+        lower,
+        &mut alive[..states],
+        &mut reached[..states],
+    )
 }

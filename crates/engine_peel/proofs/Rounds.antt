@@ -6,17 +6,15 @@ use mathlib.Core.Bool.{Bool, true, false, cond, _&&_, true≢false}
 use mathlib.Core.List.{List, [], _∷_}
 use lib.Dec.{eqb}
 use lib.ListN.{length, getD, set, length-set}
-use lib.Seq.{getD-set-same, getD-set-other}
+use lib.Seq.{getD-set-other}
 use borrow.Author.Tests.{eqb-true, eqb-false, eq-eqb, ne-eqb}
 use Rattle.table_format.proofs.Tests.{and-left, and-right, and-both}
 use Rattle.table_format.specs.Table.{Arc}
 use Rattle.table_format.specs.declared.Arc as held
 use Rattle.table_format.specs.Cells.{arcHeld, arcOf}
-use Rattle.graph.specs.Reached.{byEdge}
 use Rattle.graph.proofs.Lists.{below-more}
 use Rattle.graph.proofs.Walk.{rotated}
 use Rattle.machine.specs.Idle.{sideIdle}
-use Rattle.machine.proofs.Idle.{any-arc}
 use Rattle.engine_reach.specs.Graph.{Graph}
 use Rattle.engine_reach.proofs.Edges.{number-of, edge-of}
 use Rattle.engine_peel.specs.Peel.{total, idleBy, leadsAlive, IdleEdge, Cyclic, Stable, Next, Peeled, Settled}
@@ -82,24 +80,23 @@ module _ (arcs : List ℕ) (upper lower : Bool) where
 
   pub record Round (before alive : List ℕ) (q : ℕ) (died : Bool) : Type 0 where
     pub same-length : length alive ≡ length before
-    pub keeps : (initials : List ℕ) → Cyclic arcs upper lower initials before → Cyclic arcs upper lower initials alive
-    pub only : (s : ℕ) → getD alive s 0 ≡ 1 → getD before s 0 ≡ 1
+    pub keeps : Cyclic arcs upper lower before → Cyclic arcs upper lower alive
     pub no-more : total alive ≤ total before
     pub fewer : died ≡ true → total alive < total before
     pub seen : died ≡ false → (s : ℕ) → q ≤ s → s < length alive → getD alive s 0 ≡ 1 → (r : ℕ) × IdleEdge arcs upper lower s r × (getD alive r 0 ≡ 1)
 
   pub round-begins : (alive : List ℕ) (q : ℕ) → q ≡ length alive → Round alive alive q false
   round-begins alive q h =
-      record { same-length = refl; keeps = λ initials C. C; only = λ s e. e; no-more = omega arith; fewer = λ e. absurd (true≢false (sym e)); seen = λ e s a b. absurd (omega arith) }
+      record { same-length = refl; keeps = λ C. C; no-more = omega arith; fewer = λ e. absurd (true≢false (sym e)); seen = λ e s a b. absurd (omega arith) }
 
   pub round-ends : (before alive : List ℕ) (q : ℕ) (died : Bool) → q ≤ 0 → Round before alive q died → Peeled arcs upper lower before alive died
   round-ends before alive q died h R =
-      record { same-length = R .same-length; keeps = R .keeps; only = R .only; no-more = R .no-more; fewer = R .fewer; stable = λ e s k a. R .seen e s (omega arith) k a }
+      record { same-length = R .same-length; keeps = R .keeps; no-more = R .no-more; fewer = R .fewer; stable = λ e s k a. R .seen e s (omega arith) k a }
 
   module _ (before alive : List ℕ) (q : ℕ) (died : Bool) (h : 0 < q) (R : Round before alive q died) where
     -- one state more, where it needs nothing or has what it needs
     stays : ((getD alive (q - 1) 0 ≡ 1) → (r : ℕ) × IdleEdge arcs upper lower (q - 1) r × (getD alive r 0 ≡ 1)) → Round before alive (q - 1) died
-    stays f = record { same-length = R .same-length; keeps = R .keeps; only = R .only; no-more = R .no-more; fewer = R .fewer; seen = λ e s a b w. go e s a b w (eqb s (q - 1)) refl }
+    stays f = record { same-length = R .same-length; keeps = R .keeps; no-more = R .no-more; fewer = R .fewer; seen = λ e s a b w. go e s a b w (eqb s (q - 1)) refl }
       where
         go : died ≡ false → (s : ℕ) → q - 1 ≤ s → s < length alive → getD alive s 0 ≡ 1 → (b : Bool) → eqb s (q - 1) ≡ b → (r : ℕ) × IdleEdge arcs upper lower s r × (getD alive r 0 ≡ 1)
         go e s a k w true z = let y = eqb-true s (q - 1) z in subst (λ (x : ℕ). (r : ℕ) × IdleEdge arcs upper lower x r × (getD alive r 0 ≡ 1)) (sym y) (f (subst (λ (x : ℕ). getD alive x 0 ≡ 1) y w))
@@ -118,44 +115,37 @@ module _ (arcs : List ℕ) (upper lower : Bool) where
           let few = R .no-more in
           record {
             same-length = length-set alive (q - 1) 0 ∙ R .same-length;
-            keeps = λ initials C. kept initials (R .keeps initials C);
-            only = λ s e. R .only s (was s e (eqb s (q - 1)) refl);
+            keeps = λ C. kept (R .keeps C);
             no-more = omega arith;
             fewer = λ e. omega arith;
             seen = λ e. absurd (true≢false e);
           }
         where
-          was : (s : ℕ) → getD (set alive (q - 1) 0) s 0 ≡ 1 → (b : Bool) → eqb s (q - 1) ≡ b → getD alive s 0 ≡ 1
-          was s e true z =
-              absurd (let y : getD (set alive (q - 1) 0) s 0 ≡ 0 = ap (λ (x : ℕ). getD (set alive (q - 1) 0) x 0) (eqb-true s (q - 1) z) ∙ getD-set-same alive (q - 1) 0 0 (omega arith) in omega arith)
-          was s e false z = sym (getD-set-other alive (q - 1) s 0 0 (eqb-false s (q - 1) z)) ∙ e
-
-          kept : (initials : List ℕ) → Cyclic arcs upper lower initials alive → Cyclic arcs upper lower initials (set alive (q - 1) 0)
-          kept initials C s R w = go (eqb s (q - 1)) refl
+          kept : Cyclic arcs upper lower alive → Cyclic arcs upper lower (set alive (q - 1) 0)
+          kept C s w = go (eqb s (q - 1)) refl
             where
               go : (b : Bool) → eqb s (q - 1) ≡ b → getD (set alive (q - 1) 0) s 0 ≡ 1
               go true z =
                   let O = rotated (IdleEdge arcs upper lower) s w in
-                  absurd (N .leads-nowhere k (O .0) (subst (λ (x : ℕ). IdleEdge arcs upper lower x (O .0)) (eqb-true s (q - 1) z) (O .1)) (C (O .0) (byEdge R (any-arc s (O .0) (O .1))) (O .2)))
-              go false z = getD-set-other alive (q - 1) s 0 0 (eqb-false s (q - 1) z) ∙ C s R w
+                  absurd (N .leads-nowhere k (O .0) (subst (λ (x : ℕ). IdleEdge arcs upper lower x (O .0)) (eqb-true s (q - 1) z) (O .1)) (C (O .0) (O .2)))
+              go false z = getD-set-other alive (q - 1) s 0 0 (eqb-false s (q - 1) z) ∙ C s w
 
   -- The rounds.
 
   pub record Rounds (before alive : List ℕ) (on : Bool) : Type 0 where
     pub same-length : length alive ≡ length before
-    pub keeps : (initials : List ℕ) → Cyclic arcs upper lower initials before → Cyclic arcs upper lower initials alive
-    pub only : (s : ℕ) → getD alive s 0 ≡ 1 → getD before s 0 ≡ 1
+    pub keeps : Cyclic arcs upper lower before → Cyclic arcs upper lower alive
     pub stable : on ≡ false → Stable arcs upper lower alive
 
   pub rounds-begin : (alive : List ℕ) → Rounds alive alive true
-  rounds-begin alive = record { same-length = refl; keeps = λ initials C. C; only = λ s e. e; stable = λ e. absurd (true≢false e) }
+  rounds-begin alive = record { same-length = refl; keeps = λ C. C; stable = λ e. absurd (true≢false e) }
 
   pub rounds-go-on : (before alive after : List ℕ) (on died : Bool) → Rounds before alive on → Peeled arcs upper lower alive after died → Rounds before after died
   rounds-go-on before alive after on died R P =
-      record { same-length = P .same-length ∙ R .same-length; keeps = λ initials C. P .keeps initials (R .keeps initials C); only = λ s e. R .only s (P .only s e); stable = P .stable }
+      record { same-length = P .same-length ∙ R .same-length; keeps = λ C. P .keeps (R .keeps C); stable = P .stable }
 
   pub rounds-end : (before alive : List ℕ) (on : Bool) → on ≡ false → Rounds before alive on → Settled arcs upper lower before alive
-  rounds-end before alive on e R = record { same-length = R .same-length; keeps = R .keeps; only = R .only; stable = R .stable e }
+  rounds-end before alive on e R = record { same-length = R .same-length; keeps = R .keeps; stable = R .stable e }
 
   -- what falls with each round
   abbrev pub left : List ℕ → Bool → ℕ

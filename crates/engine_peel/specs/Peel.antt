@@ -9,7 +9,6 @@ use Rattle.table_format.specs.Table.{Arc}
 use Rattle.table_format.specs.Cells.{arcsAs}
 use Rattle.graph.specs.Walk.{Walk}
 use Rattle.machine.specs.Idle.{sideIdle, Leads}
-use Rattle.engine_reach.specs.Graph.{ReachedBy}
 
 -- the sum of cells
 unfoldable pub total : List ℕ → ℕ
@@ -31,9 +30,9 @@ module _ (arcs : List ℕ) (upper lower : Bool) where
 
   -- A state is alive where its cell is 1.
 
-  -- every state that is reached and on a cycle is alive
-  abbrev pub Cyclic : List ℕ → List ℕ → Type 0
-  Cyclic initials alive = (s : ℕ) → ReachedBy arcs initials s → Walk IdleEdge s s → getD alive s 0 ≡ 1
+  -- every state on a cycle is alive
+  abbrev pub Cyclic : List ℕ → Type 0
+  Cyclic alive = (s : ℕ) → Walk IdleEdge s s → getD alive s 0 ≡ 1
 
   -- an idle arc leads from every state that is alive to one that is
   abbrev pub Stable : List ℕ → Type 0
@@ -47,8 +46,7 @@ module _ (arcs : List ℕ) (upper lower : Bool) where
   -- a round, and whether a state died in it
   pub record Peeled (before after : List ℕ) (died : Bool) : Type 0 where
     pub same-length : length after ≡ length before
-    pub keeps : (initials : List ℕ) → Cyclic initials before → Cyclic initials after
-    pub only : (s : ℕ) → getD after s 0 ≡ 1 → getD before s 0 ≡ 1
+    pub keeps : Cyclic before → Cyclic after
     pub no-more : total after ≤ total before
     pub fewer : died ≡ true → total after < total before
     pub stable : died ≡ false → Stable after
@@ -56,6 +54,5 @@ module _ (arcs : List ℕ) (upper lower : Bool) where
   -- all rounds
   pub record Settled (before after : List ℕ) : Type 0 where
     pub same-length : length after ≡ length before
-    pub keeps : (initials : List ℕ) → Cyclic initials before → Cyclic initials after
-    pub only : (s : ℕ) → getD after s 0 ≡ 1 → getD before s 0 ≡ 1
+    pub keeps : Cyclic before → Cyclic after
     pub stable : Stable after

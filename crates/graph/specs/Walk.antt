@@ -16,10 +16,6 @@ module _ (E : ℕ → ℕ → Type 0) where
   abbrev pub Walk : ℕ → ℕ → Type 0
   Walk s r = (l : List ℕ) × Through s l r
 
-  -- no walk comes back to its start
-  abbrev pub NoCycle : Type 0
-  NoCycle = (s : ℕ) → Walk s s → ⊥
-
   -- a cycle, by its states: through all of them and back to the first, none twice
   abbrev pub CycleStates : List ℕ → Type 0
   CycleStates [] = ⊥

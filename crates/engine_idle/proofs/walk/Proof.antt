@@ -12,7 +12,7 @@ use Rattle.engine_idle.proofs.walk.Statement.{statement}
 use Rattle.engine_idle.proofs.walk.Tie as tie
 
 abbrev Inv-loop : tie.InvT-loop
-Inv-loop arcs first upper lower alive start order₀ place₀ n₀ s₀ at₀ order place n s at = Walked arcs upper lower alive order place n s × (at ≡ getD place s 0)
+Inv-loop arcs first upper lower alive start order₀ place₀ n₀ s₀ at₀ order place n s at = Walked arcs upper lower alive start order place n s × (at ≡ getD place s 0)
 
 abbrev μ-loop : tie.MeasureT-loop
 μ-loop arcs first upper lower alive start order₀ place₀ n₀ s₀ at₀ order place n s at = 256 - n
