@@ -90,7 +90,8 @@ enum rd_refusal {
     RD_REFUSAL_LINE_COUNT = 9,         /* the end line's number is not the count of lines before it */
     RD_REFUSAL_WORD_FAULT = 10,        /* a word has more than 64 letters, or a letter 0 or over 63 */
     RD_REFUSAL_TASK_FAULT = 11,        /* unknown task, or a word of one or more letters on a side that the task does not read */
-    RD_REFUSAL_IDLE_CYCLE = 12,        /* arcs that read nothing for the task go round in a cycle: a search could be endless */
+    RD_REFUSAL_IDLE_CYCLE = 12,        /* from an initial state arcs lead to a cycle of arcs that read nothing for the task:
+                                          a search could be endless */
     RD_REFUSAL_LOADED_TABLE = 20,      /* the loaded table breaks a rule (3 to 8), or is cut short */
     RD_REFUSAL_PLACE = 21,             /* the run or its used frames are not a place in a search */
     RD_REFUSAL_STACK_FULL = 22,        /* the stack is full; rd_next says how to go on */

@@ -1,47 +1,39 @@
--- What the marking of reached states says. A cell is 0 while its state is not reached, 2 while its arcs are still to be followed, and 1 then.
+-- What the marking of reached states says. A cell is 1 once its state is met; the states that are met stand in a list, in the order in which they
+-- were.
 use Prim.Native.Nat.{ℕ, _+_, _<_, _≤_}
 use mathlib.Core.Path.{_≡_}
 use mathlib.Core.Logic.{_⊎_}
-use mathlib.Core.Bool.{Bool, true, false, cond}
-use mathlib.Core.List.{List, [], _∷_, List·Memᴰ}
-use lib.Dec.{eqb}
+use mathlib.Core.List.{List}
 use lib.ListN.{length, getD}
-use Rattle.table_format.specs.Cells.{arcsAs}
-use Rattle.machine.specs.Idle.{AnyArc}
+use Rattle.graph.specs.Lists.{zeros}
 use Rattle.engine_reach.specs.Graph.{ReachedBy}
 
--- no state is marked
+-- no state is met
 abbrev pub Unmarked : List ℕ → Type 0
 Unmarked cells = (s : ℕ) → getD cells s 0 ≡ 0
 
--- some states are visited: of these each cell of 0 becomes 2, and all others stay
+-- the states that are met are the first of the order, each once, so that there is room for all
+pub record Met (cells order : List ℕ) (count : ℕ) : Type 0 where
+  pub few : length cells ≤ 256
+  pub order-long : length order ≡ 256
+  pub once : count + zeros cells ≡ length cells
+  pub listed : (s : ℕ) → 0 < getD cells s 0 → (i : ℕ) × (i < count) × (getD order i 0 ≡ s)
+  pub marked : (i : ℕ) → i < count → 0 < getD cells (getD order i 0) 0
+
+-- some states are visited: of these each cell of 0 becomes 1, and all others stay
 pub record Visited (Who : ℕ → Type 0) (before after : List ℕ) : Type 0 where
   pub same-length : length after ≡ length before
   pub kept : (s : ℕ) → 0 < getD before s 0 → getD after s 0 ≡ getD before s 0
   pub covered : (s : ℕ) → Who s → 0 < getD after s 0
-  pub only : (s : ℕ) → getD before s 0 ≡ 0 → 0 < getD after s 0 → Who s × (getD after s 0 ≡ 2)
+  pub only : (s : ℕ) → getD before s 0 ≡ 0 → 0 < getD after s 0 → Who s × (getD after s 0 ≡ 1)
 
--- how many cells are not 1
-unfoldable pub unfollowed : List ℕ → ℕ
-unfollowed [] = 0
-unfollowed (x ∷ l) = cond (eqb x 1) 0 1 + unfollowed l
+-- and those that are met by that come behind the others
+pub record Meets (Who : ℕ → Type 0) (cells order : List ℕ) (count : ℕ) (cells′ order′ : List ℕ) (count′ : ℕ) : Type 0 where
+  pub visited : Visited Who cells cells′
+  pub met : Met cells′ order′ count′
+  pub no-fewer : count ≤ count′
+  pub in-place : (i : ℕ) → i < count → getD order′ i 0 ≡ getD order i 0
 
-module _ (arcs : List ℕ) where
-  -- while states are marked: those that are marked are reached, the initial ones among them, and so is all to which a followed state's arcs lead
-  pub record Marking (initials cells : List ℕ) : Type 0 where
-    pub sound : (s : ℕ) → 0 < getD cells s 0 → ReachedBy arcs initials s
-    pub begun : (s : ℕ) → List·Memᴰ s initials → 0 < getD cells s 0
-    pub closed : (s r : ℕ) → getD cells s 0 ≡ 1 → AnyArc (arcsAs arcs) s r → 0 < getD cells r 0
-    pub small : (s : ℕ) → getD cells s 0 ≤ 2
-
-  -- a sweep, and whether the arcs of a state were followed in it
-  pub record Swept (before after : List ℕ) (followed : Bool) : Type 0 where
-    pub same-length : length after ≡ length before
-    pub keeps : (initials : List ℕ) → Marking initials before → Marking initials after
-    pub no-more : unfollowed after ≤ unfollowed before
-    pub fewer : followed ≡ true → unfollowed after < unfollowed before
-    pub none-left : followed ≡ false → (s : ℕ) → getD after s 0 ≡ 2 → ⊥
-
-  -- 1 where a state is reached, 0 where it is not
-  abbrev pub ReachedCells : List ℕ → List ℕ → Type 0
-  ReachedCells initials cells = (s : ℕ) → ((getD cells s 0 ≡ 1) × ReachedBy arcs initials s) ⊎ ((getD cells s 0 ≡ 0) × (ReachedBy arcs initials s → ⊥))
+-- 1 where a state is reached, 0 where it is not
+abbrev pub ReachedCells : List ℕ → List ℕ → List ℕ → Type 0
+ReachedCells arcs initials cells = (s : ℕ) → ((getD cells s 0 ≡ 1) × ReachedBy arcs initials s) ⊎ ((getD cells s 0 ≡ 0) × (ReachedBy arcs initials s → ⊥))

@@ -2,16 +2,17 @@
 use Prim.Native.Nat.{ℕ, zero, suc, _+_, _<_, _≤_}
 use native.Mathlib.Omega.{arith}
 use native.Mathlib.Nat.{not-suc-le-zero}
+use native.Mathlib.Numerals.{add-one}
 use mathlib.Core.Path.{_≡_, refl, sym, ap, subst, _∙_}
 use mathlib.Core.Logic.{_⊎_, inl, inr, ⊎-elim}
 use mathlib.Core.Bool.{Bool, true, false, cond, true≢false}
 use mathlib.Core.List.{List, [], _∷_, _++_, List·Memᴰ, List·Memᴰ·head, List·Memᴰ·tail, List·Memᴰ·not-nil, List·Memᴰ·cases-cons}
 use lib.Dec.{eqb}
-use lib.ListN.{length, getD}
+use lib.ListN.{length, getD, set}
 use borrow.Author.Tests.{eqb-true, eqb-false, eq-eqb}
 use Rattle.table_format.proofs.All.{mem-at}
 use Rattle.table_format.proofs.Any.{any-found, any-mem}
-use Rattle.graph.specs.Lists.{Distinct, Before, member, keep, upTo, lowest}
+use Rattle.graph.specs.Lists.{Distinct, Before, member, keep, upTo, lowest, zeros}
 
 pub same? : (a b : ℕ) → (a ≡ b) ⊎ (a ≡ b → ⊥)
 same? a b = go (eqb a b) refl
@@ -110,3 +111,18 @@ before-trans (x ∷ a) (y ∷ b) (z ∷ c) h k =
 pub before-never : (a : List ℕ) → Before a a → ⊥
 before-never [] h = h
 before-never (x ∷ a) h = ⊎-elim (λ u. omega arith) (λ u. before-never a (u .1)) h
+
+-- cells that are all 0
+pub zeros-all : (l : List ℕ) → ((i : ℕ) → getD l i 0 ≡ 0) → zeros l ≡ length l
+zeros-all [] f = refl
+zeros-all (zero ∷ xs) f = ap suc (zeros-all xs (λ i. f (suc i)))
+zeros-all (suc x ∷ xs) f = absurd (let e : suc x ≡ 0 = f 0 in omega arith)
+
+-- a cell of 0 that is written is one less
+pub zeros-set : (l : List ℕ) (i v : ℕ) → i < length l → getD l i 0 ≡ 0 → 0 < v → zeros (set l i v) + 1 ≡ zeros l
+zeros-set [] i v h e p = absurd (omega arith)
+zeros-set (zero ∷ xs) zero zero h e p = absurd (omega arith)
+zeros-set (zero ∷ xs) zero (suc v) h e p = add-one (zeros xs)
+zeros-set (suc x ∷ xs) zero v h e p = absurd (omega arith)
+zeros-set (zero ∷ xs) (suc i) v h e p = let r = zeros-set xs i v (omega arith) e p in omega arith
+zeros-set (suc x ∷ xs) (suc i) v h e p = zeros-set xs i v (omega arith) e p

@@ -1,30 +1,17 @@
 -- A walk that notes each state's place, until it comes to a state that has one: from that place on it is a cycle.
 use Prim.Native.Nat.{ℕ, zero, suc, _+_, _-_, _<_, _≤_}
 use native.Mathlib.Omega.{arith}
-use native.Mathlib.Numerals.{add-one}
 use mathlib.Core.Path.{_≡_, refl, sym, ap, subst, _∙_}
 use mathlib.Core.Bool.{Bool, true, false}
-use mathlib.Core.List.{List, [], _∷_}
+use mathlib.Core.List.{List}
 use lib.Dec.{eqb}
 use lib.ListN.{length, getD, set, take, drop, replicate, length-set, length-drop, length-replicate}
 use lib.Seq.{getD-set-same, getD-set-other, getD-take, getD-drop, length-take-le}
 use borrow.Author.Tests.{eqb-true, eqb-false}
+use Rattle.graph.specs.Lists.{zeros}
 use Rattle.graph.specs.Walk.{CycleStates}
+use Rattle.graph.proofs.Lists.{zeros-set}
 use Rattle.graph.proofs.Walk.{cycle-places}
-
--- how many cells are 0
-abbrev pub zeros : List ℕ → ℕ
-zeros [] = 0
-zeros (zero ∷ xs) = suc (zeros xs)
-zeros (suc x ∷ xs) = zeros xs
-
-zeros-set : (l : List ℕ) (i v : ℕ) → i < length l → getD l i 0 ≡ 0 → 0 < v → zeros (set l i v) + 1 ≡ zeros l
-zeros-set [] i v h e p = absurd (omega arith)
-zeros-set (zero ∷ xs) zero zero h e p = absurd (omega arith)
-zeros-set (zero ∷ xs) zero (suc v) h e p = add-one (zeros xs)
-zeros-set (suc x ∷ xs) zero v h e p = absurd (omega arith)
-zeros-set (zero ∷ xs) (suc i) v h e p = let r = zeros-set xs i v (omega arith) e p in omega arith
-zeros-set (suc x ∷ xs) (suc i) v h e p = zeros-set xs i v (omega arith) e p
 
 zeros-replicate : (n : ℕ) → zeros (replicate n 0) ≡ n
 zeros-replicate zero = refl

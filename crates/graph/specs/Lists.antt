@@ -1,4 +1,4 @@
--- Lists: none twice, those that pass a test; lists of numbers: all below one, their order, members, the lowest number that passes a test.
+-- Lists: none twice, those that pass a test; lists of numbers: all below one, their order, members, the lowest number that passes a test, how many are 0.
 use Prim.Native.Nat.{ℕ, zero, suc, _<_}
 use mathlib.Core.Path.{_≡_}
 use mathlib.Core.Logic.{_⊎_}
@@ -41,3 +41,9 @@ upTo (suc n) = n ∷ upTo n
 abbrev pub lowest : (ℕ → Bool) → ℕ → ℕ
 lowest p zero = 0
 lowest p (suc n) = cond (p 0) 0 (suc (lowest (λ i. p (suc i)) n))
+
+-- how many cells are 0
+abbrev pub zeros : List ℕ → ℕ
+zeros [] = 0
+zeros (zero ∷ xs) = suc (zeros xs)
+zeros (suc x ∷ xs) = zeros xs

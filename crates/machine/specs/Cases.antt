@@ -1,5 +1,5 @@
--- Document 01, "Cases on table K", the starred ones, and those of document 02, as rows of one table. A row is right where the definitions of the start, of the call
--- for a reading and of the search tree, run on a loaded table's cells, give what it says.
+-- Document 01, "Cases on table K", the starred ones, and cases of document 02, as rows of one table. A row is right where the definitions of
+-- the start, of the call for a reading and of the search tree, run on a loaded table's cells, give what it says.
 use Prim.Native.Nat.{ℕ, _+_, _*_, _≤_, _<_}
 use Prim.Native.Char.{code}
 use Prim.Native.String.{String, [] as []ᶜ, _∷_ as _∷ᶜ_}

@@ -1,4 +1,5 @@
--- Document 01, "Table and paths": idle arcs and idle cycles; document 02, slip 2: those that are reached; refusal 12 and the cycle that it tells.
+-- Document 01, "Table and paths": idle arcs and idle cycles; document 02, slip 2: cycles that are reached; refusal 12 and the cycle that it
+-- tells.
 use Prim.Native.Nat.{ℕ, zero, suc}
 use mathlib.Core.Path.{_≡_}
 use mathlib.Core.Bool.{Bool, true, false, _&&_}
@@ -37,11 +38,11 @@ pub record Leads (arcs : List Arc) (test : Arc → Bool) (s r : ℕ) : Type 0 wh
 abbrev pub leadsBy : List Arc → (Arc → Bool) → ℕ → ℕ → Bool
 leadsBy arcs test s r = any (λ a. test a && (eqb (a .source) s && eqb (a .target) r)) arcs
 
--- any arc, whatever its letters
+-- every arc passes
 abbrev pub anyArc : Arc → Bool
 anyArc a = true
 
--- one leads from s to r
+-- an arc leads from s to r, whatever its letters
 abbrev pub AnyArc : List Arc → ℕ → ℕ → Type 0
 AnyArc arcs = Leads arcs anyArc
 

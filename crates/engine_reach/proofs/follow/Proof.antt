@@ -1,31 +1,31 @@
--- The loop: the targets of the state's arcs before n are visited.
+-- The loop: the targets of the state's arcs before n are met.
 use Prim.Native.Nat.{ℕ, _+_, _-_, _<_, _≤_}
 use native.Mathlib.Omega.{arith}
-use mathlib.Core.Path.{_≡_, ap, _∙_}
+use mathlib.Core.Path.{_≡_, sym, ap, _∙_}
 use denote.Ref.{now}
 use lib.ListN.{getD}
 use borrow.Author.Needs.{needs}
 use Rattle.table_format.specs.declared.Arc as held
 use Rattle.table_format.specs.Cells.{arcOf}
-use Rattle.engine_reach.specs.Reach.{Visited}
-use Rattle.engine_reach.proofs.Marks.{Values, values-begin, values-more, visited-targets}
+use Rattle.engine_reach.specs.Reach.{Meets}
+use Rattle.engine_reach.proofs.Marks.{Values, values-begin, values-more, meets-targets}
 use Rattle.engine_reach.proofs.follow.Statement.{statement}
 use Rattle.engine_reach.proofs.follow.Tie as tie
 
 abbrev Inv-loop : tie.InvT-loop
-Inv-loop arcs first q cells₀ end n₀ cells n = (getD first q 0 ≤ n) × (end ≡ getD first (q + 1) 0) × ((i : ℕ) → getD first q 0 ≤ i → i < n → i < end) × Visited (Values (λ i. arcOf arcs i .target) (getD first q 0) n) cells₀ cells
+Inv-loop arcs first q cells₀ order₀ before end n₀ count₀ cells order n count = (getD first q 0 ≤ n) × (end ≡ getD first (q + 1) 0) × ((i : ℕ) → getD first q 0 ≤ i → i < n → i < end) × Meets (Values (λ i. arcOf arcs i .target) (getD first q 0) n) cells₀ order₀ before cells order count
 
 abbrev μ-loop : tie.MeasureT-loop
-μ-loop arcs first q cells₀ end n₀ cells n = end - n
+μ-loop arcs first q cells₀ order₀ before end n₀ count₀ cells order n count = end - n
 
 add-cell-as-index : tie.Need-add-cell-as-index Inv-loop μ-loop
-add-cell-as-index c = omega (arith, c .before .before .before .pre .0 .few, c .before .before .before .pre .1)
+add-cell-as-index c = omega (arith, c .before .before .before .before .pre .0 .few, c .before .before .before .before .pre .1 .0)
 
 mul-cell-as-index : tie.Need-mul-cell-as-index Inv-loop μ-loop
 mul-cell-as-index c = search needs
 
 shared-slice-read-cell-as-index : tie.Need-shared-slice-read-cell-as-index Inv-loop μ-loop
-shared-slice-read-cell-as-index c = omega (arith, c .before .before .before .before .pre .0 .few, c .before .before .before .before .pre .1, c .before .before .before .before .pre .0 .index)
+shared-slice-read-cell-as-index c = omega (arith, c .before .before .before .before .before .pre .0 .few, c .before .before .before .before .before .pre .1 .0, c .before .before .before .before .before .pre .0 .index)
 
 cell-as-index-requires : tie.Need-cell-as-index-requires Inv-loop μ-loop
 cell-as-index-requires c κs = search needs
@@ -34,37 +34,37 @@ mul-cell-as-index-2 : tie.Need-mul-cell-as-index-2 Inv-loop μ-loop
 mul-cell-as-index-2 c = search needs
 
 shared-slice-read-cell-as-index-2 : tie.Need-shared-slice-read-cell-as-index-2 Inv-loop μ-loop
-shared-slice-read-cell-as-index-2 c = omega (arith, c .before .before .before .before .before .before .pre .0 .few, c .before .before .before .before .before .before .pre .1, c .before .before .before .before .before .before .pre .0 .index)
+shared-slice-read-cell-as-index-2 c = omega (arith, c .before .before .before .before .before .before .before .pre .0 .few, c .before .before .before .before .before .before .before .pre .1 .0, c .before .before .before .before .before .before .before .pre .0 .index)
 
 cell-as-index-requires-2 : tie.Need-cell-as-index-requires-2 Inv-loop μ-loop
 cell-as-index-requires-2 c κs = search needs
 
 loop-holds : tie.Need-loop-holds Inv-loop μ-loop
-loop-holds c = (omega (arith, c .cell-as-index2 .ensures .0), c .before .before .cell-as-index .ensures .0, λ i h k. absurd (omega (arith, c .cell-as-index2 .ensures .0)), values-begin (λ i. arcOf (now (c .before .before .before .before .before .before .before .args .arcs)) i .target) (getD (now (c .before .before .before .before .before .before .before .args .first)) (c .before .before .before .before .before .before .before .args .q) 0) (c .cell-as-index2 .result) (now (c .before .before .before .before .before .before .before .args .cells)) (omega (arith, c .cell-as-index2 .ensures .0)))
+loop-holds c = (omega (arith, c .cell-as-index2 .ensures .0), c .before .before .cell-as-index .ensures .0, λ i h k. absurd (omega (arith, c .cell-as-index2 .ensures .0)), values-begin (λ i. arcOf (now (c .before .before .before .before .before .before .before .before .args .arcs)) i .target) (getD (now (c .before .before .before .before .before .before .before .before .args .first)) (c .before .before .before .before .before .before .before .before .args .q) 0) (c .cell-as-index2 .result) (now (c .before .before .before .before .before .before .before .before .args .cells)) (now (c .before .before .before .before .before .before .before .before .args .order)) (c .before .before .before .before .before .before .before .before .args .before) (omega (arith, c .cell-as-index2 .ensures .0)) (c .before .before .before .before .before .before .before .before .pre .1 .1))
 
 arc-at-requires : tie.Need-arc-at-requires Inv-loop μ-loop
-arc-at-requires c κs = c .before .before .before .before .before .before .before .before .before .pre .0 .numbered (c .before .before .before .before .before .before .before .before .before .args .q) (c .before .loop .n) (c .before .before .before .before .before .before .before .before .before .pre .1) (c .before .loop .inv .0) (omega (arith, c .before .loop .inv .1)) .0
-
-cell-as-index-requires-3 : tie.Need-cell-as-index-requires-3 Inv-loop μ-loop
-cell-as-index-requires-3 c κs = search needs
+arc-at-requires c κs = c .before .before .before .before .before .before .before .before .before .before .pre .0 .numbered (c .before .before .before .before .before .before .before .before .before .before .args .q) (c .before .loop .n) (c .before .before .before .before .before .before .before .before .before .before .pre .1 .0) (c .before .loop .inv .0) (omega (arith, c .before .loop .inv .1)) .0
 
 visit-requires : tie.Need-visit-requires Inv-loop μ-loop
-visit-requires c κs = omega (arith, c .before .cell-as-index3 .ensures .0, ap (λ (a : held.Arc). a .target) (c .before .before .arc-at .ensures), c .before .before .before .before .before .before .before .before .before .before .before .before .pre .0 .target-in (c .before .before .before .before .loop .n) (c .before .before .before .before .before .before .before .before .before .before .before .before .pre .0 .numbered (c .before .before .before .before .before .before .before .before .before .before .before .before .args .q) (c .before .before .before .before .loop .n) (c .before .before .before .before .before .before .before .before .before .before .before .before .pre .1) (c .before .before .before .before .loop .inv .0) (omega (arith, c .before .before .before .before .loop .inv .1)) .0), c .before .before .before .before .loop .inv .3 .same-length)
+visit-requires c κs = (omega (arith, ap (λ (a : held.Arc). a .target) (c .before .before .arc-at .ensures), c .before .before .before .before .before .before .before .before .before .before .before .before .before .pre .0 .target-in (c .before .before .before .before .loop .n) (c .before .before .before .before .before .before .before .before .before .before .before .before .before .pre .0 .numbered (c .before .before .before .before .before .before .before .before .before .before .before .before .before .args .q) (c .before .before .before .before .loop .n) (c .before .before .before .before .before .before .before .before .before .before .before .before .before .pre .1 .0) (c .before .before .before .before .loop .inv .0) (omega (arith, c .before .before .before .before .loop .inv .1)) .0), c .before .before .before .before .loop .inv .3 .visited .same-length), c .before .before .before .before .loop .inv .3 .met)
 
 add-n : tie.Need-add-n Inv-loop μ-loop
-add-n c = omega (arith, c .before .before .before .before .before .before .before .before .before .before .before .before .before .before .before .pre .0 .numbered (c .before .before .before .before .before .before .before .before .before .before .before .before .before .before .before .args .q) (c .before .before .before .before .before .before .before .loop .n) (c .before .before .before .before .before .before .before .before .before .before .before .before .before .before .before .pre .1) (c .before .before .before .before .before .before .before .loop .inv .0) (omega (arith, c .before .before .before .before .before .before .before .loop .inv .1)) .0)
+add-n c = omega (arith, c .before .before .before .before .before .before .before .before .before .before .before .before .before .before .before .before .before .before .pre .0 .numbered (c .before .before .before .before .before .before .before .before .before .before .before .before .before .before .before .before .before .before .args .q) (c .before .before .before .before .before .before .before .before .before .loop .n) (c .before .before .before .before .before .before .before .before .before .before .before .before .before .before .before .before .before .before .pre .1 .0) (c .before .before .before .before .before .before .before .before .before .loop .inv .0) (omega (arith, c .before .before .before .before .before .before .before .before .before .loop .inv .1)) .0)
 
 loop-less : tie.Need-loop-less Inv-loop μ-loop
 loop-less c = search needs
 
 loop-again : tie.Need-loop-again Inv-loop μ-loop
-loop-again c = (omega (arith, c .before .before .before .before .before .before .before .loop .inv .0), c .before .before .before .before .before .before .before .loop .inv .1, λ i h k. omega arith, values-more (λ i. arcOf (now (c .before .before .before .before .before .before .before .before .before .before .before .before .before .before .before .args .arcs)) i .target) (getD (now (c .before .before .before .before .before .before .before .before .before .before .before .before .before .before .before .args .first)) (c .before .before .before .before .before .before .before .before .before .before .before .before .before .before .before .args .q) 0) (c .before .before .before .before .before .before .before .loop .n) (c .before .before .before .before .cell-as-index3 .result) (now (c .before .before .before .before .before .before .before .before .before .before .before .before .before .before .before .args .cells)) (c .before .before .before .before .before .before .before .loop .cells) _ (c .before .before .before .before .before .before .before .loop .inv .0) (c .before .before .before .before .cell-as-index3 .ensures .0 ∙ ap (λ (a : held.Arc). a .target) (c .before .before .before .before .before .arc-at .ensures)) (c .before .before .before .before .before .before .before .loop .inv .3) (c .before .before .visit .ensures))
+loop-again c = (omega (arith, c .before .before .before .before .before .before .before .before .before .loop .inv .0), c .before .before .before .before .before .before .before .before .before .loop .inv .1, λ i h k. omega arith, values-more (λ i. arcOf (now (c .before .before .before .before .before .before .before .before .before .before .before .before .before .before .before .before .before .before .args .arcs)) i .target) (getD (now (c .before .before .before .before .before .before .before .before .before .before .before .before .before .before .before .before .before .before .args .first)) (c .before .before .before .before .before .before .before .before .before .before .before .before .before .before .before .before .before .before .args .q) 0) (c .before .before .before .before .before .before .before .before .before .loop .n) (c .before .before .before .before .before .before .before .arc-at .result .target) (c .before .before .before .before .before .before .before .before .before .loop .inv .0) (ap (λ (a : held.Arc). a .target) (c .before .before .before .before .before .before .before .arc-at .ensures)) (c .before .before .before .before .before .before .before .before .before .loop .inv .3) (c .before .before .before .before .visit .ensures))
 
 same-length : tie.Need-same-length Inv-loop μ-loop
-same-length c = c .before .loop .inv .3 .same-length
+same-length c = c .before .loop .inv .3 .visited .same-length
+
+same-length-2 : tie.Need-same-length-2 Inv-loop μ-loop
+same-length-2 c = c .before .loop .inv .3 .met .order-long ∙ sym (c .before .before .before .before .before .before .before .before .before .before .pre .1 .1 .order-long)
 
 returns : tie.Need-returns Inv-loop μ-loop
-returns c = visited-targets (now (c .before .before .before .before .before .before .before .before .before .args .arcs)) (now (c .before .before .before .before .before .before .before .before .before .args .first)) (now (c .before .before .before .before .before .before .before .before .before .args .cells)) (c .before .before .before .before .before .before .before .before .before .pre .0) (c .before .before .before .before .before .before .before .before .before .args .q) (c .before .before .before .before .before .before .before .before .before .pre .1) (c .before .loop .n) (c .before .before .before .before .cell-as-index .result) (c .before .loop .cells) (c .before .loop .inv .1) (omega arith) (c .before .loop .inv .2) (c .before .loop .inv .3)
+returns c = meets-targets (now (c .before .before .before .before .before .before .before .before .before .before .args .arcs)) (now (c .before .before .before .before .before .before .before .before .before .before .args .first)) (c .before .before .before .before .before .before .before .before .before .before .pre .0) (c .before .before .before .before .before .before .before .before .before .before .args .q) (c .before .before .before .before .before .before .before .before .before .before .pre .1 .0) (c .before .loop .n) (c .before .before .before .before .cell-as-index .result) (c .before .loop .inv .1) (omega arith) (c .before .loop .inv .2) (c .before .loop .inv .3)
 
 pub follow-spec : {M : Type 1} → statement M
 follow-spec =
@@ -81,10 +81,10 @@ follow-spec =
     cell-as-index-requires-2
     loop-holds
     arc-at-requires
-    cell-as-index-requires-3
     visit-requires
     add-n
     loop-less
     loop-again
     same-length
+    same-length-2
     returns)
