@@ -5,7 +5,7 @@ use native.Mathlib.Numerals.{unary-clauses}
 use mathlib.Core.Path.{_≡_, refl, sym, ap, ap₂, subst, _∙_}
 use mathlib.Core.Logic.{⊎-elim}
 use mathlib.Core.Bool.{Bool, true, false}
-use mathlib.Core.List.{List, [], _∷_, _++_, List·Memᴰ·head, List·Memᴰ·not-nil, List·Memᴰ·cases-cons}
+use mathlib.Core.List.{List, [], _∷_, _++_, List·Memᴰ·head}
 use lib.Dec.{ltb}
 use lib.ListN.{length, getD, set, take, drop, replicate, length-drop, length-replicate, getD-replicate}
 use lib.Seq.{getD-take, length-take-le}
@@ -15,12 +15,12 @@ use Rattle.graph.specs.Walk.{Walk, CycleStates}
 use Rattle.graph.specs.Reached.{initial, byEdge}
 use Rattle.graph.proofs.Walk.{walk-below}
 use Rattle.graph.proofs.Places.{Noted, noted-begins, noted-more, noted-closes}
-use Rattle.graph.proofs.Search.{closed-reached}
+use Rattle.graph.proofs.Search.{reached-from}
 use Rattle.machine.specs.Idle.{AnyArc}
 use Rattle.machine.proofs.Idle.{any-arc}
-use Rattle.engine_reach.specs.Graph.{Graph, ReachedBy}
-use Rattle.engine_reach.specs.Reach.{Unmarked, ReachedCells}
-use Rattle.engine_reach.proofs.Edges.{among}
+use Rattle.engine_graph.specs.Graph.{Graph}
+use Rattle.engine_reach.specs.Reach.{Unmarked, ReachedBy, ReachedCells}
+use Rattle.engine_graph.proofs.Edges.{among}
 use Rattle.engine_peel.specs.Peel.{idleBy, IdleEdge, Stable, Next, Settled}
 use Rattle.engine_idle.specs.declared.Cycle.{Cycle}
 use Rattle.engine_idle.specs.Found.{cycleCells, AllAlive, FirstBoth, CycleAfter, FoundCycle}
@@ -104,24 +104,19 @@ module _ (arcs initials : List ℕ) (upper lower : Bool) (first before after : L
 
   -- none is left: there is no cycle
   pub none-left : (r : ℕ) → FirstBoth after after r → length after ≤ r → (c : Cycle) → c ≡ cycleCells [] → FoundCycle arcs initials upper lower c
-  none-left r F h c e = record { cycle = []; cells = e; is = λ s R w. F .none-is h s (left-below s w) (left s w) (left s w) }
+  none-left r F h c e = record { cycle = []; cells = e; is = λ s R w. F .none-before s (let k = left-below s w in omega arith) (left s w) (left s w) }
 
   module _ (reached : List ℕ) (M : ReachedCells arcs initials reached) (r : ℕ) (F : FirstBoth after reached r) where
     -- none that is left is reached: no cycle is
     pub none-reached : length after ≤ r → (c : Cycle) → c ≡ cycleCells [] → FoundCycle arcs initials upper lower c
-    none-reached h c e = record { cycle = []; cells = e; is = λ s R w. F .none-is h s (left-below s w) (left s w) (⊎-elim (λ y. y .0) (λ n. absurd (n .1 R)) (M s)) }
+    none-reached h c e = record { cycle = []; cells = e; is = λ s R w. F .none-before s (let k = left-below s w in omega arith) (left s w) (⊎-elim (λ y. y .0) (λ n. absurd (n .1 R)) (M s)) }
 
     -- one is: so is the cycle after it
     pub one-reached : r < length after → (c : Cycle) → CycleAfter arcs upper lower r c → FoundCycle arcs initials upper lower c
-    one-reached h c C = record { cycle = C .first ∷ C .others; cells = C .cells; is = (on (C .reached-from), C .is) }
+    one-reached h c C = record { cycle = C .first ∷ C .others; cells = C .cells; is = (reached-from (AnyArc (arcsAs arcs)) initials here (C .reached-from), C .is) }
       where
         here : ReachedBy arcs initials r
         here = ⊎-elim (λ y. y .1) (λ n. absurd (let y = n .0 in let z = F .both h .1 in omega arith)) (M r)
-
-        on : {x : ℕ} → ReachedBy arcs (r ∷ []) x → ReachedBy arcs initials x
-        on =
-            closed-reached (AnyArc (arcsAs arcs)) (r ∷ []) (ReachedBy arcs initials) (λ s m. ⊎-elim (λ u. rw u here) (λ u. absurd (List·Memᴰ·not-nil u)) (List·Memᴰ·cases-cons m))
-            (λ s x R g. byEdge R g)
 
 -- THE CELLS AT FIRST, one a state.
 

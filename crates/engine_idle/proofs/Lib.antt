@@ -1,3 +1,3 @@
--- Laws of the walk, and of the graph of a table's idle arcs.
+-- Laws of the walk, and of the cycles of a table's graph.
 pub mod Cycles
 pub mod TableGraph

@@ -1,4 +1,4 @@
--- What the search for an idle cycle says, on the cells of a table's arcs; upper and lower tell whether a side is read.
+-- What the search for an idle cycle that is reached says, on the cells of a table's arcs; upper and lower tell whether a side is read.
 use Prim.Native.Nat.{ℕ, _-_, _<_, _≤_}
 use mathlib.Core.Path.{_≡_}
 use mathlib.Core.Bool.{Bool}
@@ -6,9 +6,9 @@ use mathlib.Core.List.{List, [], _∷_, _++_}
 use lib.ListN.{length, getD, replicate}
 use Rattle.table_format.specs.Cells.{arcsAs}
 use Rattle.graph.specs.Walk.{CycleStates}
-use Rattle.graph.specs.Reached.{NoReachedCycle, ReachedCycle}
+use Rattle.graph.specs.Reached.{CycleOrNone}
 use Rattle.machine.specs.Idle.{AnyArc}
-use Rattle.engine_reach.specs.Graph.{ReachedBy}
+use Rattle.engine_reach.specs.Reach.{ReachedBy}
 use Rattle.engine_peel.specs.Peel.{IdleEdge}
 use Rattle.engine_idle.specs.declared.Cycle.{Cycle}
 
@@ -22,8 +22,9 @@ AllAlive alive = (s : ℕ) → s < length alive → getD alive s 0 ≡ 1
 
 -- the first state that is alive and reached, or the count of states where none is
 pub record FirstBoth (alive reached : List ℕ) (r : ℕ) : Type 0 where
+  pub within : r ≤ length alive
   pub both : r < length alive → (getD alive r 0 ≡ 1) × (getD reached r 0 ≡ 1)
-  pub none-is : length alive ≤ r → (s : ℕ) → s < length alive → getD alive s 0 ≡ 1 → getD reached s 0 ≡ 1 → ⊥
+  pub none-before : (s : ℕ) → s < r → getD alive s 0 ≡ 1 → getD reached s 0 ≡ 1 → ⊥
 
 -- the cells hold the states of a cycle, and the first of them is reached from a state s
 pub record CycleAfter (arcs : List ℕ) (upper lower : Bool) (s : ℕ) (c : Cycle) : Type 0 where
@@ -35,12 +36,11 @@ pub record CycleAfter (arcs : List ℕ) (upper lower : Bool) (s : ℕ) (c : Cycl
 
 module _ (arcs initials : List ℕ) (upper lower : Bool) where
   -- the states of a cycle that is reached, none twice, in walking order; none where no cycle is
-  abbrev pub CycleOrNone : List ℕ → Type 0
-  CycleOrNone [] = NoReachedCycle (AnyArc (arcsAs arcs)) (IdleEdge arcs upper lower) initials
-  CycleOrNone (s ∷ l) = ReachedCycle (AnyArc (arcsAs arcs)) (IdleEdge arcs upper lower) initials (s ∷ l)
+  abbrev pub CycleIn : List ℕ → Type 0
+  CycleIn = CycleOrNone (AnyArc (arcsAs arcs)) (IdleEdge arcs upper lower) initials
 
   -- what the search finds
   pub record FoundCycle (c : Cycle) : Type 0 where
     pub cycle : List ℕ
     pub cells : c ≡ cycleCells cycle
-    pub is : CycleOrNone cycle
+    pub is : CycleIn cycle

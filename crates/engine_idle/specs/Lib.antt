@@ -1,2 +1,2 @@
--- What the search for an idle cycle says.
+-- What the search for an idle cycle that is reached says.
 pub mod Found

@@ -6,12 +6,12 @@ ghost use mathlib.Core.List.{[]};
 ghost use Prim.Native.Nat.{_-_, _≤_, _<_};
 ghost use lib.ListN.{length, getD, take, drop};
 ghost use Rattle.graph.specs.Lists.{AllBelow};
-ghost use Rattle.engine_reach.specs.Graph.{Graph};
+ghost use Rattle.engine_graph.specs.Graph.{Graph};
 ghost use Rattle.engine_reach.specs.Reach.{Unmarked};
 ghost use Rattle.engine_peel.specs.Peel.{Stable};
 ghost use Rattle.engine_idle.specs.Found.{AllAlive, FirstBoth, cycleCells, CycleAfter, FoundCycle};
 
-// The states of an idle cycle, from the front; none where there is no such cycle.
+// The states of an idle cycle that is reached, from the front; none where no such cycle is.
 pub struct Cycle {
     pub states: [u16; 256],
     pub length: u32,
@@ -101,7 +101,7 @@ fn among(
     ensures { λ r. ⌜ FoundCycle (now (arcs .entry)) (now (initials .entry)) upper lower r ⌝ }
 {
     engine_peel::settle(arcs, first, upper, lower, alive);
-    let left = first_both(alive, alive);
+    let left = first_both(alive, alive); // the first of those that are left
     if alive.len() <= left {
         return none();
     }

@@ -15,8 +15,8 @@ use Rattle.table_format.specs.Cells.{arcHeld, arcOf}
 use Rattle.graph.proofs.Lists.{below-more}
 use Rattle.graph.proofs.Walk.{rotated}
 use Rattle.machine.specs.Idle.{sideIdle}
-use Rattle.engine_reach.specs.Graph.{Graph}
-use Rattle.engine_reach.proofs.Edges.{number-of, edge-of}
+use Rattle.engine_graph.specs.Graph.{Graph}
+use Rattle.engine_graph.proofs.Edges.{number-of, edge-of}
 use Rattle.engine_peel.specs.Peel.{total, idleBy, leadsAlive, IdleEdge, Cyclic, Stable, Next, Peeled, Settled}
 
 -- a letter on a side that is read

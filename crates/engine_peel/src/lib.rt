@@ -6,7 +6,7 @@ ghost use Prim.Native.Nat.{_<_};
 ghost use lib.ListN.{length};
 ghost use Rattle.table_format.specs.Cells.{arcCount, arcOf};
 ghost use Rattle.machine.specs.Idle.{sideIdle};
-ghost use Rattle.engine_reach.specs.Graph.{Graph};
+ghost use Rattle.engine_graph.specs.Graph.{Graph};
 ghost use Rattle.engine_peel.specs.Peel.{leadsAlive, Next, Peeled, Settled};
 
 // A letter passes nothing that is read.

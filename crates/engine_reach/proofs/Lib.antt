@@ -1,3 +1,2 @@
--- Laws of a table's arcs as edges, and of the marking of reached states.
-pub mod Edges
+-- Laws of the marking of reached states.
 pub mod Marks

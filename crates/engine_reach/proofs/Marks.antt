@@ -10,11 +10,11 @@ use Rattle.table_format.specs.Cells.{arcOf, arcsAs}
 use Rattle.graph.specs.Reached.{initial, byEdge}
 use Rattle.graph.proofs.Lists.{same?, zeros-all, zeros-set}
 use Rattle.graph.proofs.Search.{closed-reached}
-use Rattle.machine.specs.Idle.{anyArc, AnyArc}
+use Rattle.machine.specs.Idle.{always, AnyArc}
 use Rattle.machine.proofs.Transducer.{at-mem, mem-at, getD-lt}
-use Rattle.engine_reach.specs.Graph.{Graph, ReachedBy}
-use Rattle.engine_reach.specs.Reach.{Unmarked, Met, Visited, Meets, ReachedCells}
-use Rattle.engine_reach.proofs.Edges.{number-of, edge-of}
+use Rattle.engine_graph.specs.Graph.{Graph}
+use Rattle.engine_reach.specs.Reach.{Unmarked, Met, Visited, Meets, ReachedBy, ReachedCells}
+use Rattle.engine_graph.proofs.Edges.{number-of, edge-of}
 
 -- a number is 0 or above
 zero? : (x : ℕ) → (x ≡ 0) ⊎ (0 < x)
@@ -160,8 +160,8 @@ module _ {cells order : List ℕ} {count : ℕ} {cells′ order′ : List ℕ} {
       → ((i : ℕ) → getD first q 0 ≤ i → i < n → i < end) → Meets (Values (λ i. arcOf arcs i .target) (getD first q 0) n) cells order count cells′ order′ count′
       → Meets (AnyArc (arcsAs arcs) q) cells order count cells′ order′ count′
   meets-targets arcs first G q h n end e k within =
-      meets-as (λ s A. let N = number-of arcs anyArc first (length cells) G q s A in (N .number, N .from, omega (arith, N .until), N .target-is))
-      (λ s v. subst (AnyArc (arcsAs arcs) q) (v .3) (edge-of arcs anyArc first (length cells) G q (v .0) h (v .1) (omega (arith, within (v .0) (v .1) (v .2))) refl))
+      meets-as (λ s A. let N = number-of arcs always first (length cells) G q s A in (N .number, N .from, omega (arith, N .until), N .target-is))
+      (λ s v. subst (AnyArc (arcsAs arcs) q) (v .3) (edge-of arcs always first (length cells) G q (v .0) h (v .1) (omega (arith, within (v .0) (v .1) (v .2))) refl))
 
 -- THE SEARCH: the arcs of the first states of the order are followed.
 

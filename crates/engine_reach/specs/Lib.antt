@@ -1,3 +1,2 @@
--- The graph of a table's arcs, and what is reached in it.
-pub mod Graph
+-- What is reached in the graph of a table.
 pub mod Reach

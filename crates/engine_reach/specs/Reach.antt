@@ -6,7 +6,9 @@ use mathlib.Core.Logic.{_⊎_}
 use mathlib.Core.List.{List}
 use lib.ListN.{length, getD}
 use Rattle.graph.specs.Lists.{zeros}
-use Rattle.engine_reach.specs.Graph.{ReachedBy}
+use Rattle.table_format.specs.Cells.{arcsAs}
+use Rattle.graph.specs.Reached.{Reached}
+use Rattle.machine.specs.Idle.{AnyArc}
 
 -- no state is met
 abbrev pub Unmarked : List ℕ → Type 0
@@ -33,6 +35,10 @@ pub record Meets (Who : ℕ → Type 0) (cells order : List ℕ) (count : ℕ) (
   pub met : Met cells′ order′ count′
   pub no-fewer : count ≤ count′
   pub in-place : (i : ℕ) → i < count → getD order′ i 0 ≡ getD order i 0
+
+-- a state is reached by arcs, whatever their letters
+abbrev pub ReachedBy : List ℕ → List ℕ → ℕ → Type 0
+ReachedBy arcs initials = Reached (AnyArc (arcsAs arcs)) initials
 
 -- 1 where a state is reached, 0 where it is not
 abbrev pub ReachedCells : List ℕ → List ℕ → List ℕ → Type 0

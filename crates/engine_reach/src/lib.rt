@@ -8,7 +8,7 @@ ghost use lib.ListN.{length};
 ghost use Rattle.table_format.specs.Cells.{arcsAs};
 ghost use Rattle.graph.specs.Lists.{AllBelow};
 ghost use Rattle.machine.specs.Idle.{AnyArc};
-ghost use Rattle.engine_reach.specs.Graph.{Graph};
+ghost use Rattle.engine_graph.specs.Graph.{Graph};
 ghost use Rattle.engine_reach.specs.Reach.{Unmarked, Met, Meets, ReachedCells};
 
 // Meets a state, the `count`-th, unless it was met before. How many were met then.

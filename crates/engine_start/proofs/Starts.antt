@@ -25,11 +25,12 @@ use Rattle.machine.specs.Start.{firstRun, startedWith, startedAs, started, Tell
 use Rattle.machine.proofs.Asked.{loaded-rules}
 use Rattle.machine.proofs.Start.{is-started}
 use Rattle.engine_idle.specs.declared.Cycle.{Cycle}
-use Rattle.engine_reach.specs.Graph.{Graph}
-use Rattle.engine_idle.specs.Found.{FoundCycle, CycleOrNone, cycleCells}
+use Rattle.engine_graph.specs.Graph.{Graph}
+use Rattle.engine_idle.specs.Found.{FoundCycle, CycleIn, cycleCells}
 use Rattle.engine_admission.specs.Admission.{readsAt}
 use Rattle.engine_admission.proofs.Words.{Asks, reads-of}
-use Rattle.engine_idle.proofs.TableGraph.{loaded-laid, loaded-index, graph-of, found-none, found-some, found-states}
+use Rattle.engine_graph.proofs.OfTable.{graph-of}
+use Rattle.engine_idle.proofs.TableGraph.{loaded-laid, loaded-index, found-none, found-some, found-states}
 
 module _ (cells : List ℕ) (task : ℕ) (upper lower : List ℕ) where
   -- 20, 11 and 10
@@ -75,12 +76,12 @@ module _ (cells : List ℕ) (task : ℕ) (upper lower : List ℕ) where
       -- what the search found, by the sides that the task reads
       module _ (u w : Bool) (U : u ≡ readsAt task upperSide) (W : w ≡ readsAt task lowerSide) (c : Cycle) (F : FoundCycle (arcsPart cells l start-laid) initialsPart u w c) where
         abbrev Found : List ℕ → Type 0
-        Found = CycleOrNone (arcsPart cells l start-laid) initialsPart (reads (A .asks) upperSide) (reads (A .asks) lowerSide)
+        Found = CycleIn (arcsPart cells l start-laid) initialsPart (reads (A .asks) upperSide) (reads (A .asks) lowerSide)
 
         found : Found (F .cycle)
         found =
-            subst (λ (b : Bool). CycleOrNone (arcsPart cells l start-laid) initialsPart b (reads (A .asks) lowerSide) (F .cycle)) (U ∙ reads-of task (A .asks) (A .task-is) upperSide)
-            (subst (λ (b : Bool). CycleOrNone (arcsPart cells l start-laid) initialsPart u b (F .cycle)) (W ∙ reads-of task (A .asks) (A .task-is) lowerSide) (F .is))
+            subst (λ (b : Bool). CycleIn (arcsPart cells l start-laid) initialsPart b (reads (A .asks) lowerSide) (F .cycle)) (U ∙ reads-of task (A .asks) (A .task-is) upperSide)
+            (subst (λ (b : Bool). CycleIn (arcsPart cells l start-laid) initialsPart u b (F .cycle)) (W ∙ reads-of task (A .asks) (A .task-is) lowerSide) (F .is))
 
         -- a start, by the test
         start-by : (b : Bool) → hasIdleCycle (tableIn cells) (A .asks) ≡ b → (cycle : List ℕ) → (b ≡ true → CycleStates (tableIn cells) (A .asks) cycle)

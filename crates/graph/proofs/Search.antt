@@ -21,6 +21,11 @@ pub closed-reached : (E : ℕ → ℕ → Type 0) (starts : List ℕ) (Marked : 
 closed-reached E starts Marked b c (initial {s} m) = b s m
 closed-reached E starts Marked b c (byEdge {s} {r} R g) = c s r (closed-reached E starts Marked b c R) g
 
+-- what is reached from a reached state is reached
+pub reached-from : (E : ℕ → ℕ → Type 0) (starts : List ℕ) {r : ℕ} → Reached E starts r → {s : ℕ} → Reached E (r ∷ []) s → Reached E starts s
+reached-from E starts R =
+    closed-reached E (_ ∷ []) (Reached E starts) (λ s m. ⊎-elim (λ u. rw u R) (λ u. absurd (List·Memᴰ·not-nil u)) (List·Memᴰ·cases-cons m)) (λ s r S g. byEdge S g)
+
 -- where an edge leads from every state that is left to one that is, one of them is on a cycle
 module _ (E : ℕ → ℕ → Type 0) (n : ℕ) (G : Among E n) (Left : ℕ → Type 0) (stable : (x : ℕ) → Left x → (y : ℕ) × E x y × Left y) where
   seek : (m x : ℕ) (l : List ℕ) → Left x → AllLead E x l → Distinct (x ∷ l) → AllBelow n (x ∷ l) → n < suc (length l) + m → (y : ℕ) × Left y × Walk E y y

@@ -91,10 +91,6 @@ module _ (E : ℕ → ℕ → Type 0) where
       (λ o. record { states = x ∷ k; leads = (T .0, F .leads); distinct = (o, F .distinct); no-longer = ⊎-elim (λ e. inl (ap (λ (z : List ℕ). x ∷ z) e)) (λ h. inr (omega arith)) (F .no-longer) })
       (among? s (x ∷ k))
 
-  -- a walk that comes back holds a cycle without repeats, through its start
-  pub cycle-in : (s : ℕ) → Walk E s s → (l : List ℕ) × CycleStates E (s ∷ l)
-  cycle-in s w = let F = freed s (w .0) s (w .1) in (F .states, (F .leads, F .distinct))
-
   module _ (n : ℕ) (G : Among E n) where
     pub through-below : (s : ℕ) (l : List ℕ) (r : ℕ) → Through E s l r → AllBelow n (s ∷ l)
     through-below s [] r T x m = ⊎-elim (λ e. rw e (G s r T .0)) (λ j. absurd (List·Memᴰ·not-nil j)) (List·Memᴰ·cases-cons m)

@@ -16,7 +16,7 @@ use Rattle.graph.proofs.Cost.{few-edges}
 use Rattle.machine.specs.Query.{Side, upperSide, lowerSide, reads, letter, word, Query}
 use Rattle.machine.specs.Transducer.{arcAt, sideFollow, sideToRead, Passed, passed, nothingPassed, followArc, toReadOn, lettersToRead, machine}
 use Rattle.machine.specs.Machine.{Path, start, more, final, datum, size, Allowed, Bounded}
-use Rattle.machine.specs.Idle.{sideIdle, idleOn, idle, anyArc, AnyArc, IdleArc, NoIdleCycle}
+use Rattle.machine.specs.Idle.{sideIdle, idleOn, idle, always, AnyArc, IdleArc, NoIdleCycle}
 use Rattle.machine.proofs.Idle.{among, any-arc}
 use Rattle.machine.proofs.Transducer.{arc-of, at-mem, bind-parts, follow-parts, somewhen-parts, getD-lt}
 
@@ -127,5 +127,5 @@ module _ (t : Table) (q : Query) where
         omega (
           arith,
           mul-le-mul-right (t .states) h,
-          few-edges (AnyArc (t .arcs)) (IdleArc t (q .task)) (t .states) (t .initials) any-arc (among t R anyArc) none-idle (R .initial-in) (C .from) (C .initially) (C .walk),
+          few-edges (AnyArc (t .arcs)) (IdleArc t (q .task)) (t .states) (t .initials) any-arc (among t R always) none-idle (R .initial-in) (C .from) (C .initially) (C .walk),
         )

@@ -3,7 +3,7 @@ use Prim.Native.Nat.{ℕ, _+_, _*_, _<_, _≤_}
 use native.Mathlib.Nat.{zero-add}
 use native.Mathlib.Omega.{arith}
 use mathlib.Core.Path.{_≡_, refl, sym, ap, subst, _∙_}
-use mathlib.Core.Logic.{_↔_}
+use mathlib.Core.Logic.{_⊎_, _↔_}
 use mathlib.Core.Bool.{Bool, true, false}
 use mathlib.Core.Option.{some}
 use mathlib.Core.List.{List, [], _∷_, List·Memᴰ}
@@ -39,7 +39,7 @@ use Rattle.machine.specs.Reading.{Outcome, toldBy, outcome, CallBy, Refu
 use Rattle.machine.specs.Demand.{Lent, CallTells, Ample, AmpleCalls, other, Handed, received, stepsTold, unended, LastEnds, Demand3}
 use Rattle.machine.specs.Report.{LocallyFinite, _∘_, Word, α, upperAlone, lowerAlone, Output, Cell, arcsOf, kernel, Noetherian, Finite, Solves}
 use Rattle.machine.specs.Agree.{inputOf, outputOf, TraceFor, Same}
-use Rattle.machine.specs.Cases.{Ask, lentAll, AsksAmple, tableK, textK, ask, rows, rowsHold}
+use Rattle.machine.specs.Cases.{Ask, lentAll, AsksAmple, tableK, textK, cornerK, connected, ask, rows, rowsHold}
 use Rattle.machine.proofs.Tour as tours
 use Rattle.machine.proofs.Order as order
 use Rattle.machine.proofs.Narrow as narrow
@@ -60,6 +60,7 @@ use Rattle.machine.proofs.Agree as agree
 use Rattle.machine.proofs.Noether as noether
 use Rattle.machine.proofs.Finite as finite
 use Rattle.machine.proofs.Cases as cases
+use Rattle.machine.proofs.Corner as corner
 use Rattle.machine.proofs.Refuted as refuted
 
 -- THE TOUR of any machine.
@@ -117,7 +118,7 @@ all-not-finite t a m F = finite.all-infinite (F .locally-finite a m)
 -- IDLE CYCLES, for any table that keeps the rules and any task.
 
 module _ (t : Table) (rules : keepsRules t ≡ true) (k : Task) where
-  -- The test says whether there is one.
+  -- The test says whether one is reached.
   pub cycle-test : (hasIdleCycle t k ≡ false) ↔ NoIdleCycle t k
   cycle-test = (idles.none-found t k (ruled t rules), idles.none-there t k (ruled t rules))
 
@@ -130,8 +131,8 @@ module _ (t : Table) (rules : keepsRules t ≡ true) (k : Task) where
   pub noetherian-is : NoIdleCycle t k ↔ Noetherian (kernel t k)
   noetherian-is = (noether.noetherian t k (ruled t rules), noether.no-idle-cycle t k (ruled t rules))
 
-  -- "Readings of a word from a finite Eilenberg machine": report 6486's finite machine is locally finite and noetherian, and it is that exactly
-  -- where no idle cycle is reached.
+  -- "Readings of a word from a finite Eilenberg machine": a finite machine is locally finite and noetherian, and here it is that exactly where no
+  -- idle cycle is reached. (Report 6486's definition 1.1 asks more: no endless trace from any cell.)
   pub finite-is : NoIdleCycle t k ↔ Finite (kernel t k)
   finite-is = (λ none. record { locally-finite = λ a m. finite.label-finite k a; noetherian = noetherian-is .0 none }, λ F. noetherian-is .1 (F .noetherian))
 
@@ -429,3 +430,7 @@ cases-hold = cases.cases-hold
 
 pub text-k : parsed textK ≡ accepted (tableK [])
 text-k = cases.text-k
+
+-- In the table of the rows that are refused for a corner, the loop is what 12 tells, from one of its two states on, in every task.
+pub corner-told : (k : Task) (c : List ℕ) → CycleStates (cornerK connected) k c → (c ≡ 3 ∷ 4 ∷ []) ⊎ (c ≡ 4 ∷ 3 ∷ [])
+corner-told = corner.corner-told

@@ -1,4 +1,4 @@
--- The test for an idle cycle is right, and where it says so there are states that refusal 12 can tell.
+-- The test for an idle cycle that is reached is right, and where it says so there are states that refusal 12 can tell.
 use Prim.Native.Nat.{ℕ, _<_}
 use mathlib.Core.Path.{_≡_, refl, subst}
 use mathlib.Core.Bool.{Bool, true, false, _&&_}
@@ -13,7 +13,7 @@ use Rattle.graph.specs.Walk.{Among, Decides}
 use Rattle.graph.proofs.Reached.{cycle-reached}
 use Rattle.graph.proofs.Shown.{some-test, none-test}
 use Rattle.machine.specs.Query.{Task}
-use Rattle.machine.specs.Idle.{idle, Leads, leadsBy, anyArc, AnyArc, StateReached, IdleArc, IdleWalk, NoIdleCycle, CycleStates, hasIdleCycle}
+use Rattle.machine.specs.Idle.{idle, Leads, leadsBy, always, AnyArc, StateReached, IdleArc, IdleWalk, NoIdleCycle, CycleStates, hasIdleCycle}
 
 -- the test tells the arcs
 tells : (arcs : List Arc) (test : Arc → Bool) → Decides (Leads arcs test) (leadsBy arcs test)
@@ -55,8 +55,8 @@ module _ (t : Table) (k : Task) where
     pub cycle-there : hasIdleCycle t k ≡ true → (c : List ℕ) × CycleStates t k c
     unfolding hasIdleCycle
     cycle-there e =
-        some-test (AnyArc (t .arcs)) (IdleArc t k) (leadsBy (t .arcs) anyArc) (leadsBy (t .arcs) (idle k)) (t .states) (t .initials)
-        (tells (t .arcs) anyArc) (tells (t .arcs) (idle k)) (among t U anyArc) (among t U (idle k)) (U .initial-in) e
+        some-test (AnyArc (t .arcs)) (IdleArc t k) (leadsBy (t .arcs) always) (leadsBy (t .arcs) (idle k)) (t .states) (t .initials)
+        (tells (t .arcs) always) (tells (t .arcs) (idle k)) (among t U always) (among t U (idle k)) (U .initial-in) e
 
     pub none-there : NoIdleCycle t k → hasIdleCycle t k ≡ false
     none-there N = go (hasIdleCycle t k) refl
@@ -68,5 +68,5 @@ module _ (t : Table) (k : Task) where
     pub none-found : hasIdleCycle t k ≡ false → NoIdleCycle t k
     unfolding hasIdleCycle
     none-found e =
-        none-test (AnyArc (t .arcs)) (IdleArc t k) (leadsBy (t .arcs) anyArc) (leadsBy (t .arcs) (idle k)) (t .states) (t .initials)
-        (tells (t .arcs) anyArc) (tells (t .arcs) (idle k)) (among t U anyArc) (among t U (idle k)) (U .initial-in) e .0
+        none-test (AnyArc (t .arcs)) (IdleArc t k) (leadsBy (t .arcs) always) (leadsBy (t .arcs) (idle k)) (t .states) (t .initials)
+        (tells (t .arcs) always) (tells (t .arcs) (idle k)) (among t U always) (among t U (idle k)) (U .initial-in) e .0

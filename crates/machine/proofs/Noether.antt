@@ -1,4 +1,4 @@
--- Report 6486's machine is noetherian, as document 004 says it, exactly where no idle cycle is reached.
+-- The machine is noetherian, as document 004 says it, exactly where no idle cycle is reached.
 use Prim.Native.Nat.{ℕ, zero, suc, _<_}
 use native.Mathlib.Omega.{arith}
 use mathlib.Core.Path.{_≡_, refl, sym, ap, subst, _∙_}
@@ -11,7 +11,7 @@ use Rattle.table_format.proofs.Tests.{and-left, and-right}
 use Rattle.table_format.proofs.Ruled.{Ruled}
 use Rattle.graph.specs.Reached.{initial, byEdge}
 use Rattle.graph.proofs.Walk.{rotated}
-use Rattle.graph.proofs.Search.{closed-reached}
+use Rattle.graph.proofs.Search.{reached-from}
 use Rattle.machine.specs.Query.{Task, Side, upperSide, lowerSide, reads, letter, Query}
 use Rattle.machine.specs.Machine.{Path, start, more, size}
 use Rattle.machine.specs.Transducer.{sideWrites, nothingPassed, machine}
@@ -86,17 +86,11 @@ module _ (t : Table) (k : Task) (U : Ruled t) where
         extend t′ q′ v U′ 0 (c n) (c (suc n)) (edges n) (path n)
         (record { arc = E n .arc; listed = E n .listed; from = E n .from; to = E n .to; related = E n .related })
 
-    -- what is reached from where the trace starts is reached
-    from-there : InitialCell (kernel t k) (c 0) → {s : ℕ} → StateReached t′ s → StateReached t s
-    from-there I =
-        closed-reached (AnyArc (t .arcs)) (c 0 .1 ∷ []) (StateReached t) (λ s m. ⊎-elim (λ u. initial (rw u I)) (λ u. absurd (List·Memᴰ·not-nil u)) (List·Memᴰ·cases-cons m))
-        (λ s r R g. byEdge R g)
-
     never : InitialCell (kernel t k) (c 0) → NoIdleCycle t k → ⊥
     never I N =
         let n : ℕ = machine t′ q′ .limit in
         let P = path n in
-        let h : size (P .path) < n = bounded t′ q′ (λ s R w. N s (from-there I R) w) U′ (P .path) (P .allowed) in
+        let h : size (P .path) < n = bounded t′ q′ (λ s R w. N s (reached-from (AnyArc (t .arcs)) (t .initials) (initial I) R) w) U′ (P .path) (P .allowed) in
         let e : size (P .path) ≡ n = size-is t′ (P .path) ∙ ap length (P .arcs-are) ∙ edges-length n in
         omega (arith, h, e)
 
@@ -135,7 +129,7 @@ module _ (t : Table) (k : Task) (U : Ruled t) where
         let A = arcAfter n in
         record { arc = A .arc; listed = A .listed; from = A .from; to = A .to; related = from-sides k (A .arc) (dataAt n) (dataAt (suc n)) (idle-related (A .arc) (dataAt n) (A .passes)) }
 
-  -- An endless trace from a state: what is written there is given, and what is to be read is not.
+  -- An endless trace from a state: on a written side the word at its beginning is given, on a read side it is free.
   abbrev Given : Bool → Word → Word → Type 0
   Given true v w = Unit {0}
   Given false v w = v ≡ w

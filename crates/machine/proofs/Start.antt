@@ -64,7 +64,7 @@ module _ (cells : List ℕ) (task : ℕ) (upper lower : List ℕ) where
   ready-facts s S e =
       subst (λ (z : Started). ReadyFacts (asked cells task upper lower) task z) (sym (start-is S)) (ready-as (asked cells task upper lower) task (S .cycle) (ap (λ (z : Started). z .answer) (sym (start-is S)) ∙ e))
 
-  -- a start is ready where nothing is refused and there is no idle cycle
+  -- a start is ready where nothing is refused and no idle cycle is reached
   pub ready-where : (s : Started) → StartIs cells task upper lower s → (t : Table) (q : Query) → asked cells task upper lower ≡ runs t q → hasIdleCycle t (q .task) ≡ false
       → s .answer ≡ Ready
   unfolding started

@@ -177,19 +177,17 @@ lone u l k c =
     }
 
 -- table K with states 3 and 4, which idle arcs join in a loop, and before these arcs further ones of state 2
-abbrev corner : List Arc → ℕ → List ℕ → List ℕ → Course → Row
-corner more k u l c =
-    record {
-      table = record { states = 5; initials = 0 ∷ []; terminals = 1 ∷ 2 ∷ []; arcs = tableK [] .arcs ++ (more ++ (arcAs 3 0 0 4 ∷ arcAs 4 0 0 3 ∷ [])) };
-      task = k;
-      upper = u;
-      lower = l;
-      course = c;
-    }
+abbrev pub cornerK : List Arc → Table
+cornerK more =
+    record { states = 5; initials = 0 ∷ []; terminals = 1 ∷ 2 ∷ []; arcs = tableK [] .arcs ++ (more ++ (arcAs 3 0 0 4 ∷ arcAs 4 0 0 3 ∷ [])) }
 
 -- an arc from there into the loop, with letters that the words do not have
-abbrev connected : List Arc
+abbrev pub connected : List Arc
 connected = arcAs 2 7 8 3 ∷ []
+
+-- a row on that table
+abbrev corner : List Arc → ℕ → List ℕ → List ℕ → Course → Row
+corner more k u l c = record { table = cornerK more; task = k; upper = u; lower = l; course = c }
 
 -- two initial states, 1 before 0, each with one arc to state 2 that reads 1; synthesis of 01
 abbrev pair : ℕ → ℕ → Course → Row
@@ -258,7 +256,8 @@ rows =
     ∷ lone 1 0 1 (goes (big ∷ []) (saysEnded 3 ∷ []) 3)
     ∷ lone 1 0 2 (goes (big ∷ []) (saysEnded 3 ∷ []) 3)
     ∷ lone 1 0 3 (refusedWith 12)
-    -- Document 02, slip 2: a loop that no arcs reach changes nothing; one that arcs reach is refused, whatever their letters and the words
+    -- Document 02, slip 2: a loop that no arcs reach changes nothing; one that arcs reach is refused, whatever their letters and the words, and
+    -- it is the loop that is told (`corner-told`)
     ∷ corner [] 1 (1 ∷ 2 ∷ []) (1 ∷ 3 ∷ 2 ∷ []) (goes (big ∷ big ∷ []) (saysFound 6 [] ∷ saysEnded 6 ∷ []) 12)
     ∷ corner [] 2 (1 ∷ 2 ∷ []) [] (goes (big ∷ big ∷ big ∷ []) (saysFound 3 (1 ∷ 2 ∷ []) ∷ saysFound 8 (1 ∷ 3 ∷ 2 ∷ []) ∷ saysEnded 9 ∷ []) 20)
     ∷ corner [] 3 [] (1 ∷ 3 ∷ 2 ∷ []) (goes (big ∷ big ∷ []) (saysFound 6 (1 ∷ 2 ∷ []) ∷ saysEnded 6 ∷ []) 12)

@@ -39,12 +39,12 @@ abbrev pub leadsBy : List Arc → (Arc → Bool) → ℕ → ℕ → Bool
 leadsBy arcs test s r = any (λ a. test a && (eqb (a .source) s && eqb (a .target) r)) arcs
 
 -- every arc passes
-abbrev pub anyArc : Arc → Bool
-anyArc a = true
+abbrev pub always : Arc → Bool
+always a = true
 
 -- an arc leads from s to r, whatever its letters
 abbrev pub AnyArc : List Arc → ℕ → ℕ → Type 0
-AnyArc arcs = Leads arcs anyArc
+AnyArc arcs = Leads arcs always
 
 -- a state "can be reached by arcs from an initial state", by none or more of them
 abbrev pub StateReached : Table → ℕ → Type 0
@@ -67,6 +67,6 @@ module _ (t : Table) (k : Task) where
   abbrev pub CycleStates : List ℕ → Type 0
   CycleStates = ReachedCycle (AnyArc (t .arcs)) IdleArc (t .initials)
 
-  -- whether there is one (cycle-test)
+  -- whether one is reached (cycle-test)
   unfoldable pub hasIdleCycle : Bool
-  hasIdleCycle = hasReachedCycle (leadsBy (t .arcs) anyArc) (leadsBy (t .arcs) (idle k)) (t .states) (t .initials)
+  hasIdleCycle = hasReachedCycle (leadsBy (t .arcs) always) (leadsBy (t .arcs) (idle k)) (t .states) (t .initials)

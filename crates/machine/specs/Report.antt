@@ -1,4 +1,5 @@
--- Report 6486, sections 1 and 2.2, on its own terms: of the rest of this crate it uses only the names of the tasks.
+-- Report 6486, sections 1 and 2.2, on its own terms, but for noetherian, which is document 004's; of the rest of this crate it uses only the names
+-- of the tasks.
 use Prim.Native.Nat.{ℕ, zero, suc}
 use mathlib.Core.Path.{_≡_}
 use mathlib.Core.Logic.{_↔_}
@@ -75,12 +76,13 @@ module _ (K : Kernel) where
   abbrev pub InitialCell : Cell → Type 0
   InitialCell c = List·Memᴰ (c .1) (K .table .initials)
 
-  -- document 004: "noëthérienne si tous ses calculs sont finis", and a computation begins at an initial cell; definition 1.1 has "no infinite
-  -- trace", from any cell
+  -- document 004: "noëthérienne si tous ses calculs sont finis", where a computation begins at an initial cell. Report 6486 has more: "no infinite
+  -- trace", from any cell.
   abbrev pub Noetherian : Type 0
   Noetherian = (c : ℕ → Cell) → InitialCell (c 0) → ((n : ℕ) → Edge (c n) (c (suc n))) → ⊥
 
-  -- definition 1.1: a machine is locally finite where every relation of its arcs is, and "called finite iff it is locally finite and noetherian"
+  -- a machine is locally finite where every relation of its arcs is (definition 1.1), and finite, in document 004 as in report 6486, where it is
+  -- locally finite and noetherian
   pub record Finite : Type 0 where
     pub locally-finite : (a : Arc) → List·Memᴰ a (K .table .arcs) → LocallyFinite (K .relation a)
     pub noetherian : Noetherian

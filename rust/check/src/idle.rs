@@ -19,14 +19,14 @@ pub fn is_idle(task: u32, arc: &Arc) -> bool {
 /// The states that arcs lead to from the initial ones, which are first. The letters of these arcs play no part.
 pub fn reached(table: &Table) -> Vec<u16> {
     let mut states = table.initials.clone();
-    let mut gone_on_from = 0;
-    while let Some(state) = states.get(gone_on_from) {
+    let mut followed = 0;
+    while let Some(state) = states.get(followed) {
         for arc in table.arcs_of(*state) {
             if !states.contains(&arc.target) {
                 states.push(arc.target);
             }
         }
-        gone_on_from += 1;
+        followed += 1;
     }
     states
 }

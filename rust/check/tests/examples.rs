@@ -23,7 +23,7 @@ fn examples() -> Vec<(PathBuf, PathBuf)> {
 #[test]
 fn the_program_prints_what_stands_beside() {
     let examples = examples();
-    assert!(examples.len() >= 4, "{examples:?}");
+    assert!(examples.len() >= 6, "{examples:?}");
     for (input, output) in examples {
         let text = fs::read(&input).expect("an example");
         let expected = fs::read_to_string(&output).expect("its output");

@@ -5,7 +5,7 @@ use mathlib.Core.Path.{refl, sym, subst, _∙_}
 use denote.Ref.{now}
 use borrow.Author.Needs.{needs}
 use Rattle.graph.specs.Lists.{AllBelow}
-use Rattle.engine_reach.specs.Graph.{Graph}
+use Rattle.engine_graph.specs.Graph.{Graph}
 use Rattle.engine_idle.proofs.Cycles.{none-left, none-reached, one-reached}
 use Rattle.engine_idle.proofs.among.Statement.{statement}
 use Rattle.engine_idle.proofs.among.Tie as tie

@@ -4,7 +4,7 @@ use native.Mathlib.Omega.{arith}
 use mathlib.Core.Path.{sym, subst, _∙_}
 use denote.Ref.{now}
 use Rattle.graph.specs.Lists.{AllBelow}
-use Rattle.engine_reach.specs.Graph.{Graph}
+use Rattle.engine_graph.specs.Graph.{Graph}
 use Rattle.engine_idle.proofs.Cycles.{first-cells, all-alive, none-marked}
 use Rattle.engine_idle.proofs.find.Statement.{statement}
 use Rattle.engine_idle.proofs.find.Tie as tie
@@ -13,16 +13,16 @@ array-borrow-prefix-alive : tie.Need-array-borrow-prefix-alive
 array-borrow-prefix-alive c = omega (arith, c .before .before .before .pre .0 .few)
 
 slice-aggregate-among : tie.Need-slice-aggregate-among
-slice-aggregate-among c = sym (first-cells 1 (c .before .before .before .before .args .states) (c .before .before .before .before .pre .0 .few))
+slice-aggregate-among c = sym (first-cells _ (c .before .before .before .before .args .states) (c .before .before .before .before .pre .0 .few))
 
 array-borrow-prefix-reached : tie.Need-array-borrow-prefix-reached
 array-borrow-prefix-reached c = omega (arith, c .before .before .before .before .pre .0 .few)
 
 slice-aggregate-among-2 : tie.Need-slice-aggregate-among-2
-slice-aggregate-among-2 c = sym (first-cells 0 (c .before .before .before .before .before .args .states) (c .before .before .before .before .before .pre .0 .few))
+slice-aggregate-among-2 c = sym (first-cells _ (c .before .before .before .before .before .args .states) (c .before .before .before .before .before .pre .0 .few))
 
 among-requires : tie.Need-among-requires
-among-requires c κs = (subst (λ (x : ℕ). Graph (now (c .before .before .before .before .before .args .arcs)) (now (c .before .before .before .before .before .args .first)) x) (sym (first-cells 1 (c .before .before .before .before .before .args .states) (c .before .before .before .before .before .pre .0 .few))) (c .before .before .before .before .before .pre .0), (subst (λ (x : ℕ). AllBelow x (now (c .before .before .before .before .before .args .initials))) (sym (first-cells 1 (c .before .before .before .before .before .args .states) (c .before .before .before .before .before .pre .0 .few))) (c .before .before .before .before .before .pre .1), (all-alive (c .before .before .before .before .before .args .states) (c .before .before .before .before .before .pre .0 .few), (first-cells 0 (c .before .before .before .before .before .args .states) (c .before .before .before .before .before .pre .0 .few) ∙ sym (first-cells 1 (c .before .before .before .before .before .args .states) (c .before .before .before .before .before .pre .0 .few)), none-marked (c .before .before .before .before .before .args .states) 256))))
+among-requires c κs = (subst (λ (x : ℕ). Graph (now (c .before .before .before .before .before .args .arcs)) (now (c .before .before .before .before .before .args .first)) x) (sym (first-cells _ (c .before .before .before .before .before .args .states) (c .before .before .before .before .before .pre .0 .few))) (c .before .before .before .before .before .pre .0), (subst (λ (x : ℕ). AllBelow x (now (c .before .before .before .before .before .args .initials))) (sym (first-cells _ (c .before .before .before .before .before .args .states) (c .before .before .before .before .before .pre .0 .few))) (c .before .before .before .before .before .pre .1), (all-alive (c .before .before .before .before .before .args .states) (c .before .before .before .before .before .pre .0 .few), (first-cells _ (c .before .before .before .before .before .args .states) (c .before .before .before .before .before .pre .0 .few) ∙ sym (first-cells _ (c .before .before .before .before .before .args .states) (c .before .before .before .before .before .pre .0 .few)), none-marked (c .before .before .before .before .before .args .states) 256))))
 
 returns : tie.Need-returns
 returns c = c .before .before .among .ensures

@@ -26,7 +26,7 @@ shared-slice-read-if2 : tie.Need-shared-slice-read-if2 Inv-loop μ-loop
 shared-slice-read-if2 c = omega (arith, c .before .before .before .before .before .pre)
 
 returns : tie.Need-returns Inv-loop μ-loop
-returns c = record { both = λ h. (c .before .before .if1 .taken, c .if2 .taken); none-is = λ h. absurd (omega arith) }
+returns c = record { within = omega arith; both = λ h. (c .before .before .if1 .taken, c .if2 .taken); none-before = c .before .before .before .before .before .loop .inv .1 }
 
 add-s : tie.Need-add-s Inv-loop μ-loop
 add-s c = search needs
@@ -38,7 +38,7 @@ loop-again : tie.Need-loop-again Inv-loop μ-loop
 loop-again c = (omega arith, below-more (λ (i : ℕ). getD (now (c .before .before .before .before .args .alive)) i 0 ≡ 1 → getD (now (c .before .before .before .before .args .reached)) i 0 ≡ 1 → ⊥) (c .before .before .before .loop .s) (c .before .before .before .loop .inv .1) (⊎-elim (λ w e f. w .2 .left f) (λ w e f. w .left e) (c .if1 .came)))
 
 returns-2 : tie.Need-returns-2 Inv-loop μ-loop
-returns-2 c = record { both = λ h. absurd (omega arith); none-is = λ h s k e f. c .before .loop .inv .1 s (omega arith) e f }
+returns-2 c = record { within = c .before .loop .inv .0; both = λ h. absurd (omega arith); none-before = c .before .loop .inv .1 }
 
 pub first-both-spec : {M : Type 1} → statement M
 first-both-spec =

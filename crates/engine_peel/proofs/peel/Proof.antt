@@ -7,7 +7,7 @@ use lib.ListN.{length}
 use borrow.Author.Needs.{needs}
 use lib.ListN.{length-set}
 use Rattle.engine_peel.proofs.Rounds.{Round, round-begins, round-ends, round-dead, round-lives, round-dies}
-use Rattle.engine_reach.specs.Graph.{Graph}
+use Rattle.engine_graph.specs.Graph.{Graph}
 use Rattle.engine_peel.proofs.peel.Statement.{statement}
 use Rattle.engine_peel.proofs.peel.Tie as tie
 

@@ -3,7 +3,7 @@ use Prim.Native.Nat.{ℕ}
 use mathlib.Core.Path.{sym, subst}
 use denote.Ref.{now}
 use Rattle.engine_peel.proofs.Rounds.{Rounds, rounds-begin, rounds-go-on, rounds-end, left, left-less}
-use Rattle.engine_reach.specs.Graph.{Graph}
+use Rattle.engine_graph.specs.Graph.{Graph}
 use Rattle.engine_peel.proofs.settle.Statement.{statement}
 use Rattle.engine_peel.proofs.settle.Tie as tie
 

@@ -5,7 +5,7 @@ use mathlib.Core.Path.{_≡_, refl, sym, subst, _∙_}
 use denote.Ref.{now}
 use lib.ListN.{length}
 use borrow.Author.Needs.{needs}
-use Rattle.engine_reach.specs.Graph.{Graph}
+use Rattle.engine_graph.specs.Graph.{Graph}
 use Rattle.engine_reach.proofs.Marks.{met-none, Search, search-begins, search-inside, search-goes-on, search-ends}
 use Rattle.engine_reach.proofs.reach.Statement.{statement}
 use Rattle.engine_reach.proofs.reach.Tie as tie

@@ -8,9 +8,9 @@ use crate::table::{Arc, Table};
 pub enum Loops {
     /// Only where no arcs lead: the start passes.
     Apart,
-    /// Where arcs lead, and others where none do.
+    /// Where arcs lead by letters that the words have, and others where none do.
     Both,
-    /// Where arcs lead, but on every way there is a letter that its word has not.
+    /// Where arcs lead, but on every way there is a letter that its word has not; others may be where none do.
     Barred,
 }
 

@@ -30,7 +30,7 @@ impl Start {
     }
 }
 
-/// On 12 a cycle: idle arcs of the table that are reached, in walking order, closed, no state twice.
+/// On 12 a cycle that is reached: idle arcs of the table, in walking order, closed, no state twice.
 fn cycle_holds(start: &Start, states: &[u16]) -> Result<(), String> {
     let table = Table::loaded(&start.table).ok_or("a cycle of a bad table")?;
     if idle::is_cycle(&table, start.task, states) {

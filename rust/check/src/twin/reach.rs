@@ -5,7 +5,7 @@ use crate::engine::Start;
 
 /// The first state come upon from the initial ones, by the arcs that are followed, for which `wanted` holds.
 #[inline(always)]
-fn first(
+fn first_met(
     view: &View,
     follows: impl Fn(&Arc) -> bool,
     wanted: impl Fn(usize) -> bool,
@@ -48,13 +48,13 @@ pub fn begin<const UP: bool, const LOW: bool, const FAULT: u8>(
     let fits = |arc: &Arc| (!UP || has(start.upper, arc[1])) && (!LOW || has(start.lower, arc[2]));
     match FAULT {
         fault::ALL_REACHED => (0..256).find(|state| left(*state)),
-        fault::INITIALS_REACHED => first(view, |_| false, left),
-        fault::WORD_REACHED => first(view, fits, left),
+        fault::INITIALS_REACHED => first_met(view, |_| false, left),
+        fault::WORD_REACHED => first_met(view, fits, left),
         fault::UNREACHED_TOLD => {
-            let reached = |state| first(view, |_| true, |other| other == state).is_some();
+            let reached = |state| first_met(view, |_| true, |other| other == state).is_some();
             let unreached = (0..256).find(|state| left(*state) && !reached(*state));
-            first(view, |_| true, left).map(|state| unreached.unwrap_or(state))
+            first_met(view, |_| true, left).map(|state| unreached.unwrap_or(state))
         }
-        _ => first(view, |_| true, left),
+        _ => first_met(view, |_| true, left),
     }
 }

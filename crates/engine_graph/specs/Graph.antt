@@ -3,9 +3,7 @@ use Prim.Native.Nat.{ℕ, _+_, _<_, _≤_}
 use mathlib.Core.Path.{_≡_}
 use mathlib.Core.List.{List}
 use lib.ListN.{length, getD}
-use Rattle.table_format.specs.Cells.{arcCount, arcOf, arcsAs}
-use Rattle.graph.specs.Reached.{Reached}
-use Rattle.machine.specs.Idle.{AnyArc}
+use Rattle.table_format.specs.Cells.{arcCount, arcOf}
 
 -- the arcs lead among the states, and those of state q are numbered from the index at q up to the index at q + 1
 pub record Graph (arcs first : List ℕ) (states : ℕ) : Type 0 where
@@ -15,7 +13,3 @@ pub record Graph (arcs first : List ℕ) (states : ℕ) : Type 0 where
   pub target-in : (n : ℕ) → n < arcCount arcs → arcOf arcs n .target < states
   pub indexed : (n : ℕ) → n < arcCount arcs → (getD first (arcOf arcs n .source) 0 ≤ n) × (n < getD first (arcOf arcs n .source + 1) 0)
   pub numbered : (q n : ℕ) → q < states → getD first q 0 ≤ n → n < getD first (q + 1) 0 → (n < arcCount arcs) × (arcOf arcs n .source ≡ q)
-
--- a state is reached by arcs, whatever their letters
-abbrev pub ReachedBy : List ℕ → List ℕ → ℕ → Type 0
-ReachedBy arcs initials = Reached (AnyArc (arcsAs arcs)) initials

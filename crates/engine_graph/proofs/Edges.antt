@@ -11,7 +11,7 @@ use Rattle.table_format.proofs.Arcs.{length-arcs, getD-arcs}
 use Rattle.graph.specs.Walk.{Among}
 use Rattle.machine.specs.Idle.{Leads}
 use Rattle.machine.proofs.Transducer.{at-mem, mem-at}
-use Rattle.engine_reach.specs.Graph.{Graph}
+use Rattle.engine_graph.specs.Graph.{Graph}
 
 module _ (arcs : List ℕ) (test : Arc → Bool) where
   pub edge-at : (n : ℕ) → n < arcCount arcs → test (arcOf arcs n) ≡ true → Leads (arcsAs arcs) test (arcOf arcs n .source) (arcOf arcs n .target)

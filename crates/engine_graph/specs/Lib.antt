@@ -1,0 +1,2 @@
+-- A table's arcs as a graph.
+pub mod Graph
