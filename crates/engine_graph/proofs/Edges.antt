@@ -14,7 +14,7 @@ use Rattle.machine.proofs.Transducer.{at-mem, mem-at}
 use Rattle.engine_graph.specs.Graph.{Graph}
 
 module _ (arcs : List ℕ) (test : Arc → Bool) where
-  pub edge-at : (n : ℕ) → n < arcCount arcs → test (arcOf arcs n) ≡ true → Leads (arcsAs arcs) test (arcOf arcs n .source) (arcOf arcs n .target)
+  edge-at : (n : ℕ) → n < arcCount arcs → test (arcOf arcs n) ≡ true → Leads (arcsAs arcs) test (arcOf arcs n .source) (arcOf arcs n .target)
   edge-at n h i =
       record {
         arc = arcOf arcs n;

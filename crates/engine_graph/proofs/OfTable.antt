@@ -1,4 +1,4 @@
--- The arcs of a table that keeps the rules, with its index, are such a graph.
+-- The arcs of a table that keeps the rules, with the index of each state's first arc, are a `Graph` on its states.
 use Prim.Native.Nat.{ℕ, suc, _+_, _-_, _<_, _≤_}
 use native.Mathlib.Omega.{arith}
 use native.Mathlib.Numerals.{add-one}

@@ -83,8 +83,8 @@ fn none() -> Cycle
     }
 }
 
-// The states of an idle cycle that is reached. All states live at first, and none is marked as reached: most tables have no idle cycle in any
-// part, and then nothing needs to be marked.
+// The states of an idle cycle that is reached, or none. All states live at first, and none is marked. What is reached is marked only where the
+// rounds leave a state, which in most tables they do not.
 fn among(
     arcs: &[u16],
     first: &[u16],
@@ -113,7 +113,7 @@ fn among(
     none()
 }
 
-// The states of an idle cycle that arcs reach from the initial states.
+// The states of an idle cycle that arcs reach from the initial states; none where they reach none.
 pub fn find(
     arcs: &[u16],
     first: &[u16],

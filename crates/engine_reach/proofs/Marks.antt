@@ -97,13 +97,14 @@ module _ (cells order : List ℕ) (count : ℕ) (M : Met cells order count) wher
 -- STATES ONE AFTER ANOTHER: the values of a function, from one number up to another.
 
 -- the same states, said otherwise
-visited-as : {Who More : ℕ → Type 0} {before after : List ℕ} → ((s : ℕ) → More s → Who s) → ((s : ℕ) → Who s → More s) → Visited Who before after → Visited More before after
+visited-as : {Who Same : ℕ → Type 0} {before after : List ℕ} → ((s : ℕ) → Same s → Who s) → ((s : ℕ) → Who s → Same s) → Visited Who before after → Visited Same before after
 visited-as f g P = record { same-length = P .same-length; kept = P .kept; covered = λ s m. P .covered s (f s m); only = λ s e h. let O = P .only s e h in (g s (O .0), O .1) }
 
-meets-as : {Who More : ℕ → Type 0} {cells order : List ℕ} {count : ℕ} {cells′ order′ : List ℕ} {count′ : ℕ}
-    → ((s : ℕ) → More s → Who s) → ((s : ℕ) → Who s → More s) → Meets Who cells order count cells′ order′ count′ → Meets More cells order count cells′ order′ count′
+meets-as : {Who Same : ℕ → Type 0} {cells order : List ℕ} {count : ℕ} {cells′ order′ : List ℕ} {count′ : ℕ}
+    → ((s : ℕ) → Same s → Who s) → ((s : ℕ) → Who s → Same s) → Meets Who cells order count cells′ order′ count′ → Meets Same cells order count cells′ order′ count′
 meets-as f g P = record { visited = visited-as f g (P .visited); met = P .met; no-fewer = P .no-fewer; in-place = P .in-place }
 
+-- s is such a value
 abbrev pub Values : (ℕ → ℕ) → ℕ → ℕ → ℕ → Type 0
 Values f from n s = (i : ℕ) × (from ≤ i) × (i < n) × (f i ≡ s)
 
@@ -176,6 +177,7 @@ met-none cells h z =
     }
 
 module _ (arcs initials : List ℕ) where
+  -- what is met is reached, the initial states are met, and so is all to which the arcs of the first `done` lead
   pub record Search (cells order : List ℕ) (count done : ℕ) : Type 0 where
     pub met : Met cells order count
     pub behind : done ≤ count

@@ -14,11 +14,13 @@ use Rattle.machine.specs.Idle.{AnyArc}
 abbrev pub Unmarked : List ℕ → Type 0
 Unmarked cells = (s : ℕ) → getD cells s 0 ≡ 0
 
--- the states that are met are the first of the order, each once, so that there is room for all
+-- the states that are met are the first of the order
 pub record Met (cells order : List ℕ) (count : ℕ) : Type 0 where
   pub few : length cells ≤ 256
   pub order-long : length order ≡ 256
+  -- as many as cells are not 0: none stands there twice, and there is room for all
   pub once : count + zeros cells ≡ length cells
+  -- all that are met stand there, and no others
   pub listed : (s : ℕ) → 0 < getD cells s 0 → (i : ℕ) × (i < count) × (getD order i 0 ≡ s)
   pub marked : (i : ℕ) → i < count → 0 < getD cells (getD order i 0) 0
 

@@ -1,6 +1,6 @@
 // Reachability: which states arcs lead to from the initial states, whatever the arcs' letters, by a breadth-first search. A state's cell is 1 once
-// it is met, and the states stand in the order in which they were met. `visit` meets a state, `mark` the initial ones, `follow` those to which the
-// arcs of a state lead, and `reach` follows the arcs of each state that is met, one after the other.
+// it is met, and the states stand in the order in which they were met. `visit` meets a state, `visit_all` the initial ones, `follow` those to which
+// the arcs of a state lead, and `reach` follows the arcs of each state that is met, one after the other.
 ghost use mathlib.Core.Path.{_≡_};
 ghost use mathlib.Core.List.{List·Memᴰ};
 ghost use Prim.Native.Nat.{_<_};
@@ -26,8 +26,8 @@ fn visit(state: u16, cells: &mut [u8], order: &mut [u16], count: usize) -> usize
     count
 }
 
-// Meets the initial states, where none was met before. How many there are.
-fn mark(initials: &[u16], cells: &mut [u8], order: &mut [u16]) -> usize
+// Meets the initial states, where none was met before. How many were met then.
+fn visit_all(initials: &[u16], cells: &mut [u8], order: &mut [u16]) -> usize
     requires { ⌜ AllBelow (length (now cells)) (now initials) ⌝ }
     requires { ⌜ Met (now cells) (now order) 0 ⌝ }
     ensures { λ r. ⌜ Meets (λ s. List·Memᴰ s (now (initials .entry))) (now (cells .entry)) (now (order .entry)) 0 (now (cells .exit)) (now (order .exit)) r ⌝ }
@@ -74,7 +74,7 @@ pub fn reach(arcs: &[u16], first: &[u16], initials: &[u16], cells: &mut [u8])
     ensures { λ _. ⌜ (length (now (cells .exit)) ≡ length (now (cells .entry))) × ReachedCells (now (arcs .entry)) (now (initials .entry)) (now (cells .exit)) ⌝ }
 {
     let mut order = [0u16; 256];
-    let mut count = mark(initials, cells, &mut order);
+    let mut count = visit_all(initials, cells, &mut order);
     let mut done = 0;
     while done < count {
         let q = widen::cell_as_index(order[done]);

@@ -1,4 +1,4 @@
--- The starred cases hold, by computing.
+-- The cases of the rows hold, by computing.
 use mathlib.Core.Path.{_≡_, refl}
 use mathlib.Core.List.{List, [], _∷_}
 use Prim.Native.Nat.{ℕ, zero, suc}

@@ -1,16 +1,50 @@
--- Table K with a corner and an arc into it: the loop is the only cycle that 12 can tell, in every task.
+-- Table K with two loops and an arc into the second: that loop is what 12 tells, in every task.
 use Prim.Native.Nat.{ℕ, suc, _<_}
 use native.Mathlib.Omega.{arith}
-use mathlib.Core.Path.{_≡_, refl, sym, ap₂, subst}
+use mathlib.Core.Path.{_≡_, refl, sym, ap, subst, _∙_}
 use mathlib.Core.Logic.{_⊎_, inl, inr, ⊎-elim}
 use mathlib.Core.Bool.{true, true≢false}
-use mathlib.Core.List.{List, [], _∷_, List·Memᴰ, List·Memᴰ·head, List·Memᴰ·tail}
+use mathlib.Core.List.{List, [], _∷_, List·Memᴰ·head, List·Memᴰ·not-nil, List·Memᴰ·cases-cons}
+use Rattle.table_format.specs.Table.{Arc}
 use Rattle.table_format.specs.Cells.{arcAs}
 use Rattle.table_format.proofs.All.{All, all-mem}
 use Rattle.graph.specs.Walk.{Through}
+use Rattle.graph.proofs.Search.{closed-reached}
 use Rattle.machine.specs.Query.{Task, recognition, synthesis, analysis}
-use Rattle.machine.specs.Idle.{idle, IdleArc, CycleStates}
+use Rattle.machine.specs.Idle.{idle, AnyArc, StateReached, IdleArc, CycleStates}
 use Rattle.machine.specs.Cases.{cornerK, connected}
+
+-- the states of table K, and the second loop's
+abbrev Inside : ℕ → Type 0
+Inside s = (s < 3) ⊎ (s ≡ 5)
+
+-- the first loop's are not among them
+outside : {P : Type 0} (s : ℕ) → 2 < s → s < 5 → Inside s → P
+outside s h k I = absurd (⊎-elim (λ a. omega arith) (λ a. omega arith) I)
+
+-- arcs stay inside, so what is reached is inside
+stays : All (λ a. Inside (a .source) → Inside (a .target)) (cornerK connected .arcs)
+stays = (
+  λ i. inl (omega arith),
+  (
+    λ i. inl (omega arith),
+    (
+      λ i. inl (omega arith),
+      (
+        λ i. inl (omega arith),
+        (
+          λ i. inl (omega arith),
+          (λ i. inr refl, (outside 3 (omega arith) (omega arith), (outside 4 (omega arith) (omega arith), (λ i. inr refl, tt)))),
+        ),
+      ),
+    ),
+  ),
+)
+
+inside : {s : ℕ} → StateReached (cornerK connected) s → Inside s
+inside =
+    closed-reached (AnyArc (cornerK connected .arcs)) (0 ∷ []) Inside (λ s m. ⊎-elim (λ e. inl (omega arith)) (λ n. absurd (List·Memᴰ·not-nil n)) (List·Memᴰ·cases-cons m))
+    (λ s r I A. subst Inside (A .to) (all-mem (λ a. Inside (a .source) → Inside (a .target)) (cornerK connected .arcs) stays (A .arc) (A .listed) (subst Inside (sym (A .from)) I)))
 
 -- an arc with two letters is idle for no task
 awake : (k : Task) (s x y r : ℕ) → idle k (arcAs s (suc x) (suc y) r) ≡ true → ⊥
@@ -18,46 +52,44 @@ awake recognition s x y r e = true≢false (sym e)
 awake synthesis s x y r e = true≢false (sym e)
 awake analysis s x y r e = true≢false (sym e)
 
--- where an idle arc can lead, whatever the task
-abbrev Next : ℕ → ℕ → Type 0
-Next s r = (0 < s) × ((r ≡ 0) ⊎ (((s ≡ 3) × (r ≡ 4)) ⊎ ((s ≡ 4) × (r ≡ 3))))
-
--- there and back again
-abbrev Pair : ℕ → ℕ → Type 0
-Pair s x = ((s ≡ 3) × (x ≡ 4)) ⊎ ((s ≡ 4) × (x ≡ 3))
-
-back : (s x y : ℕ) → Pair s x → Next x y → (y ≡ 0) ⊎ (y ≡ s)
-back s x y P N =
-    ⊎-elim inl
-    (⊎-elim (λ u. inr (⊎-elim (λ v. let a = v .1 in let b = u .0 in omega arith) (λ v. let a = v .0 in let b = u .1 in omega arith) P))
-    (λ u. inr (⊎-elim (λ v. let a = v .0 in let b = u .1 in omega arith) (λ v. let a = v .1 in let b = u .0 in omega arith) P))) (N .1)
-
-both : (s x : ℕ) → Pair s x → (s ∷ x ∷ [] ≡ 3 ∷ 4 ∷ []) ⊎ (s ∷ x ∷ [] ≡ 4 ∷ 3 ∷ [])
-both s x P = ⊎-elim (λ u. inl (ap₂ (λ (a b : ℕ). a ∷ b ∷ []) (u .0) (u .1))) (λ u. inr (ap₂ (λ (a b : ℕ). a ∷ b ∷ []) (u .0) (u .1))) P
-
 module _ (k : Task) where
-  leading : All (λ a. idle k a ≡ true → Next (a .source) (a .target)) (cornerK connected .arcs)
-  leading =
-      (λ e. absurd (awake k 0 0 0 1 e), (λ e. absurd (awake k 0 1 1 2 e), (λ e. absurd (awake k 1 1 1 2 e), (λ e. (omega arith, inl refl), (λ e. (omega arith, inl refl), (λ e. absurd (awake k 2 6 7 3 e), (λ e. (omega arith, inr (inl (refl, refl))), (λ e. (omega arith, inr (inr (refl, refl))), tt))))))))
+  -- from inside, an idle arc leads to state 0, from which none leads on, or round at state 5
+  abbrev Next : ℕ → ℕ → Type 0
+  Next s r = (0 < s) × ((r ≡ 0) ⊎ ((s ≡ 5) × (r ≡ 5)))
 
-  next : (s r : ℕ) → IdleArc (cornerK connected) k s r → Next s r
-  next s r A =
+  abbrev Leads-on : Arc → Type 0
+  Leads-on a = idle k a ≡ true → Inside (a .source) → Next (a .source) (a .target)
+
+  leading : All Leads-on (cornerK connected .arcs)
+  leading = (
+    λ e i. absurd (awake k 0 0 0 1 e),
+    (
+      λ e i. absurd (awake k 0 1 1 2 e),
+      (
+        λ e i. absurd (awake k 1 1 1 2 e),
+        (
+          λ e i. (omega arith, inl refl),
+          (
+            λ e i. (omega arith, inl refl),
+            (λ e i. absurd (awake k 2 6 7 5 e), (λ e. outside 3 (omega arith) (omega arith), (λ e. outside 4 (omega arith) (omega arith), (λ e i. (omega arith, inr (refl, refl)), tt)))),
+          ),
+        ),
+      ),
+    ),
+  )
+
+  next : (s r : ℕ) → Inside s → IdleArc (cornerK connected) k s r → Next s r
+  next s r I A =
       subst (λ (x : ℕ). Next x r) (A .from)
-      (subst (λ (x : ℕ). Next (A .arc .source) x) (A .to) (all-mem (λ a. idle k a ≡ true → Next (a .source) (a .target)) (cornerK connected .arcs) leading (A .arc) (A .listed) (A .passes)))
+      (subst (λ (x : ℕ). Next (A .arc .source) x) (A .to) (all-mem Leads-on (cornerK connected .arcs) leading (A .arc) (A .listed) (A .passes) (subst Inside (sym (A .from)) I)))
 
-  -- none leads on from state 0
   stuck : (s : ℕ) (l : List ℕ) (r : ℕ) → s ≡ 0 → Through (IdleArc (cornerK connected) k) s l r → ⊥
-  stuck s [] r e T = let N = next s r T .0 in omega arith
-  stuck s (x ∷ l) r e T = let N = next s x (T .0) .0 in omega arith
+  stuck s [] r e T = let N = next s r (inl (omega arith)) T .0 in omega arith
+  stuck s (x ∷ l) r e T = let N = next s x (inl (omega arith)) (T .0) .0 in omega arith
 
-  -- through one state or more and back, none twice
-  round : (s x : ℕ) (l : List ℕ) → Pair s x → Through (IdleArc (cornerK connected) k) x l s → (List·Memᴰ s (x ∷ l) → ⊥) → l ≡ []
-  round s x [] P T D = refl
-  round s x (y ∷ l) P T D = absurd (⊎-elim (λ z. stuck y l s z (T .1)) (λ z. D (List·Memᴰ·tail (List·Memᴰ·head (sym z)))) (back s x y P (next x y (T .0))))
-
-  pub corner-told : (c : List ℕ) → CycleStates (cornerK connected) k c → (c ≡ 3 ∷ 4 ∷ []) ⊎ (c ≡ 4 ∷ 3 ∷ [])
+  pub corner-told : (c : List ℕ) → CycleStates (cornerK connected) k c → c ≡ 5 ∷ []
   corner-told [] C = absurd C
-  corner-told (s ∷ []) C = absurd (let N = next s s (C .1 .0) in ⊎-elim (λ z. let p = N .0 in omega arith) (⊎-elim (λ u. let a = u .0 in let b = u .1 in omega arith) (λ u. let a = u .0 in let b = u .1 in omega arith)) (N .1))
+  corner-told (s ∷ []) C =
+      let N = next s s (inside (C .0)) (C .1 .0) in ⊎-elim (λ z. absurd (let p = N .0 in omega arith)) (λ u. ap (λ (x : ℕ). x ∷ []) (u .0)) (N .1)
   corner-told (s ∷ x ∷ l) C =
-      ⊎-elim (λ z. absurd (stuck x l s z (C .1 .0 .1)))
-      (λ P. subst (λ (m : List ℕ). (s ∷ x ∷ m ≡ 3 ∷ 4 ∷ []) ⊎ (s ∷ x ∷ m ≡ 4 ∷ 3 ∷ [])) (sym (round s x l P (C .1 .0 .1) (C .1 .1 .0))) (both s x P)) (next s x (C .1 .0 .0) .1)
+      absurd (⊎-elim (λ z. stuck x l s z (C .1 .0 .1)) (λ u. C .1 .1 .0 (List·Memᴰ·head (u .0 ∙ sym (u .1)))) (next s x (inside (C .0)) (C .1 .0 .0) .1))

@@ -3,7 +3,7 @@ use Prim.Native.Nat.{ℕ, _+_, _*_, _<_, _≤_}
 use native.Mathlib.Nat.{zero-add}
 use native.Mathlib.Omega.{arith}
 use mathlib.Core.Path.{_≡_, refl, sym, ap, subst, _∙_}
-use mathlib.Core.Logic.{_⊎_, _↔_}
+use mathlib.Core.Logic.{_↔_}
 use mathlib.Core.Bool.{Bool, true, false}
 use mathlib.Core.Option.{some}
 use mathlib.Core.List.{List, [], _∷_, List·Memᴰ}
@@ -423,7 +423,7 @@ refuses-all = refuted.refuses-all
 pub clears-task : (t : Table) (q : Query) (run : Run) (stack buffer : List ℕ) (o : Outcome) → (run .task ≡ 0 → ⊥) → RefusedLeaves (runs t q) run stack buffer (refuted.taskCleared o) → ⊥
 clears-task = refuted.clears-task
 
--- THE STARRED CASES, one theorem over the table of rows; and "Table K" as document 01 prints it is the table of the rows.
+-- THE STARRED CASES, and document 02's, one theorem over the table of rows; and "Table K" as document 01 prints it is the table of the rows.
 
 pub cases-hold : T (rowsHold rows)
 cases-hold = cases.cases-hold
@@ -431,6 +431,6 @@ cases-hold = cases.cases-hold
 pub text-k : parsed textK ≡ accepted (tableK [])
 text-k = cases.text-k
 
--- In the table of the rows that are refused for a corner, the loop is what 12 tells, from one of its two states on, in every task.
-pub corner-told : (k : Task) (c : List ℕ) → CycleStates (cornerK connected) k c → (c ≡ 3 ∷ 4 ∷ []) ⊎ (c ≡ 4 ∷ 3 ∷ [])
+-- In the rows that are refused for a loop, the table has another loop, which is not reached; what 12 tells is the one that is, in every task.
+pub corner-told : (k : Task) (c : List ℕ) → CycleStates (cornerK connected) k c → c ≡ 5 ∷ []
 corner-told = corner.corner-told

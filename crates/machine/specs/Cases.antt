@@ -176,14 +176,19 @@ lone u l k c =
       course = c;
     }
 
--- table K with states 3 and 4, which idle arcs join in a loop, and before these arcs further ones of state 2
+-- table K with two loops of idle arcs, over states 3 and 4 and at state 5, and before their arcs further ones of state 2
 abbrev pub cornerK : List Arc → Table
 cornerK more =
-    record { states = 5; initials = 0 ∷ []; terminals = 1 ∷ 2 ∷ []; arcs = tableK [] .arcs ++ (more ++ (arcAs 3 0 0 4 ∷ arcAs 4 0 0 3 ∷ [])) }
+    record {
+      states = 6;
+      initials = 0 ∷ [];
+      terminals = 1 ∷ 2 ∷ [];
+      arcs = tableK [] .arcs ++ (more ++ (arcAs 3 0 0 4 ∷ arcAs 4 0 0 3 ∷ arcAs 5 0 0 5 ∷ []));
+    }
 
--- an arc from there into the loop, with letters that the words do not have
+-- an arc from there into the second loop, with letters that the words do not have
 abbrev pub connected : List Arc
-connected = arcAs 2 7 8 3 ∷ []
+connected = arcAs 2 7 8 5 ∷ []
 
 -- a row on that table
 abbrev corner : List Arc → ℕ → List ℕ → List ℕ → Course → Row
@@ -256,8 +261,8 @@ rows =
     ∷ lone 1 0 1 (goes (big ∷ []) (saysEnded 3 ∷ []) 3)
     ∷ lone 1 0 2 (goes (big ∷ []) (saysEnded 3 ∷ []) 3)
     ∷ lone 1 0 3 (refusedWith 12)
-    -- Document 02, slip 2: a loop that no arcs reach changes nothing; one that arcs reach is refused, whatever their letters and the words, and
-    -- it is the loop that is told (`corner-told`)
+    -- Document 02, slip 2: loops that no arcs reach change nothing; one that arcs reach is refused, whatever their letters and the words, and it
+    -- is the one that is told (`corner-told`)
     ∷ corner [] 1 (1 ∷ 2 ∷ []) (1 ∷ 3 ∷ 2 ∷ []) (goes (big ∷ big ∷ []) (saysFound 6 [] ∷ saysEnded 6 ∷ []) 12)
     ∷ corner [] 2 (1 ∷ 2 ∷ []) [] (goes (big ∷ big ∷ big ∷ []) (saysFound 3 (1 ∷ 2 ∷ []) ∷ saysFound 8 (1 ∷ 3 ∷ 2 ∷ []) ∷ saysEnded 9 ∷ []) 20)
     ∷ corner [] 3 [] (1 ∷ 3 ∷ 2 ∷ []) (goes (big ∷ big ∷ []) (saysFound 6 (1 ∷ 2 ∷ []) ∷ saysEnded 6 ∷ []) 12)

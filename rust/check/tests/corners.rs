@@ -35,13 +35,13 @@ fn tells(engine: &impl Engine, table: &Table, expected: &[u16]) {
     }
 }
 
-/// Table K, and an idle loop through two states more.
-fn k_and_loop() -> Table {
+/// Table K, and idle loops over states 3 and 4 and at state 5.
+fn k_and_loops() -> Table {
     let mut table = text::parse(K.as_bytes()).expect("table K");
-    table.states = 5;
-    table
-        .arcs
-        .extend([Arc::new(3, 0, 0, 4), Arc::new(4, 0, 0, 3)]);
+    table.states = 6;
+    let loops = [(3, 4), (4, 3), (5, 5)];
+    let arcs = loops.map(|(source, target)| Arc::new(source, 0, 0, target));
+    table.arcs.extend(arcs);
     table
 }
 
@@ -56,8 +56,8 @@ const QUERIES: [(&str, &str); 3] = [
 ];
 
 fn beside_k(engine: &impl Engine) {
-    let mut apart = vec![k_and_loop()];
-    apart.push(with(k_and_loop(), Arc::new(4, 1, 1, 0))); // out of the loop, not into it
+    let mut apart = vec![k_and_loops()];
+    apart.push(with(k_and_loops(), Arc::new(4, 1, 1, 0))); // out of a loop, not into it
     for table in apart {
         tells(engine, &table, &[]);
         for (query, lines) in QUERIES {
@@ -66,12 +66,10 @@ fn beside_k(engine: &impl Engine) {
             assert_eq!(printed, lines);
         }
     }
-    for source in 0..3 {
-        tells(
-            engine,
-            &with(k_and_loop(), Arc::new(source, 7, 8, 3)),
-            &[3, 4],
-        );
+    // The other loop is not reached, and is not told.
+    for (source, target, states) in [(0, 3, &[3, 4][..]), (1, 4, &[3, 4]), (2, 5, &[5])] {
+        let table = with(k_and_loops(), Arc::new(source, 7, 8, target));
+        tells(engine, &table, states);
     }
 }
 

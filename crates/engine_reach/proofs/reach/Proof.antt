@@ -16,14 +16,14 @@ Inv-loop arcs first initials cells₀ order₀ count₀ done₀ cells order coun
 abbrev μ-loop : tie.MeasureT-loop
 μ-loop arcs first initials cells₀ order₀ count₀ done₀ cells order count done = length cells₀ - done
 
-slice-aggregate-mark : tie.Need-slice-aggregate-mark Inv-loop μ-loop
-slice-aggregate-mark c = search needs
+slice-aggregate-visit-all : tie.Need-slice-aggregate-visit-all Inv-loop μ-loop
+slice-aggregate-visit-all c = search needs
 
-mark-requires : tie.Need-mark-requires Inv-loop μ-loop
-mark-requires c κs = (c .before .before .before .before .before .before .pre .1 .0, met-none (now (c .before .before .before .before .before .before .args .cells)) (c .before .before .before .before .before .before .pre .0 .few) (c .before .before .before .before .before .before .pre .1 .1))
+visit-all-requires : tie.Need-visit-all-requires Inv-loop μ-loop
+visit-all-requires c κs = (c .before .before .before .before .before .before .pre .1 .0, met-none (now (c .before .before .before .before .before .before .args .cells)) (c .before .before .before .before .before .before .pre .0 .few) (c .before .before .before .before .before .before .pre .1 .1))
 
 loop-holds : tie.Need-loop-holds Inv-loop μ-loop
-loop-holds c = (refl, search-begins (now (c .before .before .before .before .before .before .before .before .before .before .args .arcs)) (now (c .before .before .before .before .before .before .before .before .before .before .args .initials)) (c .before .before .before .before .before .before .before .before .before .before .pre .1 .1) (c .before .before .before .mark .ensures))
+loop-holds c = (refl, search-begins (now (c .before .before .before .before .before .before .before .before .before .before .args .arcs)) (now (c .before .before .before .before .before .before .before .before .before .before .args .initials)) (c .before .before .before .before .before .before .before .before .before .before .pre .1 .1) (c .before .before .before .visit-all .ensures))
 
 mul-cell-as-index : tie.Need-mul-cell-as-index Inv-loop μ-loop
 mul-cell-as-index c = omega (arith, c .before .loop .inv .1 .met .once, c .before .loop .inv .1 .met .few)
@@ -38,7 +38,7 @@ slice-aggregate-follow : tie.Need-slice-aggregate-follow Inv-loop μ-loop
 slice-aggregate-follow c = sym (c .before .before .before .before .loop .inv .1 .met .order-long)
 
 follow-requires : tie.Need-follow-requires Inv-loop μ-loop
-follow-requires c κs = (subst (λ (n : ℕ). Graph (now (c .before .before .before .before .before .before .before .before .before .before .before .before .before .before .before .args .arcs)) (now (c .before .before .before .before .before .before .before .before .before .before .before .before .before .before .before .args .first)) n) (sym (c .before .before .before .before .loop .inv .0 ∙ c .before .before .before .before .before .before .before .before .mark .ensures .visited .same-length)) (c .before .before .before .before .before .before .before .before .before .before .before .before .before .before .before .pre .0), (omega (arith, c .before .before .cell-as-index .ensures .0, search-inside (now (c .before .before .before .before .before .before .before .before .before .before .before .before .before .before .before .args .arcs)) (now (c .before .before .before .before .before .before .before .before .before .before .before .before .before .before .before .args .initials)) (c .before .before .before .before .loop .inv .1) (c .before .before .before .loop-test .taken)), c .before .before .before .before .loop .inv .1 .met))
+follow-requires c κs = (subst (λ (n : ℕ). Graph (now (c .before .before .before .before .before .before .before .before .before .before .before .before .before .before .before .args .arcs)) (now (c .before .before .before .before .before .before .before .before .before .before .before .before .before .before .before .args .first)) n) (sym (c .before .before .before .before .loop .inv .0 ∙ c .before .before .before .before .before .before .before .before .visit-all .ensures .visited .same-length)) (c .before .before .before .before .before .before .before .before .before .before .before .before .before .before .before .pre .0), (omega (arith, c .before .before .cell-as-index .ensures .0, search-inside (now (c .before .before .before .before .before .before .before .before .before .before .before .before .before .before .before .args .arcs)) (now (c .before .before .before .before .before .before .before .before .before .before .before .before .before .before .before .args .initials)) (c .before .before .before .before .loop .inv .1) (c .before .before .before .loop-test .taken)), c .before .before .before .before .loop .inv .1 .met))
 
 add-done : tie.Need-add-done Inv-loop μ-loop
 add-done c = omega (arith, c .before .before .before .before .before .before .before .before .loop .inv .1 .met .once, c .before .before .before .before .before .before .before .before .loop .inv .1 .met .few)
@@ -50,10 +50,10 @@ loop-again : tie.Need-loop-again Inv-loop μ-loop
 loop-again c = (c .before .before .before .follow .ensures .visited .same-length ∙ c .before .before .before .before .before .before .before .before .loop .inv .0, search-goes-on (now (c .before .before .before .before .before .before .before .before .before .before .before .before .before .before .before .before .before .before .before .args .arcs)) (now (c .before .before .before .before .before .before .before .before .before .before .before .before .before .before .before .before .before .before .before .args .initials)) (c .before .before .before .before .before .before .before .before .loop .inv .1) (c .before .before .before .before .before .before .cell-as-index .result) (c .before .before .before .before .before .before .cell-as-index .ensures .0) (c .before .before .before .before .before .before .before .loop-test .taken) (c .before .before .before .follow .ensures))
 
 same-length : tie.Need-same-length Inv-loop μ-loop
-same-length c = c .before .loop .inv .0 ∙ c .before .before .before .before .before .mark .ensures .visited .same-length
+same-length c = c .before .loop .inv .0 ∙ c .before .before .before .before .before .visit-all .ensures .visited .same-length
 
 returns : tie.Need-returns Inv-loop μ-loop
-returns c = (c .before .loop .inv .0 ∙ c .before .before .before .before .before .mark .ensures .visited .same-length, search-ends (now (c .before .before .before .before .before .before .before .before .before .before .before .before .args .arcs)) (now (c .before .before .before .before .before .before .before .before .before .before .before .before .args .initials)) (c .before .loop .inv .1) (omega arith))
+returns c = (c .before .loop .inv .0 ∙ c .before .before .before .before .before .visit-all .ensures .visited .same-length, search-ends (now (c .before .before .before .before .before .before .before .before .before .before .before .before .args .arcs)) (now (c .before .before .before .before .before .before .before .before .before .before .before .before .args .initials)) (c .before .loop .inv .1) (omega arith))
 
 pub reach-spec : {M : Type 1} → statement M
 reach-spec =
@@ -61,8 +61,8 @@ reach-spec =
     (tie.spec
     Inv-loop
     μ-loop
-    slice-aggregate-mark
-    mark-requires
+    slice-aggregate-visit-all
+    visit-all-requires
     loop-holds
     mul-cell-as-index
     array-read-cell-as-index

@@ -1,4 +1,4 @@
-//! One start: the answer, the run, and the cycle that the answer holds, of which only document 01's properties are fixed.
+//! One start: the answer, the run, and the cycle that the answer holds, of which only the documents' properties are fixed.
 use super::tally::Tally;
 use super::{RUN_GUARD, loops, same};
 use crate::answer::{Answer, Run, Started};

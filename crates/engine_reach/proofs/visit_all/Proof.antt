@@ -8,8 +8,8 @@ use borrow.Author.Needs.{needs}
 use Rattle.machine.proofs.Transducer.{at-mem}
 use Rattle.engine_reach.specs.Reach.{Meets}
 use Rattle.engine_reach.proofs.Marks.{Values, values-begin, values-more, meets-list}
-use Rattle.engine_reach.proofs.mark.Statement.{statement}
-use Rattle.engine_reach.proofs.mark.Tie as tie
+use Rattle.engine_reach.proofs.visit_all.Statement.{statement}
+use Rattle.engine_reach.proofs.visit_all.Tie as tie
 
 abbrev Inv-loop : tie.InvT-loop
 Inv-loop initials cells₀ order₀ count₀ n₀ cells order count n = (n ≤ length initials) × Meets (Values (λ i. getD initials i 0) 0 n) cells₀ order₀ 0 cells order count
@@ -47,8 +47,8 @@ same-length-2 c = c .before .loop .inv .1 .met .order-long ∙ sym (c .before .b
 returns : tie.Need-returns Inv-loop μ-loop
 returns c = meets-list (now (c .before .before .before .before .before .args .initials)) (c .before .loop .n) (omega arith) (c .before .loop .inv .0) (c .before .loop .inv .1)
 
-pub mark-spec : {M : Type 1} → statement M
-mark-spec =
+pub visit-all-spec : {M : Type 1} → statement M
+visit-all-spec =
     tie.close
     (tie.spec
     Inv-loop
