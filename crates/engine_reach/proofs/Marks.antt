@@ -32,20 +32,18 @@ room {cells} M x h e = let z = zeros-set cells x 1 h e (omega arith) in omega (a
 -- ONE STATE, that is met already or not.
 
 module _ (cells order : List ℕ) (count : ℕ) (M : Met cells order count) where
-  pub meets-again : (x : ℕ) → (getD cells x 0 ≡ 0 → ⊥) → Meets (λ s. s ≡ x) cells order count cells order count
-  meets-again x n =
+  -- nothing is done where all are met
+  meets-none : {Who : ℕ → Type 0} → ((s : ℕ) → Who s → 0 < getD cells s 0) → Meets Who cells order count cells order count
+  meets-none f =
       record {
-        visited =
-            record {
-              same-length = refl;
-              kept = λ s h. refl;
-              covered = λ s e. subst (λ (y : ℕ). 0 < getD cells y 0) (sym e) (⊎-elim (λ z. absurd (n z)) (λ h. h) (zero? (getD cells x 0)));
-              only = λ s e h. absurd (omega arith);
-            };
+        visited = record { same-length = refl; kept = λ s h. refl; covered = f; only = λ s e h. absurd (omega arith) };
         met = M;
         no-fewer = omega arith;
         in-place = λ i h. refl;
       }
+
+  pub meets-again : (x : ℕ) → (getD cells x 0 ≡ 0 → ⊥) → Meets (λ s. s ≡ x) cells order count cells order count
+  meets-again x n = meets-none (λ s e. subst (λ (y : ℕ). 0 < getD cells y 0) (sym e) (⊎-elim (λ z. absurd (n z)) (λ h. h) (zero? (getD cells x 0))))
 
   module _ (x : ℕ) (h : x < length cells) (z : getD cells x 0 ≡ 0) where
     at : (s : ℕ) → s ≡ x → getD (set cells x 1) s 0 ≡ 1
@@ -109,19 +107,7 @@ abbrev pub Values : (ℕ → ℕ) → ℕ → ℕ → ℕ → Type 0
 Values f from n s = (i : ℕ) × (from ≤ i) × (i < n) × (f i ≡ s)
 
 pub values-begin : (f : ℕ → ℕ) (from n : ℕ) (cells order : List ℕ) (count : ℕ) → n ≤ from → Met cells order count → Meets (Values f from n) cells order count cells order count
-values-begin f from n cells order count h M =
-    record {
-      visited =
-          record {
-            same-length = refl;
-            kept = λ s k. refl;
-            covered = λ s v. absurd (let a = v .1 in let b = v .2 in omega arith);
-            only = λ s e k. absurd (omega arith);
-          };
-      met = M;
-      no-fewer = omega arith;
-      in-place = λ i k. refl;
-    }
+values-begin f from n cells order count h M = meets-none cells order count M (λ s v. absurd (let a = v .1 in let b = v .2 in omega arith))
 
 module _ (f : ℕ → ℕ) (from n x : ℕ) {cells order : List ℕ} {count : ℕ} {cells₁ order₁ : List ℕ} {count₁ : ℕ} {cells₂ order₂ : List ℕ} {count₂ : ℕ} (h : from ≤ n) (e : x ≡ f n)
     (P : Meets (Values f from n) cells order count cells₁ order₁ count₁) (Q : Meets (λ s. s ≡ x) cells₁ order₁ count₁ cells₂ order₂ count₂) where

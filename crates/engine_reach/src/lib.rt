@@ -11,7 +11,7 @@ ghost use Rattle.machine.specs.Idle.{AnyArc};
 ghost use Rattle.engine_graph.specs.Graph.{Graph};
 ghost use Rattle.engine_reach.specs.Reach.{Unmarked, Met, Meets, ReachedCells};
 
-// Meets a state, the `count`-th, unless it was met before. How many were met then.
+// Meets a state, unless it was met before; `count` states were. How many were met then.
 fn visit(state: u16, cells: &mut [u8], order: &mut [u16], count: usize) -> usize
     requires { ⌜ state < length (now cells) ⌝ }
     requires { ⌜ Met (now cells) (now order) count ⌝ }
