@@ -47,7 +47,8 @@ pub struct Reply {
     pub length: u32,
 }
 
-/// What a start answers. With refusal 12 the states of a cycle, as many as the answer's length tells, then zeros; else all zeros.
+/// What a start answers. With refusal 12 the states of the cycle that [`StartRefused`] shows, as many as the answer's length tells, then
+/// zeros; else all zeros.
 #[must_use]
 #[repr(C)]
 #[derive(Clone, Copy, Debug, PartialEq, Eq)]

@@ -58,11 +58,26 @@ refusals! {
 impl Error for Refusal {}
 
 /// Why a start is refused.
+///
+/// ```
+/// use readings::{Refusal, Table};
+///
+/// // Arcs that read and write nothing lead from state 0 to 1 and 2, from 1 to itself and to 2, and from 2 back to 0.
+/// let text = "010003000100000005\n020000\n04000000000001\n04000000000002\n\
+///             04000100000001\n04000100000002\n04000200000000\n050007\n";
+/// let refused = Table::read(text)?.synthesis(&[]).unwrap_err();
+/// assert_eq!(refused.refusal, Refusal::IdleCycle);
+/// // State 1 has a shorter cycle but is not the lowest; 0, 1, 2 is a longer one.
+/// assert_eq!(refused.cycle, [0, 2]);
+/// # Ok::<(), Box<dyn std::error::Error>>(())
+/// ```
 #[derive(Clone, Debug, PartialEq, Eq)]
 pub struct StartRefused {
     /// The refusal.
     pub refusal: Refusal,
-    /// With [`Refusal::IdleCycle`] the states of one such cycle in walking order, none twice; else empty.
+    /// With [`Refusal::IdleCycle`] the states of one such cycle in walking order, none twice; else empty. It begins with the lowest state
+    /// on any such cycle and is a shortest one through it; among those it is the one whose state numbers come first, compared one by one.
+    /// The order of the arcs plays no part.
     pub cycle: Vec<u16>,
 }
 

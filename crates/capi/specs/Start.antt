@@ -1,13 +1,10 @@
 -- What a start tells C: the answer in numbers with all 256 cells of the cycle, and the lent run.
-use Prim.Native.Nat.{ℕ}
 use mathlib.Core.Path.{_≡_}
-use mathlib.Core.List.{List}
 use Rattle.machine.specs.declared.Run.{Run}
 use Rattle.machine.specs.declared.StartAnswer.{StartAnswer}
 use Rattle.machine.specs.declared.StartAnswer.the-variants.{Ready, Refused}
 use Rattle.machine.specs.declared.Started.{Started}
-use Rattle.machine.specs.Asked.{asked}
-use Rattle.machine.specs.Start.{started, TellsCycle, startToldBy}
+use Rattle.machine.specs.Start.{startToldBy}
 use Rattle.capi.specs.declared.StartReply.{StartReply}
 use Rattle.capi_numbers.specs.Numbers.{replyTold}
 
@@ -24,9 +21,3 @@ runLeft s before = startRun (s .answer) (s .run) before
 -- the states"), and the run that it leaves
 abbrev pub ReplyIs : Started → Run → StartReply → Run → Type 0
 ReplyIs s before reply after = (replyTold (reply .answer) ≡ startToldBy s) × (reply .cycle ≡ s .cycle) × (after ≡ runLeft s before)
-
--- what a start ensures: all is told by the definition `started` but for one cycle, which has these properties
-pub record StartReplyIs (cells : List ℕ) (task : ℕ) (upper lower : List ℕ) (before : Run) (reply : StartReply) (after : Run) : Type 0 where
-  pub cycle : List ℕ
-  pub is : ReplyIs (started cells task upper lower cycle) before reply after
-  pub tells : TellsCycle (asked cells task upper lower) cycle

@@ -7,9 +7,9 @@ use machine::Run;
 use machine::StartAnswer;
 use machine::Started;
 ghost use mathlib.Core.Path.{_≡_};
-ghost use Rattle.machine.specs.Start.{startToldBy};
+ghost use Rattle.machine.specs.Start.{started, startToldBy};
 ghost use Rattle.capi_numbers.specs.Numbers.{replyTold};
-ghost use Rattle.capi.specs.Start.{startRun, StartReplyIs};
+ghost use Rattle.capi.specs.Start.{startRun, ReplyIs};
 
 // The run that a start leaves: its own where it passes, else the one that was there.
 fn start_run(answer: StartAnswer, begun: Run, before: Run) -> Run
@@ -36,7 +36,7 @@ fn start_reply(s: Started) -> StartReply
 
 // The start with the run by value.
 fn begin(table: &[u16], task: u32, upper: &[u8], lower: &[u8], run: Run) -> Begun
-    ensures { λ r. ⌜ StartReplyIs (now (table .entry)) task (now (upper .entry)) (now (lower .entry)) run (r .reply) (r .run) ⌝ }
+    ensures { λ r. ⌜ ReplyIs (started (now (table .entry)) task (now (upper .entry)) (now (lower .entry))) run (r .reply) (r .run) ⌝ }
 {
     let s = start(table, task, upper, lower);
     let answer = s.answer;
@@ -54,7 +54,7 @@ pub extern "C" fn rd_start(
     lower: &[u8],
     run: &mut Run,
 ) -> StartReply
-    ensures { λ r. ⌜ StartReplyIs (now (table .entry)) task (now (upper .entry)) (now (lower .entry)) (now (run .entry)) r (now (run .exit)) ⌝ }
+    ensures { λ r. ⌜ ReplyIs (started (now (table .entry)) task (now (upper .entry)) (now (lower .entry))) (now (run .entry)) r (now (run .exit)) ⌝ }
 {
     let b = begin(table, task, upper, lower, *run);
     *run = b.run;

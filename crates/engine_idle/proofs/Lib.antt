@@ -1,3 +1,2 @@
--- Laws of the walk, and of the cycles of a table's graph.
+-- Laws of the search.
 pub mod Cycles
-pub mod TableGraph

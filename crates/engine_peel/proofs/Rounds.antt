@@ -7,35 +7,21 @@ use mathlib.Core.List.{List, [], _∷_}
 use lib.Dec.{eqb}
 use lib.ListN.{length, getD, set, length-set}
 use lib.Seq.{getD-set-other}
-use borrow.Author.Tests.{eqb-true, eqb-false, eq-eqb, ne-eqb}
+use borrow.Author.Tests.{eqb-true, eqb-false, eq-eqb}
 use Rattle.table_format.proofs.Tests.{and-left, and-right, and-both}
 use Rattle.table_format.specs.Table.{Arc}
 use Rattle.table_format.specs.declared.Arc as held
 use Rattle.table_format.specs.Cells.{arcHeld, arcOf}
 use Rattle.graph.proofs.Lists.{below-more}
 use Rattle.graph.proofs.Walk.{rotated}
-use Rattle.machine.specs.Idle.{sideIdle}
-use Rattle.engine_graph.specs.Graph.{Graph}
+use Rattle.engine_graph.specs.Graph.{Graph, idleBy, IdleEdge}
 use Rattle.engine_graph.proofs.Edges.{number-of, edge-of}
-use Rattle.engine_peel.specs.Peel.{total, idleBy, leadsAlive, IdleEdge, Cyclic, Stable, Next, Peeled, Settled}
+use Rattle.engine_peel.specs.Peel.{total, leadsAlive, Cyclic, Stable, Next, Peeled, Settled}
 
--- a letter on a side that is read
-pub letter-read : (read : Bool) (x : ℕ) → read ≡ true → eqb x 0 ≡ sideIdle read x
-letter-read read x e = go x ∙ ap (λ (b : Bool). sideIdle b x) (sym e)
-  where
-    go : (y : ℕ) → eqb y 0 ≡ sideIdle true y
-    go zero = eq-eqb 0 0 refl
-    go (suc y) = ne-eqb (suc y) 0 (λ z. omega arith)
-
-pub letter-written : (read : Bool) (x : ℕ) → read ≡ false → true ≡ sideIdle read x
-letter-written read x e = ap (λ (b : Bool). sideIdle b x) (sym e)
-
--- an arc that is looked at twice, its upper letter first
-pub leads-by : (upper lower : Bool) (alive : List ℕ) (a : Arc) (r r′ : held.Arc) {x y : Bool} → r ≡ arcHeld a → r′ ≡ arcHeld a
-    → sideIdle upper (r .upper) ≡ x → sideIdle lower (r′ .lower) ≡ y → ((x && y) && eqb (getD alive (r′ .target) 0) 1) ≡ leadsAlive upper lower alive a
-leads-by upper lower alive a r r′ e e′ u l =
-    ap₂ (λ (x y : Bool). (x && y) && eqb (getD alive (r′ .target) 0) 1) (sym u) (sym l)
-    ∙ ap₂ (λ (z w : held.Arc). (sideIdle upper (z .upper) && sideIdle lower (w .lower)) && eqb (getD alive (w .target) 0) 1) e e′
+-- an arc that is looked at once more where it is idle
+pub leads-by : (upper lower : Bool) (alive : List ℕ) (a : Arc) (r : held.Arc) {x : Bool} → r ≡ arcHeld a → x ≡ idleBy upper lower a
+    → (x && eqb (getD alive (r .target) 0) 1) ≡ leadsAlive upper lower alive a
+leads-by upper lower alive a r e i = ap₂ (λ (x : Bool) (z : held.Arc). x && eqb (getD alive (z .target) 0) 1) i e
 
 -- sums of cells
 pub total-set : (l : List ℕ) (i : ℕ) → i < length l → getD l i 0 ≡ 1 → total (set l i 0) < total l

@@ -6,42 +6,33 @@ use mathlib.Core.List.{List, [], _∷_}
 use lib.Dec.{eqb}
 use lib.ListN.{length, getD}
 use Rattle.table_format.specs.Table.{Arc}
-use Rattle.table_format.specs.Cells.{arcsAs}
 use Rattle.graph.specs.Walk.{Walk}
-use Rattle.machine.specs.Idle.{sideIdle, Leads}
+use Rattle.engine_graph.specs.Graph.{idleBy, IdleEdge}
 
 -- the sum of cells
 unfoldable pub total : List ℕ → ℕ
 total [] = 0
 total (x ∷ xs) = x + total xs
 
--- an arc is idle
-abbrev pub idleBy : Bool → Bool → Arc → Bool
-idleBy upper lower a = sideIdle upper (a .upper) && sideIdle lower (a .lower)
-
 -- an arc is idle and leads to a state that is alive
 abbrev pub leadsAlive : Bool → Bool → List ℕ → Arc → Bool
 leadsAlive upper lower alive a = idleBy upper lower a && eqb (getD alive (a .target) 0) 1
 
 module _ (arcs : List ℕ) (upper lower : Bool) where
-  -- an idle arc leads from s to r
-  abbrev pub IdleEdge : ℕ → ℕ → Type 0
-  IdleEdge = Leads (arcsAs arcs) (idleBy upper lower)
-
   -- A state is alive where its cell is 1.
 
   -- every state on a cycle is alive
   abbrev pub Cyclic : List ℕ → Type 0
-  Cyclic alive = (s : ℕ) → Walk IdleEdge s s → getD alive s 0 ≡ 1
+  Cyclic alive = (s : ℕ) → Walk (IdleEdge arcs upper lower) s s → getD alive s 0 ≡ 1
 
   -- an idle arc leads from every state that is alive to one that is
   abbrev pub Stable : List ℕ → Type 0
-  Stable alive = (s : ℕ) → s < length alive → getD alive s 0 ≡ 1 → (r : ℕ) × IdleEdge s r × (getD alive r 0 ≡ 1)
+  Stable alive = (s : ℕ) → s < length alive → getD alive s 0 ≡ 1 → (r : ℕ) × IdleEdge arcs upper lower s r × (getD alive r 0 ≡ 1)
 
   -- r is a state that is alive and to which an idle arc leads from q, or beyond the states where there is none
   pub record Next (alive : List ℕ) (q r : ℕ) : Type 0 where
-    pub leads-on : r < 256 → IdleEdge q r × (getD alive r 0 ≡ 1)
-    pub leads-nowhere : 256 ≤ r → (x : ℕ) → IdleEdge q x → getD alive x 0 ≡ 1 → ⊥
+    pub leads-on : r < 256 → IdleEdge arcs upper lower q r × (getD alive r 0 ≡ 1)
+    pub leads-nowhere : 256 ≤ r → (x : ℕ) → IdleEdge arcs upper lower q x → getD alive x 0 ≡ 1 → ⊥
 
   -- a round, and whether a state died in it
   pub record Peeled (before after : List ℕ) (died : Bool) : Type 0 where

@@ -5,40 +5,25 @@ ghost use mathlib.Core.Path.{_≡_};
 ghost use Prim.Native.Nat.{_<_};
 ghost use lib.ListN.{length};
 ghost use Rattle.table_format.specs.Cells.{arcCount, arcOf};
-ghost use Rattle.machine.specs.Idle.{sideIdle};
 ghost use Rattle.engine_graph.specs.Graph.{Graph};
 ghost use Rattle.engine_peel.specs.Peel.{leadsAlive, Next, Peeled, Settled};
 
-// A letter passes nothing that is read.
-fn side_idle(read: bool, letter: u16) -> bool
-    ensures { λ r. ⌜ r ≡ sideIdle read letter ⌝ }
-{
-    if read {
-        return letter == 0;
-    }
-    true
-}
-
-// Arc `n` is idle and leads to a living state. It is looked at again once its upper letter passes: of each look only the cells that are used
-// are fetched, so that the loop over arcs fetches one letter of most arcs and not whole arcs.
+// Arc `n` is idle and leads to a living state.
 fn leads(arcs: &[u16], n: usize, upper: bool, lower: bool, alive: &[u8]) -> bool
     requires { ⌜ n < arcCount (now arcs) ⌝ }
     requires { ⌜ arcOf (now arcs) n .target < length (now alive) ⌝ }
     ensures { λ r. ⌜ r ≡ leadsAlive upper lower (now (alive .entry)) (arcOf (now (arcs .entry)) n) ⌝ }
 {
-    let arc = table_format::arc_at(arcs, n);
-    if side_idle(upper, arc.upper) {
-        let again = table_format::arc_at(arcs, n);
-        if side_idle(lower, again.lower) {
-            let target = widen::cell_as_index(again.target);
-            return alive[target] == 1;
-        }
+    if engine_graph::idle(arcs, n, upper, lower) {
+        let arc = table_format::arc_at(arcs, n);
+        let target = widen::cell_as_index(arc.target);
+        return alive[target] == 1;
     }
     false
 }
 
 // A living state to which an idle arc leads from state `q`; 256 where there is none.
-pub fn next(arcs: &[u16], first: &[u16], q: usize, upper: bool, lower: bool, alive: &[u8]) -> u16
+fn next(arcs: &[u16], first: &[u16], q: usize, upper: bool, lower: bool, alive: &[u8]) -> u16
     requires { ⌜ Graph (now arcs) (now first) (length (now alive)) ⌝ }
     requires { ⌜ q < length (now alive) ⌝ }
     ensures { λ r. ⌜ Next (now (arcs .entry)) upper lower (now (alive .entry)) q r ⌝ }

@@ -1,15 +1,17 @@
-// Reachability: which states arcs lead to from the initial states, whatever the arcs' letters, by a breadth-first search. A state's cell is 1 once
-// it is met, and the states stand in the order in which they were met. `visit` meets a state, `visit_all` the initial ones, `follow` those to which
-// the arcs of a state lead, and `reach` follows the arcs of each state that is met, one after the other.
+// Reachability, by a breadth-first search: which states arcs lead to from the initial states, whatever the arcs' letters (`reach`), and whether
+// idle arcs lead from a state back to it (`returns`). A state's cell is 1 once it is met, and the states stand in the order in which they were met.
+// `visit` meets a state, `visit_all` the initial ones, `follow` those to which the arcs of a state lead, and `spread` follows the arcs of each state
+// that is met.
 ghost use mathlib.Core.Path.{_≡_};
+ghost use mathlib.Core.Logic.{_↔_};
+ghost use mathlib.Core.Bool.{true};
 ghost use mathlib.Core.List.{List·Memᴰ};
 ghost use Prim.Native.Nat.{_<_};
 ghost use lib.ListN.{length};
-ghost use Rattle.table_format.specs.Cells.{arcsAs};
 ghost use Rattle.graph.specs.Lists.{AllBelow};
-ghost use Rattle.machine.specs.Idle.{AnyArc};
-ghost use Rattle.engine_graph.specs.Graph.{Graph};
-ghost use Rattle.engine_reach.specs.Reach.{Unmarked, Met, Meets, ReachedCells};
+ghost use Rattle.graph.specs.Walk.{Walk};
+ghost use Rattle.engine_graph.specs.Graph.{Graph, IdleEdge};
+ghost use Rattle.engine_reach.specs.Reach.{Unmarked, Met, Meets, Spread, ReachedCells};
 
 // Meets a state, unless it was met before; `count` states were. How many were met then.
 fn visit(state: u16, cells: &mut [u8], order: &mut [u16], count: usize) -> usize
@@ -41,11 +43,13 @@ fn visit_all(initials: &[u16], cells: &mut [u8], order: &mut [u16]) -> usize
     count
 }
 
-// Meets the states to which arcs lead from state `q`. How many were met then.
+// Meets the states to which idle arcs lead from state `q`; where no side is read, every arc is idle. How many were met then.
 fn follow(
     arcs: &[u16],
     first: &[u16],
     q: usize,
+    upper: bool,
+    lower: bool,
     cells: &mut [u8],
     order: &mut [u16],
     before: usize,
@@ -53,17 +57,43 @@ fn follow(
     requires { ⌜ Graph (now arcs) (now first) (length (now cells)) ⌝ }
     requires { ⌜ q < length (now cells) ⌝ }
     requires { ⌜ Met (now cells) (now order) before ⌝ }
-    ensures { λ r. ⌜ Meets (AnyArc (arcsAs (now (arcs .entry))) q) (now (cells .entry)) (now (order .entry)) before (now (cells .exit)) (now (order .exit)) r ⌝ }
+    ensures { λ r. ⌜ Meets (IdleEdge (now (arcs .entry)) upper lower q) (now (cells .entry)) (now (order .entry)) before (now (cells .exit)) (now (order .exit)) r ⌝ }
 {
     let end = widen::cell_as_index(first[q + 1]);
     let mut n = widen::cell_as_index(first[q]);
     let mut count = before;
     while n < end {
-        let arc = table_format::arc_at(arcs, n);
-        count = visit(arc.target, cells, order, count);
+        let at = n;
         n += 1;
+        if engine_graph::idle(arcs, at, upper, lower) {
+            let arc = table_format::arc_at(arcs, at);
+            count = visit(arc.target, cells, order, count);
+        }
     }
     count
+}
+
+// Follows the arcs of each state that is met, `met` of them at first, until all that they lead to are met.
+fn spread(
+    arcs: &[u16],
+    first: &[u16],
+    upper: bool,
+    lower: bool,
+    cells: &mut [u8],
+    order: &mut [u16],
+    met: usize,
+)
+    requires { ⌜ Graph (now arcs) (now first) (length (now cells)) ⌝ }
+    requires { ⌜ Met (now cells) (now order) met ⌝ }
+    ensures { λ _. ⌜ Spread (IdleEdge (now (arcs .entry)) upper lower) (now (cells .entry)) (now (cells .exit)) ⌝ }
+{
+    let mut count = met;
+    let mut done = 0;
+    while done < count {
+        let q = widen::cell_as_index(order[done]);
+        count = follow(arcs, first, q, upper, lower, cells, order, count);
+        done += 1;
+    }
 }
 
 // Cells of zeros, one a state, become 1 where the state is reached.
@@ -74,11 +104,26 @@ pub fn reach(arcs: &[u16], first: &[u16], initials: &[u16], cells: &mut [u8])
     ensures { λ _. ⌜ (length (now (cells .exit)) ≡ length (now (cells .entry))) × ReachedCells (now (arcs .entry)) (now (initials .entry)) (now (cells .exit)) ⌝ }
 {
     let mut order = [0u16; 256];
-    let mut count = visit_all(initials, cells, &mut order);
-    let mut done = 0;
-    while done < count {
-        let q = widen::cell_as_index(order[done]);
-        count = follow(arcs, first, q, cells, &mut order, count);
-        done += 1;
-    }
+    let count = visit_all(initials, cells, &mut order);
+    spread(arcs, first, false, false, cells, &mut order, count);
+}
+
+// Whether idle arcs lead from state `q` back to it. Cells of zeros, one a state, become 1 where they lead to.
+pub fn returns(
+    arcs: &[u16],
+    first: &[u16],
+    q: usize,
+    upper: bool,
+    lower: bool,
+    cells: &mut [u8],
+) -> bool
+    requires { ⌜ Graph (now arcs) (now first) (length (now cells)) ⌝ }
+    requires { ⌜ q < length (now cells) ⌝ }
+    requires { ⌜ Unmarked (now cells) ⌝ }
+    ensures { λ r. ⌜ (r ≡ true) ↔ Walk (IdleEdge (now (arcs .entry)) upper lower) q q ⌝ }
+{
+    let mut order = [0u16; 256];
+    let count = follow(arcs, first, q, upper, lower, cells, &mut order, 0);
+    spread(arcs, first, upper, lower, cells, &mut order, count);
+    cells[q] == 1
 }

@@ -1,2 +1,3 @@
 -- Laws of the start.
+pub mod Loads
 pub mod Starts

@@ -9,7 +9,7 @@ use refusal::Refusal;
 ghost use mathlib.Core.Path.{_≡_};
 ghost use mathlib.Core.List.{[]};
 ghost use Rattle.machine.specs.declared.StartAnswer.the-variants.{Ready, Refused};
-ghost use Rattle.machine.specs.Start.{firstRun, startedWith, StartIs};
+ghost use Rattle.machine.specs.Start.{firstRun, startedWith, started, StartedIs};
 
 // A run of a task with nothing started; of no task, 0, where a start is refused.
 fn first_run(task: u32) -> Run
@@ -48,7 +48,7 @@ fn ready(task: u32) -> Started
 
 // The start on a loaded table.
 pub fn start(table: &[u16], task: u32, upper: &[u8], lower: &[u8]) -> Started
-    ensures { λ r. ⌜ StartIs (now (table .entry)) task (now (upper .entry)) (now (lower .entry)) r ⌝ }
+    ensures { λ r. ⌜ StartedIs (started (now (table .entry)) task (now (upper .entry)) (now (lower .entry))) r ⌝ }
 {
     let checked = table_check::check(table);
     let asking = engine_admission::asked(checked.ok, task, upper, lower);

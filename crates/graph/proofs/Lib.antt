@@ -2,11 +2,10 @@
 pub mod Lists
 pub mod Pigeon
 pub mod Walk
-pub mod Places
 pub mod Cycle
 pub mod Reached
 pub mod First
 pub mod Shown
-pub mod Search
+pub mod Rings
 pub mod Cost
 pub mod Examples

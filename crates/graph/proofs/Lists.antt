@@ -7,9 +7,9 @@ use mathlib.Core.Path.{_≡_, refl, sym, ap, subst, _∙_}
 use mathlib.Core.Logic.{_⊎_, inl, inr, ⊎-elim}
 use mathlib.Core.Bool.{Bool, true, false, cond, true≢false}
 use mathlib.Core.List.{List, [], _∷_, _++_, List·Memᴰ, List·Memᴰ·head, List·Memᴰ·tail, List·Memᴰ·not-nil, List·Memᴰ·cases-cons}
-use lib.Dec.{eqb}
+use lib.Dec.{eqb, leb}
 use lib.ListN.{length, getD, set}
-use borrow.Author.Tests.{eqb-true, eqb-false, eq-eqb}
+use borrow.Author.Tests.{eqb-true, eqb-false, eq-eqb, leb-true, leb-false}
 use Rattle.table_format.proofs.All.{mem-at}
 use Rattle.table_format.proofs.Any.{any-found, any-mem}
 use Rattle.graph.specs.Lists.{Distinct, Before, member, keep, upTo, lowest, zeros}
@@ -20,6 +20,17 @@ same? a b = go (eqb a b) refl
     go : (c : Bool) → eqb a b ≡ c → (a ≡ b) ⊎ (a ≡ b → ⊥)
     go true e = inl (eqb-true _ _ e)
     go false e = inr (eqb-false _ _ e)
+
+pub zero? : (x : ℕ) → (x ≡ 0) ⊎ (0 < x)
+zero? zero = inl refl
+zero? (suc x) = inr (omega arith)
+
+pub most? : (a b : ℕ) → (a ≤ b) ⊎ (b < a)
+most? a b = go (leb a b) refl
+  where
+    go : (c : Bool) → leb a b ≡ c → (a ≤ b) ⊎ (b < a)
+    go true e = inl (leb-true _ _ e)
+    go false e = inr (leb-false _ _ e)
 
 -- what holds of the numbers below n and of n holds below n + 1
 pub below-more : (P : ℕ → Type 0) (n : ℕ) → ((i : ℕ) → i < n → P i) → P n → (i : ℕ) → i < n + 1 → P i
@@ -83,14 +94,6 @@ lowest-is p (suc n) j h e = go (p 0) refl j h e (λ i k f. lowest-is (λ i. p (s
     go true z j h e r = record { passes = z; below = omega arith; least = λ i f. omega arith }
     go false z zero h e r = absurd (true≢false (sym e ∙ z))
     go false z (suc j) h e r = let L = r j (omega arith) e in record { passes = L .passes; below = omega (arith, L .below); least = least-suc z L }
-
--- where different places hold different elements, none stands there twice
-pub distinct-places : (l : List ℕ) → ((i j : ℕ) → i < length l → j < length l → getD l i 0 ≡ getD l j 0 → i ≡ j) → Distinct l
-distinct-places [] f = tt
-distinct-places (x ∷ xs) f = (apart, distinct-places xs (λ i j h k e. let z : suc i ≡ suc j = f (suc i) (suc j) (omega arith) (omega arith) e in omega arith))
-  where
-    apart : List·Memᴰ x xs → ⊥
-    apart m = let P = mem-at xs x 0 m in let k : P .0 < length xs = P .1 in let z : 0 ≡ suc (P .0) = f 0 (suc (P .0)) (omega arith) (omega arith) (sym (P .2)) in omega arith
 
 -- The order of words.
 

@@ -15,9 +15,29 @@ use Rattle.graph.specs.Reached.{Reached, initial, byEdge, ReachedCycle, 
 use Rattle.graph.proofs.Lists.{same?, member-mem, mem-member, upTo-mem, mem-upTo, keep-mem, mem-keep}
 use Rattle.graph.proofs.Walk.{edge-walk, walk-then, freed, freed-short}
 
-pub reached-map : {E F : ℕ → ℕ → Type 0} → ((s r : ℕ) → E s r → F s r) → {starts : List ℕ} {s : ℕ} → Reached E starts s → Reached F starts s
-reached-map f (initial m) = initial m
-reached-map f (byEdge {s} {r} R g) = byEdge (reached-map f R) (f s r g)
+pub reached-map : {E F : ℕ → ℕ → Type 0} {starts others : List ℕ} → ((s : ℕ) → List·Memᴰ s starts → List·Memᴰ s others) → ((s r : ℕ) → E s r → F s r) → {s : ℕ} → Reached E starts s
+    → Reached F others s
+reached-map i f (initial {s} m) = initial (i s m)
+reached-map i f (byEdge {s} {r} R g) = byEdge (reached-map i f R) (f s r g)
+
+-- marks that the starts have and that edges carry on are on all that is reached
+pub closed-reached : (E : ℕ → ℕ → Type 0) (starts : List ℕ) (Marked : ℕ → Type 0) → ((s : ℕ) → List·Memᴰ s starts → Marked s) → ((s r : ℕ) → Marked s → E s r → Marked r)
+    → {s : ℕ} → Reached E starts s → Marked s
+closed-reached E starts Marked b c (initial {s} m) = b s m
+closed-reached E starts Marked b c (byEdge {s} {r} R g) = c s r (closed-reached E starts Marked b c R) g
+
+-- what is reached from a reached state is reached
+pub reached-from : (E : ℕ → ℕ → Type 0) (starts : List ℕ) {r : ℕ} → Reached E starts r → {s : ℕ} → Reached E (r ∷ []) s → Reached E starts s
+reached-from E starts R =
+    closed-reached E (_ ∷ []) (Reached E starts) (λ s m. ⊎-elim (λ u. rw u R) (λ u. absurd (List·Memᴰ·not-nil u)) (List·Memᴰ·cases-cons m)) (λ s r S g. byEdge S g)
+
+-- what a walk leads to from a reached state is reached
+pub reached-along : (E : ℕ → ℕ → Type 0) (starts : List ℕ) {x s : ℕ} → Reached E starts x → Walk E x s → Reached E starts s
+reached-along E starts R w = go _ (w .0) R (w .1)
+  where
+    go : (x : ℕ) (l : List ℕ) {s : ℕ} → Reached E starts x → Through E x l s → Reached E starts s
+    go x [] R T = byEdge R T
+    go x (y ∷ l) R T = go y l (byEdge R (T .0)) (T .1)
 
 -- what is reached is a start, or a walk leads there from one
 pub reached-walk : (E : ℕ → ℕ → Type 0) (starts : List ℕ) {s : ℕ} → Reached E starts s → List·Memᴰ s starts ⊎ ((i : ℕ) × List·Memᴰ i starts × Walk E i s)

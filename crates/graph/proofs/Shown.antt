@@ -5,7 +5,7 @@ use native.Mathlib.Omega.{arith}
 use mathlib.Core.Path.{_≡_, refl, sym, ap, subst, _∙_}
 use mathlib.Core.Logic.{⊎-elim, _↔_}
 use mathlib.Core.Bool.{Bool, true, false, _&&_, true≢false}
-use mathlib.Core.List.{List, [], _∷_}
+use mathlib.Core.List.{List, [], _∷_, List·Memᴰ}
 use lib.ListN.{length}
 use Rattle.table_format.proofs.Tests.{and-left, and-right, and-both}
 use Rattle.table_format.proofs.Any.{any-found, any-mem}
@@ -13,7 +13,7 @@ use Rattle.graph.specs.Lists.{Distinct, AllBelow, member, upTo, lowest}
 use Rattle.graph.specs.Walk.{Through, Walk, CycleStates, Among, Decides}
 use Rattle.graph.specs.Cycle.{enough, backIn, backAfter, onCycle}
 use Rattle.graph.specs.Reached.{Reached, NoReachedCycle, ReachedCycle, reached}
-use Rattle.graph.specs.Shown.{ShownFrom, Shown, nextThrough, firstThrough, looped, hasReachedCycle, shownCycle}
+use Rattle.graph.specs.Shown.{FirstCycle, ShownFrom, Shown, nextThrough, firstThrough, cycleFrom, looped, hasReachedCycle, shownCycle}
 use Rattle.graph.proofs.Lists.{member-mem, mem-member, upTo-mem, mem-upTo, Lowest, lowest-is, before-trans, before-never}
 use Rattle.graph.proofs.Walk.{WalkThrough, through-map, walk-map, freed, walk-below}
 use Rattle.graph.proofs.Cycle.{back-steps, steps-back, walk-on}
@@ -21,42 +21,48 @@ use Rattle.graph.proofs.Reached.{reached-map, reached-is}
 use Rattle.graph.proofs.First.{Traced, traced-through, traced-first}
 
 -- Only one, and none twice.
-module _ (A E : ℕ → ℕ → Type 0) (starts : List ℕ) where
-  same-start : (s : ℕ) (l k : List ℕ) → ShownFrom A E starts s l → ShownFrom A E starts s k → l ≡ k
-  same-start s l k P Q =
-      let h : length k ≡ length l = omega (arith, P .shortest k (Q .closed), Q .shortest l (P .closed)) in
-      ⊎-elim sym (λ u. ⊎-elim (λ v. v) (λ v. absurd (before-never l (before-trans l k l u v))) (Q .first l (P .closed) (sym h))) (P .first k (Q .closed) h)
+pub first-only : (E : ℕ → ℕ → Type 0) (s : ℕ) (l k : List ℕ) → FirstCycle E s l → FirstCycle E s k → l ≡ k
+first-only E s l k P Q =
+    let h : length k ≡ length l = omega (arith, P .shortest k (Q .closed), Q .shortest l (P .closed)) in
+    ⊎-elim sym (λ u. ⊎-elim (λ v. v) (λ v. absurd (before-never l (before-trans l k l u v))) (Q .first l (P .closed) (sym h))) (P .first k (Q .closed) h)
 
+first-distinct : (E : ℕ → ℕ → Type 0) (s : ℕ) (l : List ℕ) → FirstCycle E s l → CycleStates E (s ∷ l)
+first-distinct E s l P =
+    let F = freed E s l s (P .closed) in
+    (P .closed, ⊎-elim (λ u. subst (λ (x : List ℕ). Distinct (s ∷ x)) u (F .distinct)) (λ u. absurd (let h : length l ≤ length (F .states) = P .shortest (F .states) (F .leads) in omega arith)) (F .no-longer))
+
+module _ (A E : ℕ → ℕ → Type 0) (starts : List ℕ) where
   pub shown-only : (c d : List ℕ) → Shown A E starts c → Shown A E starts d → c ≡ d
   shown-only [] d P Q = absurd P
   shown-only (s ∷ l) [] P Q = absurd Q
   shown-only (s ∷ l) (r ∷ k) P Q =
-      let h : r ≡ s = omega (arith, P .lowest-state r (Q .is-reached) (k, Q .closed), Q .lowest-state s (P .is-reached) (l, P .closed)) in
-      let Q′ : ShownFrom A E starts s k = subst (λ (x : ℕ). ShownFrom A E starts x k) h Q in
-      rw h (ap (λ (x : List ℕ). s ∷ x) (same-start s l k P Q′))
+      let h : r ≡ s = omega (arith, P .lowest-state r (Q .is-reached) (k, Q .cycle .closed), Q .lowest-state s (P .is-reached) (l, P .cycle .closed)) in
+      let Q′ : FirstCycle E s k = subst (λ (x : ℕ). FirstCycle E x k) h (Q .cycle) in
+      rw h (ap (λ (x : List ℕ). s ∷ x) (first-only E s l k (P .cycle) Q′))
 
   pub shown-distinct : (c : List ℕ) → Shown A E starts c → CycleStates E c
   shown-distinct [] P = absurd P
-  shown-distinct (s ∷ l) P =
-      let F = freed E s l s (P .closed) in
-      (P .closed, ⊎-elim (λ u. subst (λ (x : List ℕ). Distinct (s ∷ x)) u (F .distinct)) (λ u. absurd (let h : length l ≤ length (F .states) = P .shortest (F .states) (F .leads) in omega arith)) (F .no-longer))
+  shown-distinct (s ∷ l) P = first-distinct E s l (P .cycle)
 
   -- so it is a cycle that is reached
   pub shown-cycle : (c : List ℕ) → Shown A E starts c → ReachedCycle A E starts c
   shown-cycle [] P = P
   shown-cycle (s ∷ l) P = (P .is-reached, shown-distinct (s ∷ l) P)
 
--- the same of another graph that has the same edges
-module _ {A E B F : ℕ → ℕ → Type 0} (starts : List ℕ) (to : (s r : ℕ) → A s r ↔ B s r) (on : (s r : ℕ) → E s r ↔ F s r) where
-  pub shown-map : (c : List ℕ) → Shown A E starts c → Shown B F starts c
+-- the same of another graph that has the same starts and edges
+module _ {A E B F : ℕ → ℕ → Type 0} {starts others : List ℕ} (same : (s : ℕ) → List·Memᴰ s starts ↔ List·Memᴰ s others) (to : (s r : ℕ) → A s r ↔ B s r) (on : (s r : ℕ) → E s r ↔ F s r) where
+  pub shown-map : (c : List ℕ) → Shown A E starts c → Shown B F others c
   shown-map [] P = P
   shown-map (s ∷ l) P =
       record {
-        is-reached = reached-map (λ x y. to x y .0) (P .is-reached);
-        closed = through-map (λ x y. on x y .0) s l s (P .closed);
-        lowest-state = λ r R w. P .lowest-state r (reached-map (λ x y. to x y .1) R) (walk-map (λ x y. on x y .1) r r w);
-        shortest = λ k T. P .shortest k (through-map (λ x y. on x y .1) s k s T);
-        first = λ k T. P .first k (through-map (λ x y. on x y .1) s k s T);
+        is-reached = reached-map (λ x. same x .0) (λ x y. to x y .0) (P .is-reached);
+        lowest-state = λ r R w. P .lowest-state r (reached-map (λ x. same x .1) (λ x y. to x y .1) R) (walk-map (λ x y. on x y .1) r r w);
+        cycle =
+            record {
+              closed = through-map (λ x y. on x y .0) s l s (P .cycle .closed);
+              shortest = λ k T. P .cycle .shortest k (through-map (λ x y. on x y .1) s k s T);
+              first = λ k T. P .cycle .first k (through-map (λ x y. on x y .1) s k s T);
+            };
       }
 
 -- The first walk of m states from x to s.
@@ -102,11 +108,23 @@ module _ (E : ℕ → ℕ → Type 0) (e : ℕ → ℕ → Bool) (n : ℕ) (D : 
     least-size : Lowest (backAfter e n s) n size
     least-size = let R = any-found (backAfter e n s) (enough n) h in lowest-is (backAfter e n s) n (R .0) (mem-upTo n (R .0) (R .1)) (R .2)
 
-    first-cycle : FirstIs size s
-    first-cycle = first-is size s (back-steps E e n D s size s (member-mem s (backIn e n s size) (least-size .passes)))
+    of-size : FirstIs size s
+    of-size = first-is size s (back-steps E e n D s size s (member-mem s (backIn e n s size) (least-size .passes)))
 
     no-shorter : (k : List ℕ) → Through E s k s → size ≤ length k
     no-shorter k T = least-size .least (length k) (mem-member s (backIn e n s (length k)) (steps-back E e n D G s (length k) s (k, T, refl)))
+
+    first-cycle : FirstCycle E s (firstThrough e n s size s)
+    first-cycle =
+        record {
+          closed = traced-through E s s (firstThrough e n s size s) (of-size .0);
+          shortest = λ k T. omega (arith, of-size .1, no-shorter k T);
+          first = traced-first E s s (firstThrough e n s size s) (of-size .0);
+        }
+
+  -- the computed one is the only one
+  pub cycle-from : (l : List ℕ) → FirstCycle E s l → cycleFrom e n s ≡ s ∷ l
+  cycle-from l F = ap (λ (x : List ℕ). s ∷ x) (first-only E s (firstThrough e n s (lowest (backAfter e n s) n) s) l (first-cycle (walk-on E e n D G s (l, F .closed))) F)
 
 module _ (A E : ℕ → ℕ → Type 0) (a e : ℕ → ℕ → Bool) (n : ℕ) (starts : List ℕ) (DA : Decides A a) (DE : Decides E e) (GA : Among A n) (GE : Among E n) (B : AllBelow n starts) where
   looped-true : (s : ℕ) → Reached A starts s → Walk E s s → looped a e n starts s ≡ true
@@ -117,14 +135,10 @@ module _ (A E : ℕ → ℕ → Type 0) (a e : ℕ → ℕ → Bool) (n : ℕ) (
 
   from-is : (s : ℕ) → Lowest (looped a e n starts) n s → ShownFrom A E starts s (firstThrough e n s (lowest (backAfter e n s) n) s)
   from-is s L =
-      let on : onCycle e n s ≡ true = and-right (member s (reached a n starts)) (onCycle e n s) (L .passes) in
-      let F = first-cycle E e n DE GE s on in
       record {
         is-reached = reached-is A a n starts DA GA B s .0 (member-mem s (reached a n starts) (and-left (member s (reached a n starts)) (onCycle e n s) (L .passes)));
-        closed = traced-through E s s (firstThrough e n s (lowest (backAfter e n s) n) s) (F .0);
         lowest-state = λ r R w. L .least r (looped-true r R w);
-        shortest = λ k T. omega (arith, F .1, no-shorter E e n DE GE s on k T);
-        first = traced-first E s s (firstThrough e n s (lowest (backAfter e n s) n) s) (F .0);
+        cycle = first-cycle E e n DE GE s (and-right (member s (reached a n starts)) (onCycle e n s) (L .passes));
       }
 
   -- where the test says so, the computed cycle is the one to be shown, and else there is none
@@ -134,15 +148,26 @@ module _ (A E : ℕ → ℕ → Type 0) (a e : ℕ → ℕ → Bool) (n : ℕ) (
       let R = any-found (looped a e n starts) (upTo n) h in
       rw h (from-is (lowest (looped a e n starts) n) (lowest-is (looped a e n starts) n (R .0) (mem-upTo n (R .0) (R .1)) (R .2)))
 
-  -- so there are states of a reached cycle
-  pub some-test : hasReachedCycle a e n starts ≡ true → (c : List ℕ) × ReachedCycle A E starts c
-  some-test h = (shownCycle a e n starts, shown-cycle A E starts (shownCycle a e n starts) (shown-test h))
-
   pub none-test : hasReachedCycle a e n starts ≡ false → NoReachedCycle A E starts × (shownCycle a e n starts ≡ [])
   unfolding shownCycle
   none-test h = (λ s R w. true≢false (sym (has s R w) ∙ h), rw h)
 
+  pub shown-none : NoReachedCycle A E starts → shownCycle a e n starts ≡ []
+  shown-none N = go (hasReachedCycle a e n starts) refl
+    where
+      clash : (c : List ℕ) → ReachedCycle A E starts c → ⊥
+      clash [] C = C
+      clash (s ∷ l) C = N s (C .0) (l, C .1 .0)
+
+      go : (b : Bool) → hasReachedCycle a e n starts ≡ b → shownCycle a e n starts ≡ []
+      go true h = absurd (clash (shownCycle a e n starts) (shown-cycle A E starts (shownCycle a e n starts) (shown-test h)))
+      go false h = none-test h .1
+
   -- whatever is to be shown is what is computed
   pub shown-equal : (c : List ℕ) → Shown A E starts c → shownCycle a e n starts ≡ c
   shown-equal [] P = absurd P
-  shown-equal (s ∷ l) P = shown-only A E starts (shownCycle a e n starts) (s ∷ l) (shown-test (has s (P .is-reached) (l, P .closed))) P
+  shown-equal (s ∷ l) P = shown-only A E starts (shownCycle a e n starts) (s ∷ l) (shown-test (has s (P .is-reached) (l, P .cycle .closed))) P
+
+  -- from the lowest reached state on a cycle it is the one through that state
+  pub shown-through : (s : ℕ) → Reached A starts s → Walk E s s → ((r : ℕ) → Reached A starts r → Walk E r r → s ≤ r) → shownCycle a e n starts ≡ cycleFrom e n s
+  shown-through s R w low = shown-equal (cycleFrom e n s) (record { is-reached = R; lowest-state = low; cycle = first-cycle E e n DE GE s (walk-on E e n DE GE s w) })

@@ -1,14 +1,13 @@
--- Walks: joined, moved to another graph, by the places of their states, and freed of repeats.
-use Prim.Native.Nat.{ℕ, suc, _+_, _-_, _<_, _≤_}
+-- Walks: joined, moved to another graph, and freed of repeats.
+use Prim.Native.Nat.{ℕ, suc, _<_, _≤_}
 use native.Mathlib.Omega.{arith}
-use native.Mathlib.Numerals.{add-one}
 use mathlib.Core.Path.{_≡_, refl, ap, subst}
 use mathlib.Core.Logic.{_⊎_, inl, inr, ⊎-elim}
 use mathlib.Core.List.{List, [], _∷_, _++_, List·Memᴰ, List·Memᴰ·head, List·Memᴰ·not-nil, List·Memᴰ·cases-cons}
-use lib.ListN.{length, getD}
+use lib.ListN.{length}
 use Rattle.graph.specs.Lists.{Distinct, AllBelow}
 use Rattle.graph.specs.Walk.{Through, Walk, CycleStates, Among}
-use Rattle.graph.proofs.Lists.{among?, distinct-places}
+use Rattle.graph.proofs.Lists.{among?}
 use Rattle.graph.proofs.Pigeon.{pigeon}
 
 pub through-map : {E F : ℕ → ℕ → Type 0} → ((s r : ℕ) → E s r → F s r) → (s : ℕ) (l : List ℕ) (r : ℕ) → Through E s l r → Through F s l r
@@ -35,20 +34,6 @@ module _ (E : ℕ → ℕ → Type 0) where
 
   pub walk-then : {s x r : ℕ} → Walk E s x → E x r → Walk E s r
   walk-then w g = walk-join w (edge-walk g)
-
-  -- a walk and a cycle, by the places of their states
-  pub through-places : (s : ℕ) (l : List ℕ) (r : ℕ) → ((i : ℕ) → i < length l → E (getD (s ∷ l) i 0) (getD l i 0)) → E (getD (s ∷ l) (length l) 0) r → Through E s l r
-  through-places s [] r f g = g
-  through-places s (x ∷ l) r f g = (f 0 (omega arith), through-places x l r (λ i h. f (suc i) (omega arith)) g)
-
-  pub cycle-places : (l : List ℕ) → 0 < length l → ((i : ℕ) → i + 1 < length l → E (getD l i 0) (getD l (i + 1) 0)) → E (getD l (length l - 1) 0) (getD l 0 0)
-      → ((i j : ℕ) → i < length l → j < length l → getD l i 0 ≡ getD l j 0 → i ≡ j) → CycleStates E l
-  cycle-places [] h f g d = absurd (omega arith)
-  cycle-places (x ∷ l) h f g d = (
-    through-places x l x (λ i k. subst (λ (m : ℕ). E (getD (x ∷ l) i 0) (getD (x ∷ l) m 0)) (add-one i) (f i (omega arith)))
-        (subst (λ (m : ℕ). E (getD (x ∷ l) m 0) x) {x = length (x ∷ l) - 1} {y = length l} (omega arith) g),
-    distinct-places (x ∷ l) d,
-  )
 
   -- walks lead from all of l to x; an edge from x lengthens them
   abbrev pub AllLead : ℕ → List ℕ → Type 0

@@ -4,4 +4,5 @@ pub mod Walk
 pub mod Cycle
 pub mod Reached
 pub mod Shown
+pub mod Rings
 pub mod Cost

@@ -21,11 +21,6 @@ abbrev pub ReachedCycle : (A E : ℕ → ℕ → Type 0) → List ℕ → List �
 ReachedCycle A E starts [] = ⊥
 ReachedCycle A E starts (s ∷ l) = Reached A starts s × CycleStates E (s ∷ l)
 
--- such states, or none where no cycle is reached
-abbrev pub CycleOrNone : (A E : ℕ → ℕ → Type 0) → List ℕ → List ℕ → Type 0
-CycleOrNone A E starts [] = NoReachedCycle A E starts
-CycleOrNone A E starts (s ∷ l) = ReachedCycle A E starts (s ∷ l)
-
 module _ (e : ℕ → ℕ → Bool) (n : ℕ) where
   -- l, and where an edge leads from one of l
   abbrev pub spread : List ℕ → List ℕ

@@ -11,15 +11,18 @@ use Rattle.graph.specs.Walk.{Through, Walk}
 use Rattle.graph.specs.Cycle.{backIn, backAfter, onCycle}
 use Rattle.graph.specs.Reached.{Reached, reached}
 
+-- the cycle from s through l back to s is a shortest one through s, and among those the one whose states come first
+pub record FirstCycle (E : ℕ → ℕ → Type 0) (s : ℕ) (l : List ℕ) : Type 0 where
+  pub closed : Through E s l s
+  pub shortest : (k : List ℕ) → Through E s k s → length l ≤ length k
+  pub first : (k : List ℕ) → Through E s k s → length k ≡ length l → (k ≡ l) ⊎ Before l k
+
 module _ (A E : ℕ → ℕ → Type 0) (starts : List ℕ) where
-  -- the cycle from s through l back to s: from the lowest reached state on a cycle, a shortest one through it, and among those the one
-  -- whose states come first
+  -- and s is the lowest reached state on a cycle
   pub record ShownFrom (s : ℕ) (l : List ℕ) : Type 0 where
     pub is-reached : Reached A starts s
-    pub closed : Through E s l s
     pub lowest-state : (r : ℕ) → Reached A starts r → Walk E r r → s ≤ r
-    pub shortest : (k : List ℕ) → Through E s k s → length l ≤ length k
-    pub first : (k : List ℕ) → Through E s k s → length k ≡ length l → (k ≡ l) ⊎ Before l k
+    pub cycle : FirstCycle E s l
 
   -- the same of all its states
   abbrev pub Shown : List ℕ → Type 0

@@ -10,6 +10,7 @@ use Rattle.table_format.specs.Line.{linesOf, malformed, bytesOf}
 use Rattle.table_format.specs.Parse.{accepted, itemFaults, bytesFaults, lineFaults, onward, parseFrom, parsed}
 use Rattle.table_format.specs.Rules.{each, countsHold, headerFaults, initialFaults, terminalFaults, arcFaults, keepsRules}
 use Rattle.table_format.specs.Loaded.{arcsCells, cellsOf, arcsIn, tableIn, loaded}
+use Rattle.graph.specs.Shown.{shownCycle}
 use Rattle.machine.specs.declared.StartAnswer.the-variants.{Ready}
 use Rattle.machine.specs.Frames.{placeHolds}
 use Rattle.machine.specs.Step.{move, step}
@@ -23,7 +24,7 @@ use Rattle.machine.specs.Cases.{AsksAmple, rows, rowsHold, tableK, textK
 use Rattle.machine.proofs.Handed.{handed-there}
 
 pub cases-hold : T (rowsHold rows)
-unfolding rows started outcome asked loaded tableIn arcsIn cellsOf arcsCells keepsRules headerFaults countsHold initialFaults terminalFaults arcFaults each hasIdleCycle call placeHolds advance step move
+unfolding rows started outcome asked loaded tableIn arcsIn cellsOf arcsCells keepsRules headerFaults countsHold initialFaults terminalFaults arcFaults each hasIdleCycle shownCycle call placeHolds advance step move
 cases-hold = tt
 
 -- Table K's text, and the table of the rows.
@@ -39,7 +40,7 @@ cellsK = cellsOf (tableK [])
 abbrev pub lentK : List Lent
 lentK = lentAll cellsK (1 ∷ 2 ∷ []) [] (firstRun 2) [] (big ∷ big ∷ big ∷ [])
 
-pub ready-k : started cellsK 2 (1 ∷ 2 ∷ []) [] [] .answer ≡ Ready
+pub ready-k : started cellsK 2 (1 ∷ 2 ∷ []) [] .answer ≡ Ready
 unfolding started asked loaded tableIn arcsIn cellsOf arcsCells keepsRules headerFaults countsHold initialFaults terminalFaults arcFaults each hasIdleCycle
 ready-k = refl
 

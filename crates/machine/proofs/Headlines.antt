@@ -30,11 +30,11 @@ use Rattle.machine.specs.Call.{Replied, Steps, Stops}
 use Rattle.machine.specs.Order.{accepting, outputs, ListsAllowed, Lists, Narrows}
 use Rattle.machine.specs.Denotation.{initialsTell}
 use Rattle.machine.specs.Transducer.{arcAt, Passed, lettersToRead, writtenBy, machine}
-use Rattle.machine.specs.Idle.{StateReached, IdleWalk, NoIdleCycle, CycleStates, hasIdleCycle}
+use Rattle.machine.specs.Idle.{StateReached, IdleWalk, NoIdleCycle, CycleStates, hasIdleCycle, ShownIdle, shownIdle}
 use Rattle.machine.specs.Stack.{mostFrames, framesIn}
 use Rattle.refusal.specs.Told.{foundKind, refusedKind}
 use Rattle.machine.specs.Asked.{Asked, runs, asked}
-use Rattle.machine.specs.Start.{firstRun, started, startToldBy, StartIs}
+use Rattle.machine.specs.Start.{firstRun, started, startToldBy, StartedIs}
 use Rattle.machine.specs.Reading.{Outcome, toldBy, outcome, CallBy, RefusedLeaves}
 use Rattle.machine.specs.Demand.{Lent, CallTells, Ample, AmpleCalls, other, Handed, received, stepsTold, unended, LastEnds, Demand3}
 use Rattle.machine.specs.Report.{LocallyFinite, _∘_, Word, α, upperAlone, lowerAlone, Output, Cell, arcsOf, kernel, Noetherian, Finite, Solves}
@@ -60,7 +60,6 @@ use Rattle.machine.proofs.Agree as agree
 use Rattle.machine.proofs.Noether as noether
 use Rattle.machine.proofs.Finite as finite
 use Rattle.machine.proofs.Cases as cases
-use Rattle.machine.proofs.Corner as corner
 use Rattle.machine.proofs.Refuted as refuted
 
 -- THE TOUR of any machine.
@@ -188,17 +187,39 @@ arcs-of t rules q = transducer.arc-of t q (ruled t rules .rising)
 pub written-length : (t : Table) (q : Query) (p : Path) (d : Passed) → datum (machine t q) p ≡ some d → length (output (machine t q) p) ≡ writtenBy q d
 written-length = transducer.written-length
 
--- THE START: 12, after 20, 11 and 10, exactly where an idle cycle is reached, with the states of one; and its promise can be kept.
+-- THE CYCLE SHOWN (document 02, slip 8), for any table that keeps the rules and any task: where an idle cycle is reached, what is computed is what
+-- is to be shown, nothing else is, and it is a reached one, none twice. The order in which a table lists its arcs and initial states plays no part.
+
+module _ (t : Table) (k : Task) where
+  module _ (rules : keepsRules t ≡ true) where
+    pub shown-there : (x : ℕ) → StateReached t x → IdleWalk t k x x → ShownIdle t k (shownIdle t k)
+    shown-there x R w = idles.shown-there t k (ruled t rules) (idles.cycle-there t k (ruled t rules) x R w)
+
+    pub shown-is : (c : List ℕ) → ShownIdle t k c → shownIdle t k ≡ c
+    shown-is = idles.shown-is t k (ruled t rules)
+
+  pub shown-only : (c d : List ℕ) → ShownIdle t k c → ShownIdle t k d → c ≡ d
+  shown-only = idles.shown-only t k
+
+  pub shown-states : (c : List ℕ) → ShownIdle t k c → CycleStates t k c
+  shown-states = idles.shown-states t k
+
+pub same-shown : (t u : Table) → keepsRules t ≡ true → keepsRules u ≡ true → ((s : ℕ) → List·Memᴰ s (t .initials) ↔ List·Memᴰ s (u .initials))
+    → ((a : Arc) → List·Memᴰ a (t .arcs) ↔ List·Memᴰ a (u .arcs)) → (k : Task) → shownIdle t k ≡ shownIdle u k
+same-shown t u rules others = idles.same-shown t u (ruled t rules) (ruled u others)
+
+-- THE START: what it ensures has one solution; 12, after 20, 11 and 10, exactly where an idle cycle is reached, with the one that is to be shown.
+
+pub start-is : (x s : Started) → StartedIs x s → s ≡ x
+start-is x s = starts.start-is
 
 module _ (cells : List ℕ) (task : ℕ) (upper lower : List ℕ) where
-  pub start-there : (s : Started) × StartIs cells task upper lower s
-  start-there = starts.start-there cells task upper lower
-
-  module _ (s : Started) (S : StartIs cells task upper lower s) where
+  module _ (s : Started) (S : StartedIs (started cells task upper lower) s) where
     pub twelve : (startToldBy s .number ≡ 12) ↔ ((t : Table) × (q : Query) × (asked cells task upper lower ≡ runs t q) × ((x : ℕ) × StateReached t x × IdleWalk t (q .task) x x))
     twelve = starts.twelve cells task upper lower s S
 
-    pub twelve-tells : (t : Table) (q : Query) → asked cells task upper lower ≡ runs t q → startToldBy s .number ≡ 12 → CycleStates t (q .task) (take (startToldBy s .length) (s .cycle))
+    pub twelve-tells : (t : Table) (q : Query) → asked cells task upper lower ≡ runs t q → startToldBy s .number ≡ 12
+        → (take (startToldBy s .length) (s .cycle) ≡ shownIdle t (q .task)) × ShownIdle t (q .task) (shownIdle t (q .task))
     twelve-tells t q a = starts.twelve-tells cells task upper lower t q (ruled t (asks.asked-facts cells task upper lower t q a .keeps-rules)) a s S
 
     pub cycle-cells : length (s .cycle) ≡ 256
@@ -213,7 +234,7 @@ module _ (cells : List ℕ) (task : ℕ) (upper lower : List ℕ) where
   demand-three-bounded t q B F = demand.demand-3 t q B F cells upper lower task
 
   -- from what a start without a refusal ensures
-  pub demand-three : (s : Started) → StartIs cells task upper lower s → s .answer ≡ Ready
+  pub demand-three : (s : Started) → StartedIs (started cells task upper lower) s → s .answer ≡ Ready
       → (t : Table) × (q : Query) × (asked cells task upper lower ≡ runs t q)
       × ((xs : List Lent) → Handed upper lower cells (s .run) [] xs → Demand3 upper lower t q (s .run) xs)
   demand-three s S e = (
@@ -256,7 +277,7 @@ call-tells-one = demand.call-tells-one
 
 -- FROM THE START TO THE END: what was received is the outputs of the accepting paths, which are report 6486's accepting traces (DEMAND 2), each
 -- once and in order.
-module _ (cells : List ℕ) (task : ℕ) (upper lower : List ℕ) (s : Started) (S : StartIs cells task upper lower s) where
+module _ (cells : List ℕ) (task : ℕ) (upper lower : List ℕ) (s : Started) (S : StartedIs (started cells task upper lower) s) where
   pub start-to-end : s .answer ≡ Ready
       → (t : Table) × (q : Query) × (asked cells task upper lower ≡ runs t q) × (keepsRules t ≡ true) × NoIdleCycle t (q .task)
       × ((xs : List Lent) → Handed upper lower cells (s .run) [] xs → LastEnds upper lower (s .run) xs
@@ -290,7 +311,7 @@ module _ (cells upper lower : List ℕ) where
   pub handed-there : (asks : List Ask) (r : Run) → r .depth ≡ 0 → Handed upper lower cells r [] (lentAll cells upper lower r [] asks)
   handed-there asks r e = handed.handed-there cells upper lower asks r [] (omega arith)
 
-  module _ (task : ℕ) (s : Started) (S : StartIs cells task upper lower s) where
+  module _ (task : ℕ) (s : Started) (S : StartedIs (started cells task upper lower) s) where
     -- what is claimed of a table and a query
     pub record EndComes (t : Table) (q : Query) : Type 0 where
       pub asked-is : asked cells task upper lower ≡ runs t q
@@ -340,7 +361,7 @@ module _ (cells upper lower : List ℕ) where
             ends (lentAll cells upper lower (s .run) [] ks) (handed-there ks (s .run) (ap (λ (r : Run). r .depth) (starts.ready-facts cells task upper lower s S e .run-is))) (length ks) (handed.asks-ample t q B cells upper lower ks (s .run) [] A)
 
 -- An instance: table K, synthesis of 01 02, three calls. The start is ready, the calls are handed on as demand 3 says, and the last answers Ended.
-pub instance-k : (started cases.cellsK 2 (1 ∷ 2 ∷ []) [] [] .answer ≡ Ready) × Handed (1 ∷ 2 ∷ []) [] cases.cellsK (firstRun 2) [] cases.lentK × LastEnds (1 ∷ 2 ∷ []) [] (firstRun 2) cases.lentK
+pub instance-k : (started cases.cellsK 2 (1 ∷ 2 ∷ []) [] .answer ≡ Ready) × Handed (1 ∷ 2 ∷ []) [] cases.cellsK (firstRun 2) [] cases.lentK × LastEnds (1 ∷ 2 ∷ []) [] (firstRun 2) cases.lentK
 instance-k = (cases.ready-k, cases.handed-k, cases.ends-k)
 
 -- On table K, calls that are just enough, any number of them; and calls of every kind, of which five do not answer Ended: Paused, Found, 22, 21 and
@@ -369,7 +390,7 @@ module _ (M : Machine) (C : Store (Frame (M .D))) (l : ℕ) where
 -- "EVERY CALL GETS THE START'S TABLE": of the cells, the loaded table alone counts; what stands behind it does not.
 
 module _ (c d : List ℕ) (e : loaded c ≡ loaded d) where
-  pub same-start : (task : ℕ) (upper lower cycle : List ℕ) → started c task upper lower cycle ≡ started d task upper lower cycle
+  pub same-start : (task : ℕ) (upper lower : List ℕ) → started c task upper lower ≡ started d task upper lower
   same-start = starts.same-started c d e
 
   pub same-call : (upper lower : List ℕ) (run : Run) (stack : List ℕ) (n : ℕ) (buffer : List ℕ) → outcome c upper lower run stack n buffer ≡ outcome d upper lower run stack n buffer
@@ -430,7 +451,3 @@ cases-hold = cases.cases-hold
 
 pub text-k : parsed textK ≡ accepted (tableK [])
 text-k = cases.text-k
-
--- In the rows that are refused for a loop, the table has another loop, which is not reached; what 12 tells is the one that is, in every task.
-pub corner-told : (k : Task) (c : List ℕ) → CycleStates (cornerK connected) k c → c ≡ 5 ∷ []
-corner-told = corner.corner-told

@@ -1,8 +1,11 @@
--- The test for an idle cycle that is reached is right, and where it says so there are states that refusal 12 can tell.
+-- The test for an idle cycle that is reached is right, and where it says so the computed cycle is the one to be shown.
 use Prim.Native.Nat.{ℕ, _<_}
-use mathlib.Core.Path.{_≡_, refl, subst}
+use native.Mathlib.Omega.{arith}
+use mathlib.Core.Path.{_≡_, refl, sym, subst, _∙_}
+use mathlib.Core.Logic.{_↔_}
 use mathlib.Core.Bool.{Bool, true, false, _&&_}
 use mathlib.Core.List.{List, [], _∷_, List·Memᴰ}
+use lib.ListN.{length}
 use lib.Dec.{eqb}
 use borrow.Author.Tests.{eqb-true, eq-eqb}
 use Rattle.table_format.specs.Table.{Arc, Table}
@@ -11,12 +14,12 @@ use Rattle.table_format.proofs.Any.{any-found, any-mem}
 use Rattle.table_format.proofs.Ruled.{Ruled}
 use Rattle.graph.specs.Walk.{Among, Decides}
 use Rattle.graph.proofs.Reached.{cycle-reached}
-use Rattle.graph.proofs.Shown.{some-test, none-test}
+use Rattle.graph.proofs.Shown as graphs
 use Rattle.machine.specs.Query.{Task}
-use Rattle.machine.specs.Idle.{idle, Leads, leadsBy, always, AnyArc, StateReached, IdleArc, IdleWalk, NoIdleCycle, CycleStates, hasIdleCycle}
+use Rattle.machine.specs.Idle.{idle, Leads, leadsBy, always, AnyArc, StateReached, IdleArc, IdleWalk, NoIdleCycle, CycleStates, hasIdleCycle, ShownIdle, shownIdle}
 
 -- the test tells the arcs
-tells : (arcs : List Arc) (test : Arc → Bool) → Decides (Leads arcs test) (leadsBy arcs test)
+pub tells : (arcs : List Arc) (test : Arc → Bool) → Decides (Leads arcs test) (leadsBy arcs test)
 tells arcs test s r = (
   λ e. let R = any-found (λ a. test a && (eqb (a .source) s && eqb (a .target) r)) arcs e in
       let a : Arc = R .0 in
@@ -42,31 +45,82 @@ among t U test s r A = (
 pub any-arc : {arcs : List Arc} {test : Arc → Bool} (s r : ℕ) → Leads arcs test s r → AnyArc arcs s r
 any-arc s r A = record { arc = A .arc; listed = A .listed; from = A .from; to = A .to; passes = refl }
 
-module _ (t : Table) (k : Task) where
-  -- the states that 12 tells are those of an idle cycle that is reached
-  pub cycle-walk : (c : List ℕ) → CycleStates t k c → (s : ℕ) × StateReached t s × IdleWalk t k s s
-  cycle-walk [] C = absurd C
-  cycle-walk (s ∷ l) C = (s, C .0, (l, C .1 .0))
+-- and one of another list that has all arcs of the first
+leads-map : {arcs others : List Arc} {test : Arc → Bool} → ((a : Arc) → List·Memᴰ a arcs → List·Memᴰ a others) → (s r : ℕ) → Leads arcs test s r → Leads others test s r
+leads-map i s r A = record { arc = A .arc; listed = i (A .arc) (A .listed); from = A .from; to = A .to; passes = A .passes }
 
+leads-same : {arcs others : List Arc} {test : Arc → Bool} → ((a : Arc) → List·Memᴰ a arcs ↔ List·Memᴰ a others) → (s r : ℕ) → Leads arcs test s r ↔ Leads others test s r
+leads-same f s r = (leads-map (λ a. f a .0) s r, leads-map (λ a. f a .1) s r)
+
+module _ (t : Table) (k : Task) where
   pub told-reached : (c : List ℕ) → CycleStates t k c → (s : ℕ) → List·Memᴰ s c → StateReached t s
   told-reached = cycle-reached (AnyArc (t .arcs)) (IdleArc t k) (t .initials) any-arc
 
+  -- only one is to be shown, and its states are those of an idle cycle that is reached, none twice
+  pub shown-only : (c d : List ℕ) → ShownIdle t k c → ShownIdle t k d → c ≡ d
+  shown-only = graphs.shown-only (AnyArc (t .arcs)) (IdleArc t k) (t .initials)
+
+  pub shown-states : (c : List ℕ) → ShownIdle t k c → CycleStates t k c
+  shown-states = graphs.shown-cycle (AnyArc (t .arcs)) (IdleArc t k) (t .initials)
+
+  -- so a reached state is on one, and there is a state to tell
+  pub shown-walk : (c : List ℕ) → ShownIdle t k c → (s : ℕ) × StateReached t s × IdleWalk t k s s
+  shown-walk [] C = absurd C
+  shown-walk (s ∷ l) C = (s, C .is-reached, (l, C .cycle .closed))
+
+  pub shown-some : (c : List ℕ) → ShownIdle t k c → length c ≡ 0 → ⊥
+  shown-some [] C e = C
+  shown-some (s ∷ l) C e = omega arith
+
   module _ (U : Ruled t) where
-    pub cycle-there : hasIdleCycle t k ≡ true → (c : List ℕ) × CycleStates t k c
+    pub shown-there : hasIdleCycle t k ≡ true → ShownIdle t k (shownIdle t k)
     unfolding hasIdleCycle
-    cycle-there e =
-        some-test (AnyArc (t .arcs)) (IdleArc t k) (leadsBy (t .arcs) always) (leadsBy (t .arcs) (idle k)) (t .states) (t .initials)
-        (tells (t .arcs) always) (tells (t .arcs) (idle k)) (among t U always) (among t U (idle k)) (U .initial-in) e
+    shown-there =
+        graphs.shown-test (AnyArc (t .arcs)) (IdleArc t k) (leadsBy (t .arcs) always) (leadsBy (t .arcs) (idle k)) (t .states) (t .initials)
+        (tells (t .arcs) always) (tells (t .arcs) (idle k)) (among t U always) (among t U (idle k)) (U .initial-in)
+
+    by-none : hasIdleCycle t k ≡ false → NoIdleCycle t k × (shownIdle t k ≡ [])
+    unfolding hasIdleCycle
+    by-none =
+        graphs.none-test (AnyArc (t .arcs)) (IdleArc t k) (leadsBy (t .arcs) always) (leadsBy (t .arcs) (idle k)) (t .states) (t .initials)
+        (tells (t .arcs) always) (tells (t .arcs) (idle k)) (among t U always) (among t U (idle k)) (U .initial-in)
+
+    pub shown-none : hasIdleCycle t k ≡ false → shownIdle t k ≡ []
+    shown-none e = by-none e .1
+
+    -- whatever is to be shown is what is computed
+    pub shown-is : (c : List ℕ) → ShownIdle t k c → shownIdle t k ≡ c
+    shown-is =
+        graphs.shown-equal (AnyArc (t .arcs)) (IdleArc t k) (leadsBy (t .arcs) always) (leadsBy (t .arcs) (idle k)) (t .states) (t .initials)
+        (tells (t .arcs) always) (tells (t .arcs) (idle k)) (among t U always) (among t U (idle k)) (U .initial-in)
+
+    pub none-found : hasIdleCycle t k ≡ false → NoIdleCycle t k
+    none-found e = by-none e .0
+
+    pub cycle-there : (x : ℕ) → StateReached t x → IdleWalk t k x x → hasIdleCycle t k ≡ true
+    cycle-there x R w = go (hasIdleCycle t k) refl
+      where
+        go : (b : Bool) → hasIdleCycle t k ≡ b → b ≡ true
+        go true e = refl
+        go false e = absurd (none-found e x R w)
 
     pub none-there : NoIdleCycle t k → hasIdleCycle t k ≡ false
     none-there N = go (hasIdleCycle t k) refl
       where
         go : (b : Bool) → hasIdleCycle t k ≡ b → b ≡ false
-        go true e = absurd (let C = cycle-there e in let W = cycle-walk (C .0) (C .1) in N (W .0) (W .1) (W .2))
+        go true e = absurd (let W = shown-walk (shownIdle t k) (shown-there e) in N (W .0) (W .1) (W .2))
         go false e = refl
 
-    pub none-found : hasIdleCycle t k ≡ false → NoIdleCycle t k
-    unfolding hasIdleCycle
-    none-found e =
-        none-test (AnyArc (t .arcs)) (IdleArc t k) (leadsBy (t .arcs) always) (leadsBy (t .arcs) (idle k)) (t .states) (t .initials)
-        (tells (t .arcs) always) (tells (t .arcs) (idle k)) (among t U always) (among t U (idle k)) (U .initial-in) e .0
+-- Tables with the same initial states and the same arcs, in any order, show the same cycle.
+shown-too : (t u : Table) → ((s : ℕ) → List·Memᴰ s (t .initials) ↔ List·Memᴰ s (u .initials)) → ((a : Arc) → List·Memᴰ a (t .arcs) ↔ List·Memᴰ a (u .arcs)) → (k : Task) (c : List ℕ)
+    → ShownIdle t k c → ShownIdle u k c
+shown-too t u i f k = graphs.shown-map i (leads-same f) (leads-same f)
+
+module _ (t u : Table) (U : Ruled t) (O : Ruled u) (i : (s : ℕ) → List·Memᴰ s (t .initials) ↔ List·Memᴰ s (u .initials)) (f : (a : Arc) → List·Memᴰ a (t .arcs) ↔ List·Memᴰ a (u .arcs)) (k : Task) where
+  pub same-shown : shownIdle t k ≡ shownIdle u k
+  same-shown = go (hasIdleCycle t k) (hasIdleCycle u k) refl refl
+    where
+      go : (a b : Bool) → hasIdleCycle t k ≡ a → hasIdleCycle u k ≡ b → shownIdle t k ≡ shownIdle u k
+      go true b h g = sym (shown-is u k O (shownIdle t k) (shown-too t u i f k (shownIdle t k) (shown-there t k U h)))
+      go false true h g = shown-is t k U (shownIdle u k) (shown-too u t (λ s. (i s .1, i s .0)) (λ a. (f a .1, f a .0)) k (shownIdle u k) (shown-there u k O g))
+      go false false h g = shown-none t k U h ∙ sym (shown-none u k O g)

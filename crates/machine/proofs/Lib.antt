@@ -27,6 +27,5 @@ pub mod Agree
 pub mod Noether
 pub mod Finite
 pub mod Cases
-pub mod Corner
 pub mod Refuted
 pub mod Headlines

@@ -11,7 +11,7 @@ use Rattle.table_format.proofs.Tests.{and-left, and-right}
 use Rattle.table_format.proofs.Ruled.{Ruled}
 use Rattle.graph.specs.Reached.{initial, byEdge}
 use Rattle.graph.proofs.Walk.{rotated}
-use Rattle.graph.proofs.Search.{reached-from}
+use Rattle.graph.proofs.Reached.{reached-from}
 use Rattle.machine.specs.Query.{Task, Side, upperSide, lowerSide, reads, letter, Query}
 use Rattle.machine.specs.Machine.{Path, start, more, size}
 use Rattle.machine.specs.Transducer.{sideWrites, nothingPassed, machine}

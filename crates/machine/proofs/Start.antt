@@ -1,4 +1,4 @@
--- What a start tells: where it is ready, all that demand 3 uses; 12 exactly where an idle cycle is reached; and a start can always be made.
+-- What a start tells: where it is ready, all that demand 3 uses; 12 exactly where an idle cycle is reached, with the one that is to be shown.
 use Prim.Native.Nat.{ℕ, _-_, _≤_}
 use native.Mathlib.Omega.{arith}
 use mathlib.Core.Path.{_≡_, refl, sym, ap, subst, _∙_}
@@ -18,20 +18,17 @@ use Rattle.graph.proofs.Walk.{cycle-short}
 use Rattle.machine.specs.declared.StartAnswer.the-variants.{Ready, Refused}
 use Rattle.machine.specs.declared.Started.{Started}
 use Rattle.machine.specs.Query.{Task, Query}
-use Rattle.machine.specs.Idle.{idle, StateReached, IdleArc, IdleWalk, CycleStates, hasIdleCycle}
+use Rattle.machine.specs.Idle.{idle, StateReached, IdleArc, IdleWalk, CycleStates, hasIdleCycle, ShownIdle, shownIdle}
 use Rattle.machine.specs.Asked.{Asked, turned, runs, asked}
-use Rattle.machine.specs.Start.{firstRun, startedWith, startedAs, started, TellsCycle, startToldBy, StartedIs, StartIs}
+use Rattle.machine.specs.Start.{firstRun, startedWith, startedAs, started, startToldBy, StartedIs}
 use Rattle.machine.proofs.Told.{start-told-one}
-use Rattle.machine.proofs.Idle.{among, cycle-there, cycle-walk, none-found}
+use Rattle.machine.proofs.Idle.{among, shown-states, shown-walk, shown-there, none-found}
 use Rattle.machine.proofs.Asked.{asked-facts, TurnedBy, turned-by, same-asked}
 
 -- a result that tells what another tells is the same
-same-start : {x s : Started} → StartedIs x s → s ≡ x
-same-start {x} {s} E =
+pub start-is : {x s : Started} → StartedIs x s → s ≡ x
+start-is {x} {s} E =
     λ i. record { answer = start-told-one (s .answer) (x .answer) (s .length) (x .length) (E .0) i; run = E .1 i; cycle = E .2 i; length = E .3 i }
-
-pub start-is : {cells : List ℕ} {task : ℕ} {upper lower : List ℕ} {s : Started} (S : StartIs cells task upper lower s) → s ≡ started cells task upper lower (S .cycle)
-start-is S = same-start (S .is)
 
 -- and the other way
 pub is-started : {x s : Started} → s ≡ x → StartedIs x s
@@ -48,44 +45,33 @@ pub record ReadyFacts (w : Asked) (task : ℕ) (s : Started) : Type 0 where
   pub no-cycle : hasIdleCycle table (query .task) ≡ false
   pub run-is : s .run ≡ firstRun task
 
-ready-as : (w : Asked) (task : ℕ) (cycle : List ℕ) → startedAs w task cycle .answer ≡ Ready → ReadyFacts w task (startedAs w task cycle)
-ready-as (turned r) task cycle e = absurd (ready-refused r e)
-ready-as (runs t q) task cycle e = go (hasIdleCycle t (q .task)) refl e
+-- a start that is asked for a table and a query, by the test
+abbrev pub byTest : Table → Query → ℕ → Bool → Started
+byTest t q task b = cond b (startedWith (Refused (Input IdleCycle)) (firstRun 0) (shownIdle t (q .task))) (startedWith Ready (firstRun task) [])
+
+ready-as : (w : Asked) (task : ℕ) → startedAs w task .answer ≡ Ready → ReadyFacts w task (startedAs w task)
+ready-as (turned r) task e = absurd (ready-refused r e)
+ready-as (runs t q) task e = go (hasIdleCycle t (q .task)) refl e
   where
-    go : (b : Bool) → hasIdleCycle t (q .task) ≡ b
-        → cond b (startedWith (Refused (Input IdleCycle)) (firstRun 0) cycle) (startedWith Ready (firstRun task) []) .answer ≡ Ready
-        → ReadyFacts (runs t q) task (cond b (startedWith (Refused (Input IdleCycle)) (firstRun 0) cycle) (startedWith Ready (firstRun task) []))
+    go : (b : Bool) → hasIdleCycle t (q .task) ≡ b → byTest t q task b .answer ≡ Ready → ReadyFacts (runs t q) task (byTest t q task b)
     go true h x = absurd (ready-refused (Input IdleCycle) x)
     go false h x = record { table = t; query = q; is = refl; no-cycle = h; run-is = refl }
 
 module _ (cells : List ℕ) (task : ℕ) (upper lower : List ℕ) where
-  pub ready-facts : (s : Started) → StartIs cells task upper lower s → s .answer ≡ Ready → ReadyFacts (asked cells task upper lower) task s
+  pub ready-facts : (s : Started) → StartedIs (started cells task upper lower) s → s .answer ≡ Ready → ReadyFacts (asked cells task upper lower) task s
   unfolding started
   ready-facts s S e =
-      subst (λ (z : Started). ReadyFacts (asked cells task upper lower) task z) (sym (start-is S)) (ready-as (asked cells task upper lower) task (S .cycle) (ap (λ (z : Started). z .answer) (sym (start-is S)) ∙ e))
+      subst (λ (z : Started). ReadyFacts (asked cells task upper lower) task z) (sym (start-is S)) (ready-as (asked cells task upper lower) task (ap (λ (z : Started). z .answer) (sym (start-is S)) ∙ e))
+
+  -- asked for a table and a query
+  pub started-by : (t : Table) (q : Query) → asked cells task upper lower ≡ runs t q → (b : Bool) → hasIdleCycle t (q .task) ≡ b → started cells task upper lower ≡ byTest t q task b
+  unfolding started
+  started-by t q a b h = ap (λ (w : Asked). startedAs w task) a ∙ ap (byTest t q task) h
 
   -- a start is ready where nothing is refused and no idle cycle is reached
-  pub ready-where : (s : Started) → StartIs cells task upper lower s → (t : Table) (q : Query) → asked cells task upper lower ≡ runs t q → hasIdleCycle t (q .task) ≡ false
+  pub ready-where : (s : Started) → StartedIs (started cells task upper lower) s → (t : Table) (q : Query) → asked cells task upper lower ≡ runs t q → hasIdleCycle t (q .task) ≡ false
       → s .answer ≡ Ready
-  unfolding started
-  ready-where s S t q a h =
-      ap (λ (z : Started). z .answer) (start-is S) ∙ ap (λ (w : Asked). startedAs w task (S .cycle) .answer) a
-      ∙ ap (λ (b : Bool). cond b (startedWith (Refused (Input IdleCycle)) (firstRun 0) (S .cycle)) (startedWith Ready (firstRun task) []) .answer) h
-
-  -- what a start ensures can be had
-  pub start-there : (s : Started) × StartIs cells task upper lower s
-  start-there = go (asked cells task upper lower) refl
-    where
-      by-test : (t : Table) (q : Query) → asked cells task upper lower ≡ runs t q → (b : Bool) → hasIdleCycle t (q .task) ≡ b → (c : List ℕ) × TellsCycle (asked cells task upper lower) c
-      by-test t q a true h = let C = cycle-there t (q .task) (ruled t (asked-facts cells task upper lower t q a .keeps-rules)) h in (C .0, subst (λ (z : Asked). TellsCycle z (C .0)) (sym a) (λ e. C .1))
-      by-test t q a false h = ([], subst (λ (z : Asked). TellsCycle z []) (sym a) (λ e. absurd (let z : _≡_ {A = Bool} true false = sym e ∙ h in let y : _≡_ {A = ℕ} 0 1 = cc in omega arith)))
-
-      cycle-for : (w : Asked) → asked cells task upper lower ≡ w → (c : List ℕ) × TellsCycle (asked cells task upper lower) c
-      cycle-for (turned r) a = ([], subst (λ (z : Asked). TellsCycle z []) (sym a) tt)
-      cycle-for (runs t q) a = by-test t q a (hasIdleCycle t (q .task)) refl
-
-      go : (w : Asked) → asked cells task upper lower ≡ w → (s : Started) × StartIs cells task upper lower s
-      go w a = let C = cycle-for w a in (started cells task upper lower (C .0), record { cycle = C .0; is = (refl, refl, refl, refl); tells = C .1 })
+  ready-where s S t q a h = ap (λ (z : Started). z .answer) (start-is S ∙ started-by t q a false h)
 
 -- a cycle's states are states, at most as many as there are
 module _ (t : Table) (k : Task) (U : Ruled t) where
@@ -94,47 +80,46 @@ module _ (t : Table) (k : Task) (U : Ruled t) where
   cycle-length (s ∷ l) C = cycle-short (IdleArc t k) (t .states) (among t U (idle k)) (s ∷ l) (C .1)
 
 -- a start that is asked for a table and a query
-module _ (cells : List ℕ) (task : ℕ) (upper lower : List ℕ) (t : Table) (q : Query) (U : Ruled t) (a : asked cells task upper lower ≡ runs t q) (s : Started) (S : StartIs cells task upper lower s) where
-  start-as : s ≡ startedAs (runs t q) task (S .cycle)
-  unfolding started
-  start-as = start-is S ∙ ap (λ (w : Asked). startedAs w task (S .cycle)) a
+module _ (cells : List ℕ) (task : ℕ) (upper lower : List ℕ) (t : Table) (q : Query) (U : Ruled t) (a : asked cells task upper lower ≡ runs t q) (s : Started)
+    (S : StartedIs (started cells task upper lower) s) where
+  abbrev shown : List ℕ
+  shown = shownIdle t (q .task)
 
-  tells : hasIdleCycle t (q .task) ≡ true → CycleStates t (q .task) (S .cycle)
-  tells = subst (λ (w : Asked). TellsCycle w (S .cycle)) a (S .tells)
-
-  by-test : (P : Started → Type 0) → (hasIdleCycle t (q .task) ≡ true → P (startedWith (Refused (Input IdleCycle)) (firstRun 0) (S .cycle)))
-      → (hasIdleCycle t (q .task) ≡ false → P (startedWith Ready (firstRun task) [])) → P s
-  by-test P y n = subst P (sym start-as) (go (hasIdleCycle t (q .task)) refl)
+  by-test : (P : Started → Type 0) → (ShownIdle t (q .task) shown → P (byTest t q task true)) → (hasIdleCycle t (q .task) ≡ false → P (byTest t q task false)) → P s
+  by-test P y n = go (hasIdleCycle t (q .task)) refl
     where
-      go : (b : Bool) → hasIdleCycle t (q .task) ≡ b → P (cond b (startedWith (Refused (Input IdleCycle)) (firstRun 0) (S .cycle)) (startedWith Ready (firstRun task) []))
-      go true e = y e
-      go false e = n e
+      with-test : (b : Bool) → hasIdleCycle t (q .task) ≡ b → P (byTest t q task b) → P s
+      with-test b h p = subst P (sym (start-is S ∙ started-by cells task upper lower t q a b h)) p
+
+      go : (b : Bool) → hasIdleCycle t (q .task) ≡ b → P s
+      go true h = with-test true h (y (shown-there t (q .task) U h))
+      go false h = with-test false h (n h)
 
   -- 12 exactly where an idle cycle is reached
   pub twelve-where : (startToldBy s .number ≡ 12) ↔ ((x : ℕ) × StateReached t x × IdleWalk t (q .task) x x)
   twelve-where =
-      by-test (λ z. (startToldBy z .number ≡ 12) ↔ ((x : ℕ) × StateReached t x × IdleWalk t (q .task) x x)) (λ h. (λ e. cycle-walk t (q .task) (S .cycle) (tells h), λ w. refl))
+      by-test (λ z. (startToldBy z .number ≡ 12) ↔ ((x : ℕ) × StateReached t x × IdleWalk t (q .task) x x)) (λ C. (λ e. shown-walk t (q .task) shown C, λ w. refl))
       (λ h. (λ e. absurd (omega arith), λ w. absurd (none-found t (q .task) U h (w .0) (w .1) (w .2))))
 
-  -- the states told with it
-  pub twelve-tells : startToldBy s .number ≡ 12 → CycleStates t (q .task) (take (startToldBy s .length) (s .cycle))
+  -- the cycle told with it
+  pub twelve-tells : startToldBy s .number ≡ 12 → (take (startToldBy s .length) (s .cycle) ≡ shown) × ShownIdle t (q .task) shown
   twelve-tells =
-      by-test (λ z. startToldBy z .number ≡ 12 → CycleStates t (q .task) (take (startToldBy z .length) (z .cycle)))
-      (λ h e. subst (λ (l : List ℕ). CycleStates t (q .task) l) (sym (take-append-seam (S .cycle) (replicate (256 - length (S .cycle)) 0))) (tells h))
+      by-test (λ z. startToldBy z .number ≡ 12 → (take (startToldBy z .length) (z .cycle) ≡ shown) × ShownIdle t (q .task) shown)
+      (λ C e. (take-append-seam shown (replicate (256 - length shown) 0), C))
       (λ h e. absurd (omega arith))
 
   -- the array has 256 cells
   pub cells-where : length (s .cycle) ≡ 256
   cells-where =
       by-test (λ z. length (z .cycle) ≡ 256)
-      (λ h. length-append (S .cycle) (replicate (256 - length (S .cycle)) 0) ∙ omega (arith, length-replicate {A = ℕ} (256 - length (S .cycle)) 0, cycle-length t (q .task) U (S .cycle) (tells h), U .few-states))
+      (λ C. length-append shown (replicate (256 - length shown) 0) ∙ omega (arith, length-replicate {A = ℕ} (256 - length shown) 0, cycle-length t (q .task) U shown (shown-states t (q .task) shown C), U .few-states))
       (λ h. length-replicate {A = ℕ} 256 0)
 
 -- any start
-module _ (cells : List ℕ) (task : ℕ) (upper lower : List ℕ) (s : Started) (S : StartIs cells task upper lower s) where
+module _ (cells : List ℕ) (task : ℕ) (upper lower : List ℕ) (s : Started) (S : StartedIs (started cells task upper lower) s) where
   turned-as : (r : Refusal) → asked cells task upper lower ≡ turned r → s ≡ startedWith (Refused r) (firstRun 0) []
   unfolding started
-  turned-as r a = start-is S ∙ ap (λ (w : Asked). startedAs w task (S .cycle)) a
+  turned-as r a = start-is S ∙ ap (λ (w : Asked). startedAs w task) a
 
   table-ruled : (t : Table) (q : Query) → asked cells task upper lower ≡ runs t q → Ruled t
   table-ruled t q a = ruled t (asked-facts cells task upper lower t q a .keeps-rules)
@@ -160,6 +145,6 @@ module _ (cells : List ℕ) (task : ℕ) (upper lower : List ℕ) (s : Started) 
       go (runs t q) a = cells-where cells task upper lower t q (table-ruled t q a) a s S
 
 -- of the cells, the loaded table alone counts
-pub same-started : (c d : List ℕ) → loaded c ≡ loaded d → (task : ℕ) (upper lower cycle : List ℕ) → started c task upper lower cycle ≡ started d task upper lower cycle
+pub same-started : (c d : List ℕ) → loaded c ≡ loaded d → (task : ℕ) (upper lower : List ℕ) → started c task upper lower ≡ started d task upper lower
 unfolding started
-same-started c d e task upper lower cycle = ap (λ (w : Asked). startedAs w task cycle) (same-asked c d e task upper lower)
+same-started c d e task upper lower = ap (λ (w : Asked). startedAs w task) (same-asked c d e task upper lower)

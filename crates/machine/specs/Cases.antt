@@ -37,10 +37,10 @@ pub data Says : Type 0 where
   saysEnded : ℕ → Says
   saysRefused : ℕ → ℕ → Says
 
--- a start that is refused with a number; or one that is not, calls after it with what they tell, and the tree's size; or one call, with what it
--- tells, on a run of any starts and depth
+-- a start that is refused with a number and the states of a cycle; or one that is not, calls after it with what they tell, and the tree's size;
+-- or one call, with what it tells, on a run of any starts and depth
 pub data Course : Type 0 where
-  refusedWith : ℕ → Course
+  refusedWith : ℕ → List ℕ → Course
   goes : List Ask → List Says → ℕ → Course
   called : ℕ → ℕ → Ask → Says → Course
 
@@ -53,6 +53,10 @@ pub record Row : Type 0 where
   pub course : Course
 
 -- What the definitions give.
+
+-- what a start tells in this paper's numbers, with the states of the cycle, as a word
+abbrev pub startSpelled : Started → List ℕ
+startSpelled s = startToldBy s .kind ∷ startToldBy s .number ∷ take (startToldBy s .length) (s .cycle)
 
 -- what a call tells in this paper's numbers, with the output as it left it, as a word
 abbrev pub spelledBy : Outcome → List ℕ
@@ -106,9 +110,9 @@ module _ (r : Row) where
   abbrev pub cellsFor : List ℕ
   cellsFor = cellsOf (r .table)
 
-  -- what a start gives; which cycle 12 tells is not looked at
+  -- what a start gives
   abbrev pub startOf : Started
-  startOf = started cellsFor (r .task) (r .upper) (r .lower) []
+  startOf = started cellsFor (r .task) (r .upper) (r .lower)
 
   -- what calls after it give
   abbrev pub callsFrom : Run → List Ask → List (List ℕ)
@@ -116,7 +120,7 @@ module _ (r : Row) where
 
   -- whether all goes as the row says
   abbrev pub courseHolds : Course → Bool
-  courseHolds (refusedWith n) = eqb (startToldBy startOf .kind) refusedKind && eqb (startToldBy startOf .number) n
+  courseHolds (refusedWith n states) = sameWord (startSpelled startOf) (refusedKind ∷ n ∷ states)
   courseHolds (goes asks says tree) =
       eqb (startToldBy startOf .kind) doneKind
       && (sameSays (callsFrom (startOf .run) asks) says && eqb (treeOf (asked cellsFor (r .task) (r .upper) (r .lower))) tree)
@@ -194,6 +198,17 @@ connected = arcAs 2 7 8 5 ∷ []
 abbrev corner : List Arc → ℕ → List ℕ → List ℕ → Course → Row
 corner more k u l c = record { table = cornerK more; task = k; upper = u; lower = l; course = c }
 
+-- so many states, of which one is initial, and arcs with a loop that synthesis refuses, with the states told
+abbrev loops : ℕ → ℕ → List Arc → List ℕ → Row
+loops n s arcs states =
+    record {
+      table = record { states = n; initials = s ∷ []; terminals = []; arcs = arcs };
+      task = 2;
+      upper = [];
+      lower = [];
+      course = refusedWith 12 states;
+    }
+
 -- two initial states, 1 before 0, each with one arc to state 2 that reads 1; synthesis of 01
 abbrev pair : ℕ → ℕ → Course → Row
 pair x y c =
@@ -248,27 +263,34 @@ rows =
     -- "Allowance 0 at a start: Paused, 0."
     ∷ row 2 (1 ∷ 2 ∷ []) [] (goes (ask 0 9 2 ∷ []) (saysPaused 0 ∷ []) 20)
     -- "State 0 with the arc 0, 0, 0, 0: 12 in all tasks."
-    ∷ loop 0 0 1 (refusedWith 12)
-    ∷ loop 0 0 2 (refusedWith 12)
-    ∷ loop 0 0 3 (refusedWith 12)
-    ∷ lone 0 0 1 (refusedWith 12)
-    ∷ lone 0 0 2 (refusedWith 12)
-    ∷ lone 0 0 3 (refusedWith 12)
+    ∷ loop 0 0 1 (refusedWith 12 (0 ∷ []))
+    ∷ loop 0 0 2 (refusedWith 12 (0 ∷ []))
+    ∷ loop 0 0 3 (refusedWith 12 (0 ∷ []))
+    ∷ lone 0 0 1 (refusedWith 12 (0 ∷ []))
+    ∷ lone 0 0 2 (refusedWith 12 (0 ∷ []))
+    ∷ lone 0 0 3 (refusedWith 12 (0 ∷ []))
     -- "With 0, 1, 0, 0: 12 in analysis only."
     ∷ loop 1 0 1 (goes (big ∷ []) (saysEnded 5 ∷ []) 5)
     ∷ loop 1 0 2 (goes (big ∷ []) (saysEnded 5 ∷ []) 5)
-    ∷ loop 1 0 3 (refusedWith 12)
+    ∷ loop 1 0 3 (refusedWith 12 (0 ∷ []))
     ∷ lone 1 0 1 (goes (big ∷ []) (saysEnded 3 ∷ []) 3)
     ∷ lone 1 0 2 (goes (big ∷ []) (saysEnded 3 ∷ []) 3)
-    ∷ lone 1 0 3 (refusedWith 12)
+    ∷ lone 1 0 3 (refusedWith 12 (0 ∷ []))
     -- Document 02, slip 2: loops that no arcs reach change nothing; one that arcs reach is refused, whatever their letters and the words, and it
-    -- is the one that is told (`corner-told`)
+    -- is the one that is told
     ∷ corner [] 1 (1 ∷ 2 ∷ []) (1 ∷ 3 ∷ 2 ∷ []) (goes (big ∷ big ∷ []) (saysFound 6 [] ∷ saysEnded 6 ∷ []) 12)
     ∷ corner [] 2 (1 ∷ 2 ∷ []) [] (goes (big ∷ big ∷ big ∷ []) (saysFound 3 (1 ∷ 2 ∷ []) ∷ saysFound 8 (1 ∷ 3 ∷ 2 ∷ []) ∷ saysEnded 9 ∷ []) 20)
     ∷ corner [] 3 [] (1 ∷ 3 ∷ 2 ∷ []) (goes (big ∷ big ∷ []) (saysFound 6 (1 ∷ 2 ∷ []) ∷ saysEnded 6 ∷ []) 12)
-    ∷ corner connected 1 (1 ∷ 2 ∷ []) (1 ∷ 3 ∷ 2 ∷ []) (refusedWith 12)
-    ∷ corner connected 2 (1 ∷ 2 ∷ []) [] (refusedWith 12)
-    ∷ corner connected 3 [] (1 ∷ 3 ∷ 2 ∷ []) (refusedWith 12)
+    ∷ corner connected 1 (1 ∷ 2 ∷ []) (1 ∷ 3 ∷ 2 ∷ []) (refusedWith 12 (5 ∷ []))
+    ∷ corner connected 2 (1 ∷ 2 ∷ []) [] (refusedWith 12 (5 ∷ []))
+    ∷ corner connected 3 [] (1 ∷ 3 ∷ 2 ∷ []) (refusedWith 12 (5 ∷ []))
+    -- Slip 8: "From the lowest state on an idle cycle", though a higher one, which is reached first, has a shorter one
+    ∷ loops 3 2 (arcAs 0 0 0 1 ∷ arcAs 1 0 0 0 ∷ arcAs 2 0 0 0 ∷ arcAs 2 0 0 2 ∷ []) (0 ∷ 1 ∷ [])
+    -- "show a shortest cycle through it", though a lower next state leads back too, and a still shorter one reads a letter
+    ∷ loops 4 0 (arcAs 0 0 0 1 ∷ arcAs 0 0 0 3 ∷ arcAs 0 1 0 0 ∷ arcAs 1 0 0 2 ∷ arcAs 2 0 0 0 ∷ arcAs 3 0 0 0 ∷ []) (0 ∷ 3 ∷ [])
+    -- "among those the one whose state numbers come first, compared one by one"; in any order of the arcs
+    ∷ loops 5 0 (arcAs 0 0 0 1 ∷ arcAs 0 0 0 2 ∷ arcAs 1 0 0 4 ∷ arcAs 2 0 0 3 ∷ arcAs 3 0 0 0 ∷ arcAs 4 0 0 0 ∷ []) (0 ∷ 1 ∷ 4 ∷ [])
+    ∷ loops 5 0 (arcAs 0 0 0 2 ∷ arcAs 0 0 0 1 ∷ arcAs 1 0 0 4 ∷ arcAs 2 0 0 3 ∷ arcAs 3 0 0 0 ∷ arcAs 4 0 0 0 ∷ []) (0 ∷ 1 ∷ 4 ∷ [])
     -- "Here the first listed goes first."
     ∷ pair 5 6 (goes (big ∷ big ∷ big ∷ []) (saysFound 2 (6 ∷ []) ∷ saysFound 4 (5 ∷ []) ∷ saysEnded 2 ∷ []) 8)
     -- "two paths with the same output give it twice"
@@ -281,22 +303,22 @@ rows =
     ∷ round (goes (ask 1000 3 3 ∷ ask 1000 4 3 ∷ ask 1000 4 3 ∷ []) (saysRefused 3 22 ∷ saysFound 1 (5 ∷ 6 ∷ 5 ∷ []) ∷ saysEnded 5 ∷ []) 9)
     -- "Word of 64 starts, 65 gives 10."
     ∷ row 2 (replicate 64 63) [] (goes (big ∷ []) (saysEnded 4 ∷ []) 4)
-    ∷ row 2 (replicate 65 63) [] (refusedWith 10)
+    ∷ row 2 (replicate 65 63) [] (refusedWith 10 [])
     ∷ row 3 [] (replicate 64 63) (goes (big ∷ []) (saysEnded 4 ∷ []) 4)
-    ∷ row 3 [] (replicate 65 63) (refusedWith 10)
+    ∷ row 3 [] (replicate 65 63) (refusedWith 10 [])
     -- letter 63 is a letter, 64 is none
     ∷ row 2 (63 ∷ []) [] (goes (big ∷ []) (saysEnded 4 ∷ []) 4)
-    ∷ row 2 (64 ∷ []) [] (refusedWith 10)
+    ∷ row 2 (64 ∷ []) [] (refusedWith 10 [])
     -- "Unknown task"
-    ∷ row 0 [] [] (refusedWith 11)
-    ∷ row 4 [] [] (refusedWith 11)
+    ∷ row 0 [] [] (refusedWith 11 [])
+    ∷ row 4 [] [] (refusedWith 11 [])
     -- "Start: 20, 11, 10, 12."
-    ∷ twice 4 (0 ∷ []) (refusedWith 20)
-    ∷ twice 2 [] (refusedWith 20)
-    ∷ row 4 (1 ∷ []) (0 ∷ []) (refusedWith 11)
-    ∷ row 2 (0 ∷ []) (1 ∷ []) (refusedWith 11)
-    ∷ row 3 (1 ∷ []) (0 ∷ []) (refusedWith 11)
-    ∷ row 2 (0 ∷ []) [] (refusedWith 10)
+    ∷ twice 4 (0 ∷ []) (refusedWith 20 [])
+    ∷ twice 2 [] (refusedWith 20 [])
+    ∷ row 4 (1 ∷ []) (0 ∷ []) (refusedWith 11 [])
+    ∷ row 2 (0 ∷ []) (1 ∷ []) (refusedWith 11 [])
+    ∷ row 3 (1 ∷ []) (0 ∷ []) (refusedWith 11 [])
+    ∷ row 2 (0 ∷ []) [] (refusedWith 10 [])
     -- "Call: 20, 11, 10, 21": depth 1 with no start is no place in a search
     ∷ twice 4 (0 ∷ []) (called 0 1 big (saysRefused 0 20))
     ∷ row 4 (0 ∷ []) [] (called 0 1 big (saysRefused 0 11))

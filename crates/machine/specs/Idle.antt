@@ -1,5 +1,4 @@
--- Document 01, "Table and paths": idle arcs and idle cycles; document 02, slip 2: cycles that are reached; refusal 12 and the cycle that it
--- tells.
+-- Document 01, "Table and paths": idle arcs and idle cycles; document 02, slip 2: cycles that are reached, slip 8: the one that refusal 12 tells.
 use Prim.Native.Nat.{ℕ, zero, suc}
 use mathlib.Core.Path.{_≡_}
 use mathlib.Core.Bool.{Bool, true, false, _&&_}
@@ -9,7 +8,7 @@ use Rattle.table_format.specs.Table.{Arc, Table}
 use Rattle.table_format.specs.Rules.{any}
 use Rattle.graph.specs.Walk.{Walk}
 use Rattle.graph.specs.Reached.{Reached, NoReachedCycle, ReachedCycle}
-use Rattle.graph.specs.Shown.{hasReachedCycle}
+use Rattle.graph.specs.Shown.{Shown, hasReachedCycle, shownCycle}
 use Rattle.machine.specs.Query.{Task, Side, upperSide, lowerSide, reads, letter}
 
 -- a letter x passes nothing that is read: its side is written, or it is 0
@@ -63,10 +62,19 @@ module _ (t : Table) (k : Task) where
   abbrev pub NoIdleCycle : Type 0
   NoIdleCycle = NoReachedCycle (AnyArc (t .arcs)) IdleArc (t .initials)
 
-  -- 12: "the states of one such cycle, none twice, in walking order"; the first of them is reached, and so are all
+  -- "the states of one such cycle, none twice, in walking order"; the first of them is reached, and so are all
   abbrev pub CycleStates : List ℕ → Type 0
   CycleStates = ReachedCycle (AnyArc (t .arcs)) IdleArc (t .initials)
 
   -- whether one is reached (cycle-test)
   unfoldable pub hasIdleCycle : Bool
   hasIdleCycle = hasReachedCycle (leadsBy (t .arcs) always) (leadsBy (t .arcs) (idle k)) (t .states) (t .initials)
+
+  -- slip 8: "From the lowest state on an idle cycle reachable as in Slip 2, show a shortest cycle through it; among those the one whose state
+  -- numbers come first, compared one by one."
+  abbrev pub ShownIdle : List ℕ → Type 0
+  ShownIdle = Shown (AnyArc (t .arcs)) IdleArc (t .initials)
+
+  -- the same, computed (shown-is); none where no idle cycle is reached: "The cycle in 12 is then no longer left to the program."
+  abbrev pub shownIdle : List ℕ
+  shownIdle = shownCycle (leadsBy (t .arcs) always) (leadsBy (t .arcs) (idle k)) (t .states) (t .initials)

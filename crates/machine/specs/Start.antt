@@ -2,7 +2,7 @@
 -- gives a run of zeros; the cycle's cells are 0 where no state is told.
 use Prim.Native.Nat.{ℕ, _-_}
 use mathlib.Core.Path.{_≡_}
-use mathlib.Core.Bool.{true, cond}
+use mathlib.Core.Bool.{cond}
 use mathlib.Core.List.{List, [], _++_}
 use lib.ListN.{length, replicate}
 use Rattle.refusal.specs.declared.Refusal.the-variants.{Input}
@@ -13,7 +13,7 @@ use Rattle.machine.specs.declared.StartAnswer.{StartAnswer}
 use Rattle.machine.specs.declared.StartAnswer.the-variants.{Ready, Refused}
 use Rattle.machine.specs.declared.Started.{Started}
 use Rattle.machine.specs.Answer.{startTold}
-use Rattle.machine.specs.Idle.{CycleStates, hasIdleCycle}
+use Rattle.machine.specs.Idle.{hasIdleCycle, shownIdle}
 use Rattle.machine.specs.Asked.{Asked, turned, runs, asked}
 
 -- "sets the task, 0 started and depth 0"
@@ -24,31 +24,20 @@ firstRun task = record { task = task; started = 0; depth = 0 }
 abbrev pub startedWith : StartAnswer → Run → List ℕ → Started
 startedWith answer run cycle = record { answer = answer; run = run; cycle = cycle ++ replicate (256 - length cycle) 0; length = length cycle }
 
--- a start that is asked for a task, where cycle is what 12 tells
-abbrev pub startedAs : Asked → ℕ → List ℕ → Started
-startedAs (turned r) task cycle = startedWith (Refused r) (firstRun 0) []
-startedAs (runs t q) task cycle = cond (hasIdleCycle t (q .task)) (startedWith (Refused (Input IdleCycle)) (firstRun 0) cycle) (startedWith Ready (firstRun task) [])
+-- a start that is asked for a task; 12 tells the cycle that is to be shown
+abbrev pub startedAs : Asked → ℕ → Started
+startedAs (turned r) task = startedWith (Refused r) (firstRun 0) []
+startedAs (runs t q) task = cond (hasIdleCycle t (q .task)) (startedWith (Refused (Input IdleCycle)) (firstRun 0) (shownIdle t (q .task))) (startedWith Ready (firstRun task) [])
 
 -- a start on a loaded table's cells, the task's number and the words
-unfoldable pub started : List ℕ → ℕ → List ℕ → List ℕ → List ℕ → Started
-started cells task upper lower cycle = startedAs (asked cells task upper lower) task cycle
-
--- "the states of one such cycle, none twice, in walking order. Which cycle, and where it begins, is open."
-abbrev pub TellsCycle : Asked → List ℕ → Type 0
-TellsCycle (turned r) cycle = Unit {0}
-TellsCycle (runs t q) cycle = hasIdleCycle t (q .task) ≡ true → CycleStates t (q .task) cycle
+unfoldable pub started : List ℕ → ℕ → List ℕ → List ℕ → Started
+started cells task upper lower = startedAs (asked cells task upper lower) task
 
 -- what a start tells in this paper's numbers
 abbrev pub startToldBy : Started → Told
 startToldBy s = startTold (s .answer) (s .length)
 
--- a start's result s tells what x tells in this paper's numbers, and gives the same run, the same cells of the cycle and their count. It is
--- x then (`start-is`).
+-- what a start ensures of its result s, where x is the definition's: it tells what x tells in this paper's numbers, and gives the same run, the
+-- same cells of the cycle and their count. It is x then (`start-is`): nothing is left open.
 abbrev pub StartedIs : Started → Started → Type 0
 StartedIs x s = (startToldBy s ≡ startToldBy x) × (s .run ≡ x .run) × (s .cycle ≡ x .cycle) × (s .length ≡ x .length)
-
--- what a start ensures: all is told by the definition but for one cycle, which has these properties
-pub record StartIs (cells : List ℕ) (task : ℕ) (upper lower : List ℕ) (s : Started) : Type 0 where
-  pub cycle : List ℕ
-  pub is : StartedIs (started cells task upper lower cycle) s
-  pub tells : TellsCycle (asked cells task upper lower) cycle

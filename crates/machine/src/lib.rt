@@ -44,7 +44,7 @@ pub enum StartAnswer {
     Refused(refusal::Refusal),
 }
 
-// What a start gives back: the run to go on with, and with refusal 12 the states of an idle cycle that is reached.
+// What a start gives back: the run to go on with, and with refusal 12 the states of the idle cycle that is to be shown.
 pub struct Started {
     pub answer: StartAnswer,
     pub run: Run,

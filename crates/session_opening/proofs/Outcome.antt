@@ -2,13 +2,13 @@
 use Prim.Native.Nat.{ℕ, _-_, _≤_, _<_}
 use native.Mathlib.Omega.{arith}
 use mathlib.Core.Path.{_≡_, refl, sym, ap, ap₂, subst, _∙_}
-use mathlib.Core.Bool.{Bool, true, false, cond}
-use mathlib.Core.List.{List, [], _++_}
+use mathlib.Core.Bool.{Bool, cond}
+use mathlib.Core.List.{List, _++_}
 use lib.ListN.{length, take, drop, length-drop}
 use lib.Seq.{take-at, take-all}
 use borrow.Author.Tests.{lt-ltb, le-ltb}
 use Rattle.refusal.specs.declared.InputCause.{InputCause}
-use Rattle.refusal.specs.declared.InputCause.the-variants.{CountLimit, IdleCycle}
+use Rattle.refusal.specs.declared.InputCause.the-variants.{CountLimit}
 use Rattle.refusal.specs.declared.Refusal.{Refusal}
 use Rattle.refusal.specs.declared.Refusal.the-variants.{Input}
 use Rattle.destination.specs.declared.Answer.the-variants as A
@@ -24,9 +24,7 @@ use Rattle.table.proofs.Calls.{read-done, read-fits, read-length}
 use Rattle.machine.specs.declared.StartAnswer.{StartAnswer}
 use Rattle.machine.specs.declared.StartAnswer.the-variants as T
 use Rattle.machine.specs.declared.Started.{Started}
-use Rattle.machine.specs.Asked as M
-use Rattle.machine.specs.Idle.{hasIdleCycle}
-use Rattle.machine.specs.Start.{firstRun, startedWith, startedAs, started, StartIs}
+use Rattle.machine.specs.Start.{started, StartedIs}
 use Rattle.machine.proofs.Start.{start-is}
 use Rattle.session_query.specs.Parts.{tableText, queryText, tableSize}
 use Rattle.session_query.specs.declared.Question.{Question}
@@ -48,35 +46,6 @@ opening-same x y r t q e i = subst (λ (z : OpeningOutcome). OpeningOutcomeIs z 
 pub opening-refused : (o : Opened) (table query : List ℕ) (r : Refusal) → o ≡ unopened r → OpeningOutcomeIs (openingOutcome o table query) (openingTold (Refused r)) table query
 opening-refused o table query r e = subst (λ (x : Opened). OpeningOutcomeIs (openingOutcome x table query) (openingTold (Refused r)) table query) (sym e) (refl, refl, refl)
 
--- The start.
-
--- neither answer nor run depends on the cycle that is told
-answer-same : (w : M.Asked) (task : ℕ) (cycle : List ℕ) → startedAs w task cycle .answer ≡ startedAs w task [] .answer
-answer-same (M.turned r) task cycle = refl
-answer-same (M.runs t q) task cycle = go (hasIdleCycle t (q .task))
-  where
-    go : (b : Bool) → cond b (startedWith (T.Refused (Input IdleCycle)) (firstRun 0) cycle) (startedWith T.Ready (firstRun task) []) .answer
-        ≡ cond b (startedWith (T.Refused (Input IdleCycle)) (firstRun 0) []) (startedWith T.Ready (firstRun task) []) .answer
-    go true = refl
-    go false = refl
-
-run-same : (w : M.Asked) (task : ℕ) (cycle : List ℕ) → startedAs w task cycle .run ≡ startedAs w task [] .run
-run-same (M.turned r) task cycle = refl
-run-same (M.runs t q) task cycle = go (hasIdleCycle t (q .task))
-  where
-    go : (b : Bool) → cond b (startedWith (T.Refused (Input IdleCycle)) (firstRun 0) cycle) (startedWith T.Ready (firstRun task) []) .run
-        ≡ cond b (startedWith (T.Refused (Input IdleCycle)) (firstRun 0) []) (startedWith T.Ready (firstRun task) []) .run
-    go true = refl
-    go false = refl
-
-start-same : (cells : List ℕ) (task : ℕ) (upper lower : List ℕ) (s : Started) → StartIs cells task upper lower s
-    → (s .answer ≡ started cells task upper lower [] .answer) × (s .run ≡ started cells task upper lower [] .run)
-unfolding started
-start-same cells task upper lower s S = (
-  ap (λ (x : Started). x .answer) (start-is S) ∙ answer-same (M.asked cells task upper lower) task (S .cycle),
-  ap (λ (x : Started). x .run) (start-is S) ∙ run-same (M.asked cells task upper lower) task (S .cycle),
-)
-
 -- The query.
 
 pub query-faults : (cells : List ℕ) (ls : List Line) (x : Question) (cause : InputCause) → x ≡ questionOf (queryOf ls) → x .asking ≡ Fault cause
@@ -85,19 +54,18 @@ query-faults cells ls x cause e f = ap (openedQuery cells) (fault-is (queryOf ls
 
 module _ (cells : List ℕ) (ls : List Line) (x : Question) (e : x ≡ questionOf (queryOf ls)) (f : x .asking ≡ Query)
     (task : ℕ) (task-is : task ≡ taskIn (x .bytes)) (upper lower : List ℕ) (upper-is : upper ≡ upperIn (x .bytes)) (lower-is : lower ≡ lowerIn (x .bytes))
-    (s : Started) (S : StartIs cells task upper lower s) where
+    (s : Started) (S : StartedIs (started cells task upper lower) s) where
   asks : Asks ls x
   asks = asks-is ls x e f
 
   opened-start : openedQuery cells (queryOf ls) ≡ openedAs cells (asks .query) (s .answer) (s .run)
   unfolding startedOn
   opened-start =
-      let same = start-same cells task upper lower s S in
       let t = task-is ∙ asks .task-is in
       let u = upper-is ∙ asks .upper-is in
       let l = lower-is ∙ asks .lower-is in
       ap (openedQuery cells) (asks .is)
-      ∙ ap₂ (openedAs cells (asks .query)) (sym (same .0 ∙ (λ i. started cells (t i) (u i) (l i) [] .answer))) (sym (same .1 ∙ (λ i. started cells (t i) (u i) (l i) [] .run)))
+      ∙ ap (λ (z : Started). openedAs cells (asks .query) (z .answer) (z .run)) (sym (start-is {s = s} S ∙ (λ i. started cells (t i) (u i) (l i))))
 
   pub start-refused : (table query : List ℕ) (r : Refusal) → s .answer ≡ T.Refused r → OpeningOutcomeIs (openingOutcome (openedQuery cells (queryOf ls)) table query) (openingTold (Refused r)) table query
   start-refused table query r g =

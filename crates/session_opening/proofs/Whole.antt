@@ -1,7 +1,7 @@
 -- What an input that is not refused gives: the cells of a table that keeps the rules, and the bytes of a query.
 use mathlib.Core.Path.{_≡_, refl, sym, subst}
 use mathlib.Core.Bool.{Bool, true, false, cond}
-use mathlib.Core.List.{List, []}
+use mathlib.Core.List.{List}
 use Prim.Native.Nat.{ℕ}
 use lib.Dec.{ltb}
 use lib.ListN.{length}
@@ -49,5 +49,5 @@ opened-whole input = go (ltb mostInput (length input)) (parsed (tableText input)
     go false (accepted t) e (says b) f =
         subst (λ (y : Parsed). WholeIf (openedTable y (linesOf (queryText input)))) (sym e)
         (subst (λ (y : QueryRead). WholeIf (openedQuery (cellsOf t) y)) (sym f)
-        (begins (cellsOf t) b (started (cellsOf t) (taskIn b) (upperIn b) (lowerIn b) [] .answer) (started (cellsOf t) (taskIn b) (upperIn b) (lowerIn b) [] .run)
+        (begins (cellsOf t) b (started (cellsOf t) (taskIn b) (upperIn b) (lowerIn b) .answer) (started (cellsOf t) (taskIn b) (upperIn b) (lowerIn b) .run)
         (record { table = t; cells-are = refl; keeps = read-text (tableText input) t e .0; query = query-whole (linesOf (queryText input)) b f })))

@@ -2,7 +2,7 @@
 -- Then the start's refusals: 11, 10, 12.
 use Prim.Native.Nat.{ℕ}
 use mathlib.Core.Bool.{cond}
-use mathlib.Core.List.{List, []}
+use mathlib.Core.List.{List}
 use lib.Dec.{ltb}
 use lib.ListN.{length}
 use Rattle.refusal.specs.declared.InputCause.the-variants.{CountLimit}
@@ -23,7 +23,7 @@ pub data Opened : Type 0 where
   unopened : Refusal → Opened
   ready : (cells bytes : List ℕ) → Run → Opened
 
--- the start's answer. The states of the cycle that 12 tells are not shown, and neither answer nor run depends on them.
+-- the start's answer; a session does not show the states of the cycle that 12 tells
 abbrev pub openedAs : List ℕ → List ℕ → StartAnswer → Run → Opened
 openedAs cells b Ready run = ready cells b run
 openedAs cells b (Refused r) run = unopened r
@@ -31,7 +31,7 @@ openedAs cells b (Refused r) run = unopened r
 -- the start
 unfoldable pub startedOn : List ℕ → List ℕ → Opened
 startedOn cells b =
-    openedAs cells b (started cells (taskIn b) (upperIn b) (lowerIn b) [] .answer) (started cells (taskIn b) (upperIn b) (lowerIn b) [] .run)
+    openedAs cells b (started cells (taskIn b) (upperIn b) (lowerIn b) .answer) (started cells (taskIn b) (upperIn b) (lowerIn b) .run)
 
 -- the query's faults
 abbrev pub openedQuery : List ℕ → QueryRead → Opened

@@ -23,7 +23,7 @@ pub struct Answer {
     pub length: u32,
 }
 
-/// What a start answers. With refusal 12 the states of a cycle, as many as the answer's length tells, then zeros; else all zeros.
+/// What a start answers. With refusal 12 the states of the cycle shown, as many as the answer's length tells, then zeros; else all zeros.
 #[derive(Clone, Copy, Debug, PartialEq, Eq)]
 pub struct Started {
     pub answer: Answer,
@@ -63,6 +63,17 @@ impl Started {
             answer,
             cycle: [0; CYCLE],
         }
+    }
+
+    /// Refusal 12 with the states of a cycle.
+    pub fn with_cycle(states: &[u16]) -> Started {
+        let mut cycle = [0; CYCLE];
+        cycle[..states.len()].copy_from_slice(states);
+        let answer = Answer {
+            length: states.len() as u32,
+            ..Answer::refused(12, 0)
+        };
+        Started { answer, cycle }
     }
 }
 

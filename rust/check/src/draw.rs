@@ -96,10 +96,30 @@ fn ring(states: &[u16]) -> impl Iterator<Item = Arc> {
     states.iter().zip(next).map(|(a, b)| Arc::new(*a, 0, 0, *b))
 }
 
+/// Arcs by rising source, none twice; those of one source in any order, or by their letters.
+fn listed(random: &mut Random, mut arcs: Vec<Arc>) -> Vec<Arc> {
+    arcs.sort();
+    arcs.dedup();
+    if random.one_in(2) {
+        reorder(random, &mut arcs);
+    }
+    arcs
+}
+
+/// Puts the arcs of each source in any order.
+pub fn reorder(random: &mut Random, arcs: &mut [Arc]) {
+    random.shuffle(arcs);
+    arcs.sort_by_key(|arc| arc.source);
+}
+
 /// A table that keeps the rules. With `falling` arcs lead from the initial states to no cycle that reads nothing for the task; without,
 /// they may, in any part or in the corner alone.
 pub fn table(random: &mut Random, task: u32, falling: bool) -> Table {
     let plan = plan(random);
+    drawn(random, plan, task, falling)
+}
+
+fn drawn(random: &mut Random, plan: Plan, task: u32, falling: bool) -> Table {
     let mut order: Vec<u16> = (0..plan.states as u16).collect();
     random.shuffle(&mut order);
     let (corner, rest) = order.split_at(plan.corner);
@@ -120,18 +140,35 @@ pub fn table(random: &mut Random, task: u32, falling: bool) -> Table {
         wake(random, task, &mut arc, WAY_IN);
         arcs.push(arc);
     }
-    arcs.sort();
-    arcs.dedup();
-    if random.one_in(2) {
-        random.shuffle(&mut arcs);
-        arcs.sort_by_key(|arc| arc.source); // in any order within a source
-    }
     Table {
         states: plan.states as u16,
         initials,
         terminals,
-        arcs,
+        arcs: listed(random, arcs),
     }
+}
+
+/// A table that keeps the rules, with many arcs that read and write nothing between few states, any of them: there are cycles of several
+/// lengths, and several of one.
+pub fn knotted(random: &mut Random, task: u32) -> Table {
+    let plan = plan(random);
+    let plan = Plan {
+        states: random.within(3, 6),
+        corner: plan.corner.min(2),
+        arcs: random.below(7),
+        ..plan
+    };
+    let mut table = drawn(random, plan, task, false);
+    let states: Vec<u16> = (0..table.states).collect();
+    let few = some(random, &states, 3);
+    for _ in 0..random.within(3, 12) {
+        let (source, target) = (*random.pick(&few), *random.pick(&few));
+        if source != target || random.one_in(8) {
+            table.arcs.push(Arc::new(source, 0, 0, target));
+        }
+    }
+    table.arcs = listed(random, table.arcs);
+    table
 }
 
 /// The words of a walk of at most so many arcs, which so are passed on at least one path.

@@ -46,7 +46,7 @@ impl<'a> Next<'a> {
 
 /// Starts and calls on a loaded table.
 pub trait Engine {
-    /// Answers `done` and sets the run, or refuses; refusal 12 tells a cycle.
+    /// Answers `done` and sets the run, or refuses; refusal 12 shows a cycle.
     fn start(&self, start: Start, run: &mut Run) -> Started;
 
     /// Goes on with a run until a reading, the end, the allowance or a refusal.

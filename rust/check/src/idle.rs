@@ -1,14 +1,8 @@
-//! Idle cycles that arcs lead to from an initial state: closed walks of arcs that read nothing, found by a depth-first search with
-//! colours.
+//! Idle cycles that arcs lead to from an initial state: closed walks of arcs that read nothing. Here is how the one that is shown is found
+//! in a table of any size; `cycles` has all of a small one.
 use crate::query;
 use crate::table::{Arc, Table};
-
-#[derive(Clone, Copy, PartialEq)]
-enum Colour {
-    New,
-    Open,
-    Closed,
-}
+use std::collections::{BTreeSet, VecDeque};
 
 /// An arc with no letter on any side that the task reads.
 pub fn is_idle(task: u32, arc: &Arc) -> bool {
@@ -31,44 +25,36 @@ pub fn reached(table: &Table) -> Vec<u16> {
     states
 }
 
-/// Goes down from a state; true when an open state is met again. The walk is then left as it stands.
-fn meets(table: &Table, task: u32, state: u16, colours: &mut [Colour]) -> bool {
-    colours[state as usize] = Colour::Open;
-    for arc in table.arcs_of(state).iter().filter(|a| is_idle(task, a)) {
-        let colour = colours[arc.target as usize];
-        if colour == Colour::Open {
-            return true;
+/// The states that idle arcs lead to from a state, lowest first.
+fn targets(table: &Table, task: u32, state: u16) -> BTreeSet<u16> {
+    let arcs = table.arcs_of(state).iter();
+    let idle = arcs.filter(|arc| is_idle(task, arc));
+    idle.map(|arc| arc.target).collect()
+}
+
+/// The shortest idle cycle from a state, and among those the one whose states come first. Walks stand in the queue by length, then by
+/// their states; where one before has come to a state, another to it is longer or comes later.
+fn shortest(table: &Table, task: u32, state: u16) -> Option<Vec<u16>> {
+    let mut walks = VecDeque::from([vec![state]]);
+    let mut met = BTreeSet::new();
+    while let Some(walk) = walks.pop_front() {
+        let next = targets(table, task, walk[walk.len() - 1]);
+        if next.contains(&state) {
+            return Some(walk);
         }
-        if colour == Colour::New && meets(table, task, arc.target, colours) {
-            return true;
+        for target in next {
+            if met.insert(target) {
+                walks.push_back([&walk[..], &[target]].concat());
+            }
         }
     }
-    colours[state as usize] = Colour::Closed;
-    false
+    None
 }
 
-/// Whether arcs lead from an initial state to an idle cycle for a task (12).
-pub fn has_cycle(table: &Table, task: u32) -> bool {
-    let mut colours = vec![Colour::New; table.states as usize];
-    reached(table).into_iter().any(|state| {
-        colours[state as usize] == Colour::New && meets(table, task, state, &mut colours)
-    })
-}
-
-/// Whether some states, in this order, are a cycle of idle arcs with none twice, and arcs lead to it from an initial state.
-pub fn is_cycle(table: &Table, task: u32, states: &[u16]) -> bool {
-    let leads = |from: u16, to: u16| {
-        let mut arcs = table.arcs.iter();
-        arcs.any(|a| a.source == from && a.target == to && is_idle(task, a))
-    };
-    let reached = reached(table);
-    let rotated = states.iter().cycle().skip(1);
-    let distinct = states
-        .iter()
-        .enumerate()
-        .all(|(k, s)| !states[..k].contains(s));
-    !states.is_empty()
-        && distinct
-        && states.iter().all(|state| reached.contains(state))
-        && states.iter().zip(rotated).all(|(a, b)| leads(*a, *b))
+/// The cycle that refusal 12 shows, from the lowest state that is reached and on an idle cycle; none where arcs lead to no such cycle.
+pub fn shown(table: &Table, task: u32) -> Option<Vec<u16>> {
+    let mut states = reached(table);
+    states.sort();
+    let mut states = states.into_iter();
+    states.find_map(|state| shortest(table, task, state))
 }

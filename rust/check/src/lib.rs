@@ -1,6 +1,7 @@
 //! Everything that checks the proved library from outside.
 pub mod answer;
 pub mod compare;
+pub mod cycles;
 pub mod draw;
 pub mod engine;
 pub mod idle;

@@ -253,20 +253,21 @@ impl<'a> Search<'a> {
     }
 }
 
-/// The model. The cycle that it tells on 12 is left out: which one is told is open, so nothing is compared with it.
+/// The model.
 #[derive(Clone, Copy, Debug)]
 pub struct Model;
 
 impl Engine for Model {
     fn start(&self, start: Start, run: &mut Run) -> Started {
-        Started::bare(match Search::ask(start) {
-            Err(number) => Answer::refused(number, 0),
-            Ok(search) if idle::has_cycle(&search.table, start.task) => Answer::refused(12, 0),
-            Ok(_) => {
-                *run = Run::of(start.task);
-                Answer::done(0)
-            }
-        })
+        let search = match Search::ask(start) {
+            Ok(search) => search,
+            Err(number) => return Started::bare(Answer::refused(number, 0)),
+        };
+        if let Some(cycle) = idle::shown(&search.table, start.task) {
+            return Started::with_cycle(&cycle);
+        }
+        *run = Run::of(start.task);
+        Started::bare(Answer::done(0))
     }
 
     fn next(&self, call: Next) -> Answer {

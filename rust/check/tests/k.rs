@@ -106,8 +106,7 @@ fn short_buffers(engine: &impl Engine) {
     assert_eq!(none.call(64, 0, 64).0, Answer::paused(0));
 }
 
-/// The number with which a start is refused, 0 where it passes.
-fn start_number(engine: &impl Engine, table: &Table, task: u32, word: &[u8]) -> u32 {
+fn started(engine: &impl Engine, table: &Table, task: u32, word: &[u8]) -> Started {
     let (upper, lower) = if task == 3 {
         (&[][..], word)
     } else {
@@ -119,7 +118,12 @@ fn start_number(engine: &impl Engine, table: &Table, task: u32, word: &[u8]) -> 
         upper,
         lower,
     };
-    engine.start(start, &mut Run::default()).answer.number
+    engine.start(start, &mut Run::default())
+}
+
+/// The number with which a start is refused, 0 where it passes.
+fn start_number(engine: &impl Engine, table: &Table, task: u32, word: &[u8]) -> u32 {
+    started(engine, table, task, word).answer.number
 }
 
 fn idle_cycles(engine: &impl Engine) {
@@ -135,11 +139,12 @@ fn idle_cycles(engine: &impl Engine) {
         table
     };
     let (blank, upper_only) = (Arc::new(0, 0, 0, 0), Arc::new(0, 1, 0, 0));
+    let (refused, passed) = (Started::with_cycle(&[0]), Started::bare(Answer::done(0)));
     for task in 1..=3 {
-        let expected = if task == 3 { 12 } else { 0 };
+        let expected = if task == 3 { refused } else { passed };
         for make in [&alone as &dyn Fn(Arc) -> Table, &in_k] {
-            assert_eq!(start_number(engine, &make(blank), task, &[]), 12);
-            assert_eq!(start_number(engine, &make(upper_only), task, &[]), expected);
+            assert_eq!(started(engine, &make(blank), task, &[]), refused);
+            assert_eq!(started(engine, &make(upper_only), task, &[]), expected);
         }
     }
 }

@@ -2,6 +2,7 @@
 use readings_check::answer::{DONE, ENDED, FOUND, PAUSED};
 use readings_check::compare::fixed;
 use readings_check::compare::loops::Loops;
+use readings_check::compare::rival::Rival;
 use readings_check::compare::tally::Tally;
 use readings_check::library::Library;
 
@@ -21,6 +22,20 @@ fn starts_agree() {
     let tally = agreed(fixed::starts(&Library));
     tally.demand(500, &[DONE], &[10, 11, 12, 20]);
     tally.demand_loops(400, &[Loops::Apart, Loops::Both, Loops::Barred]);
+}
+
+#[test]
+fn knots_agree() {
+    let tally = agreed(fixed::knots(&Library));
+    tally.demand(1_000, &[DONE], &[12]);
+    let rivals = [
+        Rival::Longer,
+        Rival::Later,
+        Rival::Shorter,
+        Rival::Higher,
+        Rival::Turned,
+    ];
+    tally.demand_rivals(500, &rivals);
 }
 
 #[test]

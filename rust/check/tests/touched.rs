@@ -128,7 +128,7 @@ fn a_cycle_in_the_wrong_order() {
             left.cycle.swap(0, 1);
         }
     };
-    noticed(meddle, "no idle cycle");
+    noticed(meddle, "cycle is [");
 }
 
 #[test]
@@ -140,5 +140,5 @@ fn a_cycle_told_twice_over() {
             left.answer.length *= 2;
         }
     };
-    noticed(meddle, "no idle cycle");
+    noticed(meddle, "cycle is [");
 }

@@ -59,9 +59,9 @@ fn every_state_as_reached_is_noticed() {
 }
 
 #[test]
-fn the_initial_states_alone_as_reached_are_noticed() {
+fn reach_by_idle_arcs_alone_is_noticed() {
     found(
-        &Twin::<{ fault::INITIALS_REACHED }>,
+        &Twin::<{ fault::IDLE_REACHED }>,
         "expected Answer { kind: 4, number: 12, steps: 0, length: 0 }, loops None",
     );
 }
@@ -70,7 +70,7 @@ fn the_initial_states_alone_as_reached_are_noticed() {
 fn a_cycle_that_is_not_reached_is_noticed() {
     found(
         &Twin::<{ fault::UNREACHED_TOLD }>,
-        "no idle cycle that is reached: [",
+        "rival None, loops Some(Both)",
     );
 }
 
@@ -80,4 +80,24 @@ fn reach_by_the_letters_of_the_words_is_noticed() {
         &Twin::<{ fault::WORD_REACHED }>,
         "expected Answer { kind: 4, number: 12, steps: 0, length: 0 }, loops Some(Barred)",
     );
+}
+
+#[test]
+fn a_longer_cycle_is_noticed() {
+    found(&Twin::<{ fault::DEPTH_FIRST }>, "rival Some(Longer)");
+}
+
+#[test]
+fn a_cycle_from_a_higher_state_is_noticed() {
+    found(&Twin::<{ fault::SHORTEST_OF_ALL }>, "rival Some(Shorter)");
+}
+
+#[test]
+fn a_later_one_of_the_shortest_cycles_is_noticed() {
+    found(&Twin::<{ fault::AS_LISTED }>, "rival Some(Later)");
+}
+
+#[test]
+fn the_right_cycle_from_another_state_is_noticed() {
+    found(&Twin::<{ fault::BEGUN_ELSEWHERE }>, "rival Some(Turned)");
 }

@@ -1,9 +1,12 @@
-//! The package `readings` against the lister: whole searches, and outputs that are too short.
+//! The package `readings` against the lister: whole searches, and outputs that are too short; and the cycles that it shows.
 use readings::lending::{self, Run};
-use readings::{Answer, Refusal, Search, Table, Task, limits};
+use readings::{Answer, Refusal, Search, StartRefused, Table, Task, limits};
 use readings_check::draw;
+use readings_check::idle;
 use readings_check::lister;
 use readings_check::random::Random;
+
+const TASKS: [Task; 3] = [Task::Recognition, Task::Synthesis, Task::Analysis];
 
 /// A table, a task and words whose whole search is short, with its readings.
 struct Asked {
@@ -15,7 +18,7 @@ struct Asked {
 }
 
 fn draw(random: &mut Random) -> Option<Asked> {
-    let task = *random.pick(&[Task::Recognition, Task::Synthesis, Task::Analysis]);
+    let task = *random.pick(&TASKS);
     let number = task as u32;
     let table = draw::table(random, number, true);
     let (upper, lower) = draw::words(random, &table, number);
@@ -93,4 +96,24 @@ fn after_23_as_many_letters_as_frames_are_enough() {
         refused += times;
     });
     assert!(refused > 1_000, "only {refused} refusals");
+}
+
+#[test]
+fn a_refused_start_shows_its_cycle() {
+    let mut refused = 0;
+    for case in 0..2_000 {
+        let random = &mut Random::of_case(0x12C7, case);
+        let task = *random.pick(&TASKS);
+        let drawn = draw::knotted(random, task as u32);
+        let table = Table::from_cells(&drawn.cells()).expect("a table that keeps the rules");
+        let told = Search::start(&table, task, &[], &[]).err();
+        let shown = idle::shown(&drawn, task as u32);
+        refused += usize::from(shown.is_some());
+        let expected = shown.map(|cycle| StartRefused {
+            refusal: Refusal::IdleCycle,
+            cycle,
+        });
+        assert_eq!(told, expected, "on {drawn:?}");
+    }
+    assert!(refused > 1_000, "only {refused} cycles");
 }

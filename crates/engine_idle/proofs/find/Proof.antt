@@ -1,10 +1,13 @@
 -- The cells at first: all states alive, and none reached.
 use Prim.Native.Nat.{ℕ}
 use native.Mathlib.Omega.{arith}
-use mathlib.Core.Path.{sym, subst, _∙_}
+use mathlib.Core.Path.{sym, ap, subst, _∙_}
 use denote.Ref.{now}
+use borrow.Author.Needs.{needs}
 use Rattle.graph.specs.Lists.{AllBelow}
 use Rattle.engine_graph.specs.Graph.{Graph}
+use Rattle.engine_cycle.specs.Numbers.{cycleCells}
+use Rattle.engine_idle.specs.Found.{shownIn}
 use Rattle.engine_idle.proofs.Cycles.{first-cells, all-alive, none-marked}
 use Rattle.engine_idle.proofs.find.Statement.{statement}
 use Rattle.engine_idle.proofs.find.Tie as tie
@@ -22,10 +25,10 @@ slice-aggregate-among-2 : tie.Need-slice-aggregate-among-2
 slice-aggregate-among-2 c = sym (first-cells _ (c .before .before .before .before .before .args .states) (c .before .before .before .before .before .pre .0 .few))
 
 among-requires : tie.Need-among-requires
-among-requires c κs = (subst (λ (x : ℕ). Graph (now (c .before .before .before .before .before .args .arcs)) (now (c .before .before .before .before .before .args .first)) x) (sym (first-cells _ (c .before .before .before .before .before .args .states) (c .before .before .before .before .before .pre .0 .few))) (c .before .before .before .before .before .pre .0), (subst (λ (x : ℕ). AllBelow x (now (c .before .before .before .before .before .args .initials))) (sym (first-cells _ (c .before .before .before .before .before .args .states) (c .before .before .before .before .before .pre .0 .few))) (c .before .before .before .before .before .pre .1), (all-alive (c .before .before .before .before .before .args .states) (c .before .before .before .before .before .pre .0 .few), (first-cells _ (c .before .before .before .before .before .args .states) (c .before .before .before .before .before .pre .0 .few) ∙ sym (first-cells _ (c .before .before .before .before .before .args .states) (c .before .before .before .before .before .pre .0 .few)), none-marked (c .before .before .before .before .before .args .states) 256))))
+among-requires c κs = (subst (λ (n : ℕ). Graph (now (c .before .before .before .before .before .args .arcs)) (now (c .before .before .before .before .before .args .first)) n) (sym (first-cells _ (c .before .before .before .before .before .args .states) (c .before .before .before .before .before .pre .0 .few))) (c .before .before .before .before .before .pre .0), (subst (λ (n : ℕ). AllBelow n (now (c .before .before .before .before .before .args .initials))) (sym (first-cells _ (c .before .before .before .before .before .args .states) (c .before .before .before .before .before .pre .0 .few))) (c .before .before .before .before .before .pre .1), (all-alive (c .before .before .before .before .before .args .states) (c .before .before .before .before .before .pre .0 .few), ((first-cells _ (c .before .before .before .before .before .args .states) (c .before .before .before .before .before .pre .0 .few)) ∙ sym (first-cells _ (c .before .before .before .before .before .args .states) (c .before .before .before .before .before .pre .0 .few)), none-marked (c .before .before .before .before .before .args .states) 256))))
 
 returns : tie.Need-returns
-returns c = c .before .before .among .ensures
+returns c = c .before .before .among .ensures ∙ ap (λ (n : ℕ). cycleCells (shownIn (now (c .before .before .before .before .before .before .before .before .args .arcs)) (now (c .before .before .before .before .before .before .before .before .args .initials)) n (c .before .before .before .before .before .before .before .before .args .upper) (c .before .before .before .before .before .before .before .before .args .lower))) (first-cells _ (c .before .before .before .before .before .before .before .before .args .states) (c .before .before .before .before .before .before .before .before .pre .0 .few))
 
 pub find-spec : {M : Type 1} → statement M
 find-spec =

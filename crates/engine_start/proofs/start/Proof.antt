@@ -1,12 +1,10 @@
 -- The refusals in their order, then what the search for a cycle found.
 use native.Mathlib.Omega.{arith}
-use mathlib.Core.Path.{sym, ap, subst, _∙_}
+use mathlib.Core.Path.{sym, ap, _∙_}
 use denote.Ref.{now}
 use borrow.Author.Needs.{needs}
 use Rattle.table_check.specs.declared.Checked.{Checked}
 use Rattle.table_check.proofs.Passing.{laid}
-use Rattle.machine.specs.Start.{StartIs}
-use Rattle.machine.specs.declared.Started.{Started}
 use Rattle.engine_admission.proofs.Words.{asking-turned, asking-passes}
 use Rattle.engine_start.proofs.Starts.{start-turned, start-laid, start-graph, start-initials, start-ready, start-cycle}
 use Rattle.engine_start.proofs.start.Statement.{statement}
@@ -25,7 +23,7 @@ refused-requires : tie.Need-refused-requires
 refused-requires c κs = search needs
 
 returns : tie.Need-returns
-returns c = subst (λ (x : Started). StartIs (now (c .before .before .before .before .before .before .before .before .before .args .table)) (c .before .before .before .before .before .before .before .before .before .args .task) (now (c .before .before .before .before .before .before .before .before .before .args .upper)) (now (c .before .before .before .before .before .before .before .before .before .args .lower)) x) (sym (c .refused .ensures)) (start-turned (now (c .before .before .before .before .before .before .before .before .before .args .table)) (c .before .before .before .before .before .before .before .before .before .args .task) (now (c .before .before .before .before .before .before .before .before .before .args .upper)) (now (c .before .before .before .before .before .before .before .before .before .args .lower)) (c .before .before .asking .given .0 .0) (asking-turned _ (c .before .before .asking .given .0 .0) (sym (c .before .before .asking .given .1) ∙ c .before .before .before .before .asked .ensures (now (c .before .before .before .before .before .before .before .before .before .args .table)) (ap (λ (x : Checked). x .ok) (c .before .before .before .before .before .check .ensures)))))
+returns c = start-turned (now (c .before .before .before .before .before .before .before .before .before .args .table)) (c .before .before .before .before .before .before .before .before .before .args .task) (now (c .before .before .before .before .before .before .before .before .before .args .upper)) (now (c .before .before .before .before .before .before .before .before .before .args .lower)) (c .before .before .asking .given .0 .0) (asking-turned _ (c .before .before .asking .given .0 .0) (sym (c .before .before .asking .given .1) ∙ c .before .before .before .before .asked .ensures (now (c .before .before .before .before .before .before .before .before .before .args .table)) (ap (λ (x : Checked). x .ok) (c .before .before .before .before .before .check .ensures)))) (c .refused .result) (c .refused .ensures)
 
 enum-told : tie.Need-enum-told
 enum-told c = search needs
@@ -73,7 +71,7 @@ ready-requires : tie.Need-ready-requires
 ready-requires c κs = search needs
 
 returns-2 : tie.Need-returns-2
-returns-2 c = subst (λ (x : Started). StartIs (now (c .before .before .before .before .before .before .before .before .before .before .before .before .before .before .before .before .before .before .before .args .table)) (c .before .before .before .before .before .before .before .before .before .before .before .before .before .before .before .before .before .before .before .args .task) (now (c .before .before .before .before .before .before .before .before .before .before .before .before .before .before .before .before .before .before .before .args .upper)) (now (c .before .before .before .before .before .before .before .before .before .before .before .before .before .before .before .before .before .before .before .args .lower)) x) (sym (c .ready .ensures)) (start-ready (now (c .before .before .before .before .before .before .before .before .before .before .before .before .before .before .before .before .before .before .before .args .table)) (c .before .before .before .before .before .before .before .before .before .before .before .before .before .before .before .before .before .before .before .args .task) (now (c .before .before .before .before .before .before .before .before .before .before .before .before .before .before .before .before .before .before .before .args .upper)) (now (c .before .before .before .before .before .before .before .before .before .before .before .before .before .before .before .before .before .before .before .args .lower)) (asking-passes (c .before .before .before .before .before .before .before .before .before .before .before .before .before .before .before .before .before .before .before .args .task) (now (c .before .before .before .before .before .before .before .before .before .before .before .before .before .before .before .before .before .before .before .args .upper)) (now (c .before .before .before .before .before .before .before .before .before .before .before .before .before .before .before .before .before .before .before .args .lower)) (now (c .before .before .before .before .before .before .before .before .before .before .before .before .before .before .before .before .before .before .before .args .table)) (c .before .before .before .before .before .before .before .before .before .before .before .before .before .before .before .check .result .ok) (ap (λ (x : Checked). x .ok) (c .before .before .before .before .before .before .before .before .before .before .before .before .before .before .before .check .ensures)) (sym (c .before .before .before .before .before .before .before .before .before .before .before .before .enum-told .given .1) ∙ c .before .before .before .before .before .before .before .before .before .before .before .before .before .before .asked .ensures (now (c .before .before .before .before .before .before .before .before .before .before .before .before .before .before .before .before .before .before .before .args .table)) (ap (λ (x : Checked). x .ok) (c .before .before .before .before .before .before .before .before .before .before .before .before .before .before .before .check .ensures)))) (c .before .before .before .before .before .before .before .before .before .before .before .before .before .before .before .check .result .layout) (laid (now (c .before .before .before .before .before .before .before .before .before .before .before .before .before .before .before .before .before .before .before .args .table)) (c .before .before .before .before .before .before .before .before .before .before .before .before .before .before .before .check .result) (c .before .before .before .before .before .before .before .before .before .before .before .before .before .before .before .check .ensures)) (c .before .before .before .before .before .reads .result) (c .before .before .before .before .reads2 .result) (c .before .before .before .before .before .reads .ensures) (c .before .before .before .before .reads2 .ensures) (c .before .before .before .find .result) (c .before .before .before .find .ensures) (c .before .if1 .taken))
+returns-2 c = start-ready (now (c .before .before .before .before .before .before .before .before .before .before .before .before .before .before .before .before .before .before .before .args .table)) (c .before .before .before .before .before .before .before .before .before .before .before .before .before .before .before .before .before .before .before .args .task) (now (c .before .before .before .before .before .before .before .before .before .before .before .before .before .before .before .before .before .before .before .args .upper)) (now (c .before .before .before .before .before .before .before .before .before .before .before .before .before .before .before .before .before .before .before .args .lower)) (asking-passes (c .before .before .before .before .before .before .before .before .before .before .before .before .before .before .before .before .before .before .before .args .task) (now (c .before .before .before .before .before .before .before .before .before .before .before .before .before .before .before .before .before .before .before .args .upper)) (now (c .before .before .before .before .before .before .before .before .before .before .before .before .before .before .before .before .before .before .before .args .lower)) (now (c .before .before .before .before .before .before .before .before .before .before .before .before .before .before .before .before .before .before .before .args .table)) (c .before .before .before .before .before .before .before .before .before .before .before .before .before .before .before .check .result .ok) (ap (λ (x : Checked). x .ok) (c .before .before .before .before .before .before .before .before .before .before .before .before .before .before .before .check .ensures)) (sym (c .before .before .before .before .before .before .before .before .before .before .before .before .enum-told .given .1) ∙ c .before .before .before .before .before .before .before .before .before .before .before .before .before .before .asked .ensures (now (c .before .before .before .before .before .before .before .before .before .before .before .before .before .before .before .before .before .before .before .args .table)) (ap (λ (x : Checked). x .ok) (c .before .before .before .before .before .before .before .before .before .before .before .before .before .before .before .check .ensures)))) (c .before .before .before .before .before .before .before .before .before .before .before .before .before .before .before .check .result .layout) (laid (now (c .before .before .before .before .before .before .before .before .before .before .before .before .before .before .before .before .before .before .before .args .table)) (c .before .before .before .before .before .before .before .before .before .before .before .before .before .before .before .check .result) (c .before .before .before .before .before .before .before .before .before .before .before .before .before .before .before .check .ensures)) (c .before .before .before .before .before .reads .result) (c .before .before .before .before .reads2 .result) (c .before .before .before .before .before .reads .ensures) (c .before .before .before .before .reads2 .ensures) (c .before .before .before .find .result) (c .before .before .before .find .ensures) (c .before .if1 .taken) (c .ready .result) (c .ready .ensures)
 
 first-run-requires : tie.Need-first-run-requires
 first-run-requires c κs = search needs

@@ -17,6 +17,13 @@ pub fn starts(engine: &impl Engine) -> Result<Tally, String> {
     })
 }
 
+/// Starts on tables with many idle arcs between few states.
+pub fn knots(engine: &impl Engine) -> Result<Tally, String> {
+    series("knots", 0x6B0275, 10_000, |random, tally| {
+        start::knotted(engine, random, tally)
+    })
+}
+
 /// Calls on places with damage.
 pub fn damaged(engine: &impl Engine) -> Result<Tally, String> {
     series("damaged places", 0xDA3A6E, 30_000, |random, tally| {
@@ -35,6 +42,7 @@ pub fn arbitrary(engine: &impl Engine) -> Result<Tally, String> {
 pub fn all(engine: &impl Engine) -> Result<(), String> {
     searches(engine)?;
     starts(engine)?;
+    knots(engine)?;
     damaged(engine)?;
     arbitrary(engine)?;
     Ok(())

@@ -20,7 +20,7 @@ pub fn of(start: &Start) -> Option<Loops> {
     if query::fault(start.task, &start.upper, &start.lower).is_some() {
         return None;
     }
-    let has_cycle = |table: &Table| idle::has_cycle(table, start.task);
+    let has_cycle = |table: &Table| idle::shown(table, start.task).is_some();
     let apart = has_cycle(&unreached(&table));
     if !has_cycle(&table) {
         apart.then_some(Loops::Apart)

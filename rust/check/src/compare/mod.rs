@@ -4,6 +4,7 @@ pub mod call;
 pub mod damage;
 pub mod fixed;
 pub mod loops;
+pub mod rival;
 pub mod search;
 pub mod start;
 pub mod tally;

@@ -1,10 +1,9 @@
-//! One start: the answer, the run, and the cycle that the answer holds, of which only the documents' properties are fixed.
+//! One start: the answer, the run, and the cycle that the answer holds.
 use super::tally::Tally;
-use super::{RUN_GUARD, loops, same};
+use super::{RUN_GUARD, loops, rival, same};
 use crate::answer::{Answer, Run, Started};
 use crate::draw;
 use crate::engine::{self, Engine};
-use crate::idle;
 use crate::lent::Lent;
 use crate::model::Model;
 use crate::random::Random;
@@ -30,29 +29,23 @@ impl Start {
     }
 }
 
-/// On 12 a cycle that is reached: idle arcs of the table, in walking order, closed, no state twice.
-fn cycle_holds(start: &Start, states: &[u16]) -> Result<(), String> {
-    let table = Table::loaded(&start.table).ok_or("a cycle of a bad table")?;
-    if idle::is_cycle(&table, start.task, states) {
-        Ok(())
-    } else {
-        Err(format!("no idle cycle that is reached: {states:?}"))
-    }
-}
-
-/// The answer is as expected, but that 12 tells a cycle; all other cells are 0.
-fn told_as(start: &Start, told: &Started, expected: Answer) -> Result<(), String> {
-    let mut bare = told.answer;
-    if expected.number == 12 {
-        bare.length = 0;
-    }
-    same("answer", bare, expected)?;
+/// The answer, the states of its cycle and the cells beyond them are as expected.
+fn told_as(told: &Started, expected: &Started) -> Result<(), String> {
+    let bare = |started: &Started| Answer {
+        length: 0,
+        ..started.answer
+    };
+    same("answer", bare(told), bare(expected))?;
     let cells = told.cycle.split_at_checked(told.answer.length as usize);
     let (states, rest) = cells.ok_or("a cycle longer than its cells")?;
-    if expected.number == 12 {
-        cycle_holds(start, states)?;
-    }
-    same("cells beyond the cycle", rest, &vec![0; rest.len()])
+    let shown = &expected.cycle[..expected.answer.length as usize];
+    same("cycle", states, shown)
+        .map_err(|difference| format!("{difference}, rival {:?}", rival::of(states, shown)))?;
+    same(
+        "cells beyond the cycle",
+        rest,
+        &expected.cycle[states.len()..],
+    )
 }
 
 fn check(engine: &impl Engine, start: &Start) -> Result<(Answer, Run), String> {
@@ -62,7 +55,7 @@ fn check(engine: &impl Engine, start: &Start) -> Result<(Answer, Run), String> {
         depth: 9,
     }];
     let mut expected_run = stale[0];
-    let expected = Model.start(start.lend(), &mut expected_run).answer;
+    let expected = Model.start(start.lend(), &mut expected_run);
     let mut table = Lent::new(&start.table, 0xABCD);
     let mut upper = Lent::new(&start.upper, 0xAB);
     let mut lower = Lent::new(&start.lower, 0xAB);
@@ -74,12 +67,12 @@ fn check(engine: &impl Engine, start: &Start) -> Result<(Answer, Run), String> {
         lower: lower.lend(),
     };
     let told = engine.start(lent, &mut run.lend()[0]);
-    told_as(start, &told, expected)?;
+    told_as(&told, &expected)?;
     run.expect("run", &[expected_run])?;
     table.expect("table", &start.table)?;
     upper.expect("upper word", &start.upper)?;
     lower.expect("lower word", &start.lower)?;
-    Ok((expected, expected_run))
+    Ok((expected.answer, expected_run))
 }
 
 /// Starts with the model, with the engine, and compares.
@@ -90,21 +83,36 @@ pub fn compare(engine: &impl Engine, start: &Start) -> Result<(Answer, Run), Str
     })
 }
 
+/// A start of a task on a table, with words that may pass.
+fn on(random: &mut Random, table: &Table, task: u32) -> Start {
+    let (upper, lower) = draw::words(random, table, task);
+    Start {
+        table: table.cells(),
+        task,
+        upper,
+        lower,
+    }
+}
+
 /// A start of any task on a random table, with and without idle cycles, with words that may be bad.
 pub fn any(engine: &impl Engine, random: &mut Random, tally: &mut Tally) -> Result<(), String> {
     let task = random.within(1, 3) as u32;
     let falling = random.one_in(3);
     let table = draw::table(random, task, falling);
-    let (upper, lower) = draw::words(random, &table, task);
-    let mut start = Start {
-        table: table.cells(),
-        task,
-        upper,
-        lower,
-    };
+    let mut start = on(random, &table, task);
     if random.one_in(2) {
         spoil(random, &mut start);
     }
+    let (answer, _) = compare(engine, &start)?;
+    tally.add_start(&start, answer);
+    Ok(())
+}
+
+/// A start of any task on a random table with many idle arcs between few states.
+pub fn knotted(engine: &impl Engine, random: &mut Random, tally: &mut Tally) -> Result<(), String> {
+    let task = random.within(1, 3) as u32;
+    let table = draw::knotted(random, task);
+    let start = on(random, &table, task);
     let (answer, _) = compare(engine, &start)?;
     tally.add_start(&start, answer);
     Ok(())

@@ -1,13 +1,25 @@
-//! How often each answer was seen, and each place of idle cycles, so that a test can show that it tried them all.
+//! How often each answer was seen, each place of idle cycles and each rival of the shown one, so that a test can show that it tried them
+//! all.
 use super::loops::{self, Loops};
+use super::rival::{self, Rival};
 use super::start::Start;
 use crate::answer::{Answer, REFUSED};
 use std::collections::BTreeMap;
+use std::fmt::Debug;
 
 #[derive(Clone, Debug, Default)]
 pub struct Tally {
     seen: BTreeMap<(u32, u32), u64>,
     loops: BTreeMap<Loops, u64>,
+    rivals: BTreeMap<Rival, u64>,
+}
+
+/// Each of these was counted at least so often.
+fn demand_each<T: Ord + Debug>(least: u64, counts: &BTreeMap<T, u64>, wanted: &[T]) {
+    for one in wanted {
+        let seen = counts.get(one).copied().unwrap_or(0);
+        assert!(seen >= least, "{one:?} is rare: {counts:?}");
+    }
 }
 
 impl Tally {
@@ -20,6 +32,11 @@ impl Tally {
         self.add(answer);
         if let Some(loops) = loops::of(start) {
             *self.loops.entry(loops).or_default() += 1;
+        }
+        if answer.number == 12 {
+            for rival in rival::all(start) {
+                *self.rivals.entry(rival).or_default() += 1;
+            }
         }
     }
 
@@ -52,9 +69,11 @@ impl Tally {
 
     /// Starts with idle cycles in each of these places were seen at least so often.
     pub fn demand_loops(&self, least: u64, places: &[Loops]) {
-        for place in places {
-            let seen = self.loops.get(place).copied().unwrap_or(0);
-            assert!(seen >= least, "loops {place:?} are rare: {self:?}");
-        }
+        demand_each(least, &self.loops, places);
+    }
+
+    /// Starts whose table has each of these beside the shown cycle were seen at least so often.
+    pub fn demand_rivals(&self, least: u64, rivals: &[Rival]) {
+        demand_each(least, &self.rivals, rivals);
     }
 }

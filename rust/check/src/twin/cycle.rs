@@ -1,19 +1,16 @@
 //! The search for an idle cycle that is reached. Idle arcs whose target has none fall away until nothing changes; what is left leads
-//! round, and only then it matters what is reached.
+//! round, and only then it matters what is reached, and which cycle is shown.
 use super::check::{Arc, View};
-use super::reach;
+use super::shown::{self, Step};
 use crate::answer::CYCLE;
 use crate::engine::Start;
 
-/// The source and the target of an idle arc.
-type Step = [u8; 2];
-
 #[inline(always)]
-fn is_idle<const UP: bool, const LOW: bool>(arc: &Arc) -> bool {
+pub fn is_idle<const UP: bool, const LOW: bool>(arc: &Arc) -> bool {
     (!UP || arc[1] == 0) & (!LOW || arc[2] == 0)
 }
 
-/// Writes the states of a cycle into cells of zeros, and tells how many there are; 0 and nothing written where there is none.
+/// Writes the states of the cycle shown into cells of zeros, and tells how many there are; 0 and nothing written where there is none.
 #[inline(always)]
 pub fn find<const UP: bool, const LOW: bool, const FAULT: u8>(
     view: &View,
@@ -45,30 +42,25 @@ pub fn find<const UP: bool, const LOW: bool, const FAULT: u8>(
             return 0;
         }
         if kept == count {
-            let begin = reach::begin::<UP, LOW, FAULT>(view, start, &leaving);
-            return begin.map_or(0, |state| walk(state as u8, &idle[..kept], cycle));
+            return tell::<UP, LOW, FAULT>(view, start, &mut idle[..kept], &leaving, cycle);
         }
         count = kept;
     }
 }
 
-/// A walk from a state along arcs, each of whose targets has one, until a state comes again; from there on it is a cycle.
+/// The shown cycle into its cells.
 #[cold]
-fn walk(mut state: u8, idle: &[Step], cycle: &mut [u16; CYCLE]) -> usize {
-    let mut next = [0; 256];
-    for [source, target] in idle {
-        next[*source as usize] = *target;
-    }
-    let mut order = Vec::new();
-    let begin = loop {
-        if let Some(begin) = order.iter().position(|s| *s == state) {
-            break begin;
-        }
-        order.push(state);
-        state = next[state as usize];
-    };
-    let states = &order[begin..];
-    for (cell, state) in cycle.iter_mut().zip(states) {
+#[inline(never)]
+fn tell<const UP: bool, const LOW: bool, const FAULT: u8>(
+    view: &View,
+    start: Start,
+    idle: &mut [Step],
+    leaving: &[u16; 256],
+    cycle: &mut [u16; CYCLE],
+) -> usize {
+    let shown = shown::shown::<UP, LOW, FAULT>(view, start, idle, leaving);
+    let states = shown.unwrap_or_default();
+    for (cell, state) in cycle.iter_mut().zip(&states) {
         *cell = u16::from(*state);
     }
     states.len()

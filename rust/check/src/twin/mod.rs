@@ -7,6 +7,7 @@ mod place;
 mod reach;
 mod scan;
 mod search;
+mod shown;
 
 use crate::answer::{Answer, Run, Started};
 use crate::engine::{Engine, Next, Start};

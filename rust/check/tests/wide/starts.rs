@@ -4,7 +4,7 @@ use crate::narrow::Boundary;
 use crate::narrow::Cut::{Low, Most};
 use crate::narrow::Part::*;
 use crate::{Checked, NARROW, is, tells};
-use readings_check::answer::{Answer, Run};
+use readings_check::answer::{Answer, Run, Started};
 use readings_check::compare::start::{self, Start};
 use readings_check::engine::{self, Engine};
 use readings_check::table::{Arc, Table};
@@ -104,7 +104,8 @@ fn cycle(engine: &Boundary) -> Checked {
         table: table.cells(),
         ..plain()
     };
-    is(told(engine, start)?, Answer::refused(12, 0)) // the length told is compared with the cycle told
+    let states: Vec<u16> = (0..256).collect();
+    is(told(engine, start)?, Started::with_cycle(&states).answer)
 }
 
 #[test]

@@ -38,8 +38,9 @@ use denote.Triple.Clauses.{Lasts, ensured, lasts}
 use denote.Triple.Table.{cited}
 use denote.Triple.Walked.{says, walkOf, Walks, walked}
 use Rattle.machine.specs.declared.Run.{Run}
+use Rattle.machine.specs.Start.{started}
 use Rattle.capi.specs.declared.Begun.{Begun}
-use Rattle.capi.specs.Start.{StartReplyIs}
+use Rattle.capi.specs.Start.{ReplyIs}
 use Rattle.engine.proofs.Walking as Walking
 use Rattle.engine.proofs.Walking.{slice, slice-fits, exits, ends, fm, by-hand}
 use Rattle.machine.proofs.Run as R
@@ -99,7 +100,7 @@ module _ {M : Type 1} (𝓤 : URA M) (H : Heap 𝓤) (A : Atoms 𝓤) (W : Given
 
   -- what `begin` ensures
   abbrev Done : Begun → Type 0
-  Done r = StartReplyIs (t .now) n (u .now) (l .now) (x .now) (r .reply) (r .run)
+  Done r = ReplyIs (started (t .now) n (u .now) (l .now)) (x .now) (r .reply) (r .run)
 
   -- the machine values passed
   abbrev passed : List Val

@@ -1,7 +1,7 @@
 -- A side that is read and one that is written.
-use Rattle.engine_peel.proofs.Rounds.{letter-read, letter-written}
-use Rattle.engine_peel.proofs.side_idle.Statement.{statement}
-use Rattle.engine_peel.proofs.side_idle.Tie as tie
+use Rattle.engine_graph.proofs.Letters.{letter-read, letter-written}
+use Rattle.engine_graph.proofs.side_idle.Statement.{statement}
+use Rattle.engine_graph.proofs.side_idle.Tie as tie
 
 returns : tie.Need-returns
 returns c = letter-read (c .before .args .read) (c .before .args .letter) (c .if1 .taken)

@@ -1,0 +1,152 @@
+// The shortest cycle of idle arcs through a state, and of those the one whose states come first. Each state gets a number, its distance to that
+// state, ring by ring (`ring`, `rings`), until the state itself leads to the outermost ring. The way back goes from ring to ring, each time to the
+// lowest state (`lowest`, `trace`).
+ghost use mathlib.Core.Path.{_≡_};
+ghost use Prim.Native.Nat.{_<_, _≤_};
+ghost use lib.ListN.{length};
+ghost use Rattle.graph.specs.Walk.{Walk};
+ghost use Rattle.engine_graph.specs.Graph.{Graph, IdleEdge};
+ghost use Rattle.engine_cycle.specs.Numbers.{Unnumbered, LowestAt, RingAdded, RingsTo, cycleCells, cycleThrough};
+
+// The states of a cycle, from the front; none where there is no cycle.
+pub struct Cycle {
+    pub states: [u16; 256],
+    pub length: u32,
+}
+
+// The lowest state with number `far` to which an idle arc leads from state `q`; 256 where there is none.
+fn lowest(
+    arcs: &[u16],
+    first: &[u16],
+    q: usize,
+    upper: bool,
+    lower: bool,
+    numbers: &[u16],
+    far: u16,
+) -> u16
+    requires { ⌜ Graph (now arcs) (now first) (length (now numbers)) ⌝ }
+    requires { ⌜ q < length (now numbers) ⌝ }
+    ensures { λ r. ⌜ LowestAt (now (arcs .entry)) upper lower (now (numbers .entry)) far q r ⌝ }
+{
+    let end = widen::cell_as_index(first[q + 1]);
+    let mut n = widen::cell_as_index(first[q]);
+    let mut r: u16 = 256;
+    while n < end {
+        let at = n;
+        n += 1;
+        if engine_graph::idle(arcs, at, upper, lower) {
+            let arc = table_format::arc_at(arcs, at);
+            if numbers[widen::cell_as_index(arc.target)] == far {
+                if arc.target < r {
+                    r = arc.target;
+                }
+            }
+        }
+    }
+    r
+}
+
+// One ring: the states without a number from which an idle arc leads to number `far` get the next one.
+fn ring(arcs: &[u16], first: &[u16], upper: bool, lower: bool, far: u16, numbers: &mut [u16])
+    requires { ⌜ Graph (now arcs) (now first) (length (now numbers)) ⌝ }
+    requires { ⌜ (0 < far) × (far ≤ 256) ⌝ }
+    ensures { λ _. ⌜ RingAdded (now (arcs .entry)) upper lower far (now (numbers .entry)) (now (numbers .exit)) ⌝ }
+{
+    let mut q = 0;
+    while q < numbers.len() {
+        let at = q;
+        q += 1;
+        if numbers[at] == 0 {
+            let r = lowest(arcs, first, at, upper, lower, numbers, far);
+            if r < 256 {
+                numbers[at] = far + 1;
+            }
+        }
+    }
+}
+
+// Cells of zeros, one a state, get the numbers of the rings round a state that is on a cycle, up to the ring to which it leads. The number of that
+// ring: so many states has the cycle.
+fn rings(
+    arcs: &[u16],
+    first: &[u16],
+    s: usize,
+    upper: bool,
+    lower: bool,
+    numbers: &mut [u16],
+) -> u16
+    requires { ⌜ Graph (now arcs) (now first) (length (now numbers)) ⌝ }
+    requires { ⌜ s < length (now numbers) ⌝ }
+    requires { ⌜ Unnumbered (now numbers) ⌝ }
+    requires { ⌜ Walk (IdleEdge (now arcs) upper lower) s s ⌝ }
+    ensures { λ r. ⌜ (length (now (numbers .exit)) ≡ length (now (numbers .entry))) × RingsTo (now (arcs .entry)) upper lower s (now (numbers .exit)) r ⌝ }
+{
+    numbers[s] = 1;
+    let mut far: u16 = 1;
+    let mut next = lowest(arcs, first, s, upper, lower, numbers, far);
+    while 256 <= next {
+        ring(arcs, first, upper, lower, far, numbers);
+        far += 1;
+        next = lowest(arcs, first, s, upper, lower, numbers, far);
+    }
+    far
+}
+
+// The way from a state to the ring that it leads to, number `count`, and from ring to ring back to it.
+fn trace(
+    arcs: &[u16],
+    first: &[u16],
+    s: usize,
+    upper: bool,
+    lower: bool,
+    numbers: &[u16],
+    count: u16,
+) -> Cycle
+    requires { ⌜ Graph (now arcs) (now first) (length (now numbers)) ⌝ }
+    requires { ⌜ s < length (now numbers) ⌝ }
+    requires { ⌜ RingsTo (now arcs) upper lower s (now numbers) count ⌝ }
+    ensures { λ r. ⌜ r ≡ cycleCells (cycleThrough (now (arcs .entry)) upper lower (length (now (numbers .entry))) s) ⌝ }
+{
+    let mut states = [0u16; 256];
+    let mut n = 0;
+    let mut far = count;
+    let mut q = s as u16;
+    while 0 < far {
+        let r = lowest(
+            arcs,
+            first,
+            widen::cell_as_index(q),
+            upper,
+            lower,
+            numbers,
+            far,
+        );
+        states[n] = q;
+        q = r;
+        n += 1;
+        far -= 1;
+    }
+    Cycle {
+        states,
+        length: count as u32,
+    }
+}
+
+// The shortest and first cycle through a state that is on one. Cells of zeros are lent, one a state.
+pub fn through(
+    arcs: &[u16],
+    first: &[u16],
+    s: usize,
+    upper: bool,
+    lower: bool,
+    numbers: &mut [u16],
+) -> Cycle
+    requires { ⌜ Graph (now arcs) (now first) (length (now numbers)) ⌝ }
+    requires { ⌜ s < length (now numbers) ⌝ }
+    requires { ⌜ Unnumbered (now numbers) ⌝ }
+    requires { ⌜ Walk (IdleEdge (now arcs) upper lower) s s ⌝ }
+    ensures { λ r. ⌜ r ≡ cycleCells (cycleThrough (now (arcs .entry)) upper lower (length (now (numbers .entry))) s) ⌝ }
+{
+    let count = rings(arcs, first, s, upper, lower, numbers);
+    trace(arcs, first, s, upper, lower, numbers, count)
+}
