@@ -6,11 +6,11 @@ use mathlib.Core.Path.{_≡_, refl, sym, ap, subst, _∙_}
 use mathlib.Core.Logic.{_⊎_, inl, inr, ⊎-elim}
 use mathlib.Core.Bool.{Bool}
 use mathlib.Core.List.{List}
-use lib.ListN.{length, getD, set, length-set}
+use lib.ListN.{length, set, length-set}
 use lib.Seq.{getD-set-same, getD-set-other}
 use Rattle.graph.specs.Lists.{zeros}
 use Rattle.graph.specs.Walk.{Walk}
-use Rattle.graph.specs.Rings.{Ring, Rings}
+use Rattle.graph.specs.Rings.{Rings}
 use Rattle.graph.proofs.Lists.{same?, zero?, zeros-all, zeros-set}
 use Rattle.graph.proofs.Rings.{rings-begin, rings-more, rings-end}
 use Rattle.engine_graph.specs.Graph.{Graph, idleBy, IdleEdge}

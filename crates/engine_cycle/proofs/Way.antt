@@ -6,7 +6,7 @@ use mathlib.Core.Path.{_≡_, refl, sym, ap, ap₂, subst, _∙_}
 use mathlib.Core.Logic.{⊎-elim}
 use mathlib.Core.Bool.{Bool}
 use mathlib.Core.List.{List, [], _∷_, _++_, append-assoc}
-use lib.ListN.{length, getD, set, replicate, length-append}
+use lib.ListN.{length, set, replicate, length-append}
 use Rattle.table_format.specs.Cells.{arcsAs}
 use Rattle.graph.proofs.First.{Traced}
 use Rattle.graph.proofs.Rings.{Due, due-state, due-next, due-lowest, due-last, rings-cycle}

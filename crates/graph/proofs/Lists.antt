@@ -10,9 +10,8 @@ use mathlib.Core.List.{List, [], _∷_, _++_, List·Memᴰ, List·Memᴰ·head, 
 use lib.Dec.{eqb, leb}
 use lib.ListN.{length, getD, set}
 use borrow.Author.Tests.{eqb-true, eqb-false, eq-eqb, leb-true, leb-false}
-use Rattle.table_format.proofs.All.{mem-at}
 use Rattle.table_format.proofs.Any.{any-found, any-mem}
-use Rattle.graph.specs.Lists.{Distinct, Before, member, keep, upTo, lowest, zeros}
+use Rattle.graph.specs.Lists.{Before, member, keep, upTo, lowest, zeros}
 
 pub same? : (a b : ℕ) → (a ≡ b) ⊎ (a ≡ b → ⊥)
 same? a b = go (eqb a b) refl

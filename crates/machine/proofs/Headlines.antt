@@ -39,7 +39,7 @@ use Rattle.machine.specs.Reading.{Outcome, toldBy, outcome, CallBy, Refu
 use Rattle.machine.specs.Demand.{Lent, CallTells, Ample, AmpleCalls, other, Handed, received, stepsTold, unended, LastEnds, Demand3}
 use Rattle.machine.specs.Report.{LocallyFinite, _∘_, Word, α, upperAlone, lowerAlone, Output, Cell, arcsOf, kernel, Noetherian, Finite, Solves}
 use Rattle.machine.specs.Agree.{inputOf, outputOf, TraceFor, Same}
-use Rattle.machine.specs.Cases.{Ask, lentAll, AsksAmple, tableK, textK, cornerK, connected, ask, rows, rowsHold}
+use Rattle.machine.specs.Cases.{Ask, lentAll, AsksAmple, tableK, textK, ask, rows, rowsHold}
 use Rattle.machine.proofs.Tour as tours
 use Rattle.machine.proofs.Order as order
 use Rattle.machine.proofs.Narrow as narrow

@@ -181,7 +181,7 @@ lone u l k c =
     }
 
 -- table K with two loops of idle arcs, over states 3 and 4 and at state 5, and before their arcs further ones of state 2
-abbrev pub cornerK : List Arc → Table
+abbrev cornerK : List Arc → Table
 cornerK more =
     record {
       states = 6;
@@ -191,7 +191,7 @@ cornerK more =
     }
 
 -- an arc from there into the second loop, with letters that the words do not have
-abbrev pub connected : List Arc
+abbrev connected : List Arc
 connected = arcAs 2 7 8 5 ∷ []
 
 -- a row on that table

@@ -1,7 +1,7 @@
 -- The loop: the states so far, and a ring to go to.
 use Prim.Native.Nat.{ℕ}
 use native.Mathlib.Omega.{arith}
-use mathlib.Core.Path.{_≡_, subst}
+use mathlib.Core.Path.{subst}
 use denote.Ref.{now}
 use borrow.Author.Needs.{needs}
 use Rattle.engine_cycle.specs.Numbers.{LowestAt}

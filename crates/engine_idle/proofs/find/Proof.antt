@@ -3,7 +3,6 @@ use Prim.Native.Nat.{ℕ}
 use native.Mathlib.Omega.{arith}
 use mathlib.Core.Path.{sym, ap, subst, _∙_}
 use denote.Ref.{now}
-use borrow.Author.Needs.{needs}
 use Rattle.graph.specs.Lists.{AllBelow}
 use Rattle.engine_graph.specs.Graph.{Graph}
 use Rattle.engine_cycle.specs.Numbers.{cycleCells}

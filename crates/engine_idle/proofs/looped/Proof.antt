@@ -1,7 +1,7 @@
 -- Whether it is left, whether it is reached, and whether idle arcs lead back.
 use Prim.Native.Nat.{ℕ}
 use native.Mathlib.Omega.{arith}
-use mathlib.Core.Path.{_≡_, sym, subst}
+use mathlib.Core.Path.{sym, subst}
 use mathlib.Core.Bool.{true≢false}
 use denote.Ref.{now}
 use lib.ListN.{length}

@@ -1,6 +1,6 @@
 -- The initial states, then all that arcs lead to from them.
 use Prim.Native.Nat.{ℕ}
-use mathlib.Core.Path.{_≡_, sym, subst, _∙_}
+use mathlib.Core.Path.{sym, subst, _∙_}
 use denote.Ref.{now}
 use borrow.Author.Needs.{needs}
 use Rattle.engine_graph.specs.Graph.{Graph}

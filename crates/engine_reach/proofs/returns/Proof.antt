@@ -1,7 +1,7 @@
 -- Where idle arcs lead from the state, then all that they lead to from there.
 use Prim.Native.Nat.{ℕ}
 use native.Mathlib.Omega.{arith}
-use mathlib.Core.Path.{_≡_, sym, subst, _∙_}
+use mathlib.Core.Path.{sym, subst, _∙_}
 use denote.Ref.{now}
 use borrow.Author.Needs.{needs}
 use Rattle.engine_graph.specs.Graph.{Graph, IdleEdge}
