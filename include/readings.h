@@ -107,8 +107,9 @@ typedef struct {
     uint32_t length; /* what is told: cells, bytes, states or letters, as each function says */
 } rd_answer;
 
-/* What a start answers. With refusal 12 the cells hold, from their front, the states of one such cycle in walking order, none twice, as
- * many as answer.length tells, then zeros; else all are 0. */
+/* What a start answers. With refusal 12 the cells hold, from their front, the states of a cycle in walking order, none twice, as many as
+ * answer.length tells, then zeros; else all are 0. It begins with the lowest state on such a cycle and is a shortest one through it; among
+ * those it is the one whose state numbers come first, compared one by one. The order of the arcs plays no part. */
 typedef struct {
     rd_answer answer;
     uint16_t cycle[RD_CYCLE_STATES];

@@ -59,6 +59,11 @@ fn every_state_as_reached_is_noticed() {
 }
 
 #[test]
+fn the_initial_states_alone_as_reached_are_noticed() {
+    found(&Twin::<{ fault::INITIALS_REACHED }>, "rival Some(Turned)");
+}
+
+#[test]
 fn reach_by_idle_arcs_alone_is_noticed() {
     found(
         &Twin::<{ fault::IDLE_REACHED }>,

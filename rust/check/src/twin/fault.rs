@@ -13,8 +13,8 @@ pub const RECOGNITION_CYCLES: u8 = 4;
 pub const DROPPED_EARLY: u8 = 5;
 /// Every state counts as reached from an initial one.
 pub const ALL_REACHED: u8 = 6;
-/// Reached is what idle arcs lead to from the initial states.
-pub const IDLE_REACHED: u8 = 7;
+/// The initial states alone count as reached.
+pub const INITIALS_REACHED: u8 = 7;
 /// The cycle is shown from the lowest state on one, reached or not; whether 12 is given is decided rightly.
 pub const UNREACHED_TOLD: u8 = 8;
 /// Reached is what arcs lead to whose letters the words have: each letter on a side that is read is 0 or stands somewhere in its word.
@@ -27,3 +27,5 @@ pub const SHORTEST_OF_ALL: u8 = 11;
 pub const AS_LISTED: u8 = 12;
 /// The cycle shown begins with its second state.
 pub const BEGUN_ELSEWHERE: u8 = 13;
+/// Reached is what idle arcs lead to from the initial states.
+pub const IDLE_REACHED: u8 = 14;

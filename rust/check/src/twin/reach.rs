@@ -38,6 +38,7 @@ pub fn states<const UP: bool, const LOW: bool, const FAULT: u8>(
     let fits = |arc: &Arc| (!UP || has(start.upper, arc[1])) && (!LOW || has(start.lower, arc[2]));
     match FAULT {
         fault::ALL_REACHED => (0..=255).collect(),
+        fault::INITIALS_REACHED => met(view, |_| false),
         fault::IDLE_REACHED => met(view, cycle::is_idle::<UP, LOW>),
         fault::WORD_REACHED => met(view, fits),
         _ => met(view, |_| true),
