@@ -37,7 +37,7 @@
 #define RD_TABLE_CELLS 4612  /* cells that hold every table */
 #define RD_TEXT_BYTES 18970  /* bytes that hold the text of every table */
 #define RD_FRAME_CELLS 4     /* cells of a frame: state, next arc, letters passed on the upper and on the lower side */
-#define RD_CYCLE_STATES 256  /* states of the longest idle cycle */
+#define RD_CYCLE_STATES 256  /* states of the longest cycle that is told */
 
 /* What is enough for a search over a table of so many states, begun by rd_start: frames of the stack, their cells, letters of the
  * output. The letters to read are those of every word that the task reads, together. A path that the words allow has fewer arcs than
@@ -107,9 +107,10 @@ typedef struct {
     uint32_t length; /* what is told: cells, bytes, states or letters, as each function says */
 } rd_answer;
 
-/* What a start answers. With refusal 12 the cells hold, from their front, the states of a cycle in walking order, none twice, as many as
- * answer.length tells, then zeros; else all are 0. It begins with the lowest state on such a cycle and is a shortest one through it; among
- * those it is the one whose state numbers come first, compared one by one. The order of the arcs plays no part. */
+/* What a start answers. With refusal 12 the cells hold, from their front, the states of a cycle for which it is given, in walking order,
+ * none twice, as many as answer.length tells, then zeros; else all are 0. The cycle begins with the lowest state on any such cycle and is a
+ * shortest one through it; among those it is the one whose state numbers come first, compared one by one. The order in which the table
+ * lists arcs and initial states plays no part. */
 typedef struct {
     rd_answer answer;
     uint16_t cycle[RD_CYCLE_STATES];

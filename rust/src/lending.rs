@@ -47,7 +47,7 @@ pub struct Reply {
     pub length: u32,
 }
 
-/// What a start answers. With refusal 12 the states of the cycle that [`StartRefused`] shows, as many as the answer's length tells, then
+/// What a start answers. With refusal 12 the states of the cycle of [`StartRefused::cycle`], as many as the answer's length tells, then
 /// zeros; else all zeros.
 #[must_use]
 #[repr(C)]

@@ -20,7 +20,7 @@ pub const TABLE_CELLS: usize = table_cells(MOST_STATES, MOST_STATES, MOST_ARCS);
 pub const TEXT_BYTES: usize = 18_970;
 /// Cells of a frame: state, next arc, letters passed on the upper and on the lower side.
 pub const FRAME_CELLS: usize = 4;
-/// States of the longest idle cycle.
+/// States of the longest cycle that is told.
 pub const CYCLE_STATES: usize = 256;
 
 /// Cells of a table, by its counts of initial states, terminal states and arcs.

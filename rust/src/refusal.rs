@@ -77,7 +77,7 @@ pub struct StartRefused {
     pub refusal: Refusal,
     /// With [`Refusal::IdleCycle`] the states of one such cycle in walking order, none twice; else empty. It begins with the lowest state
     /// on any such cycle and is a shortest one through it; among those it is the one whose state numbers come first, compared one by one.
-    /// The order of the arcs plays no part.
+    /// The order in which the table lists arcs and initial states plays no part.
     pub cycle: Vec<u16>,
 }
 

@@ -1,4 +1,4 @@
--- Laws of the rings: one state after another gets its number, and one ring comes after another.
+-- Laws of the layers: one state after another gets its number, and one layer comes after another.
 use Prim.Native.Nat.{ℕ, suc, _+_, _<_, _≤_}
 use native.Mathlib.Omega.{arith}
 use native.Mathlib.Numerals.{add-one}
@@ -10,12 +10,12 @@ use lib.ListN.{length, set, length-set}
 use lib.Seq.{getD-set-same, getD-set-other}
 use Rattle.graph.specs.Lists.{zeros}
 use Rattle.graph.specs.Walk.{Walk}
-use Rattle.graph.specs.Rings.{Rings}
+use Rattle.graph.specs.Layers.{Layers}
 use Rattle.graph.proofs.Lists.{same?, zero?, zeros-all, zeros-set}
-use Rattle.graph.proofs.Rings.{rings-begin, rings-more, rings-end}
+use Rattle.graph.proofs.Layers.{layers-begin, layers-more, layers-end}
 use Rattle.engine_graph.specs.Graph.{Graph, idleBy, IdleEdge}
 use Rattle.engine_graph.proofs.Edges.{among}
-use Rattle.engine_cycle.specs.Numbers.{numberIn, Unnumbered, LowestAt, RingAdded, RingsTo}
+use Rattle.engine_cycle.specs.Numbers.{numberIn, Unnumbered, LowestAt, LayerAdded, LayersTo}
 
 module _ (arcs : List ℕ) (upper lower : Bool) where
   -- ONE RING: the states below n had their turn.
@@ -31,7 +31,7 @@ module _ (arcs : List ℕ) (upper lower : Bool) where
       record { same-length = refl; kept = λ x p. refl; added = λ x z p. absurd (omega arith); covered = λ x h. absurd (omega arith); fewer = inl refl }
 
   module _ {far : ℕ} {before numbers : List ℕ} {n : ℕ} (T : Turned far before numbers n) where
-    -- a state that has its number, or that does not lead to the ring
+    -- a state that has its number, or that does not lead to the layer
     pub turned-stays : ((y : ℕ) → IdleEdge arcs upper lower n y → numberIn before y ≡ far → 0 < numberIn numbers n) → Turned far before numbers (n + 1)
     turned-stays f =
         record {
@@ -78,11 +78,11 @@ module _ (arcs : List ℕ) (upper lower : Bool) where
               fewer = inr (let s = zeros-set numbers n (far + 1) b z (omega arith) in ⊎-elim (λ e. let w = ap zeros e in omega arith) (λ w. omega arith) (T .fewer));
             }
 
-  pub turned-all : (first : List ℕ) {far : ℕ} {before numbers : List ℕ} {n : ℕ} → Graph arcs first (length before) → length numbers ≤ n → Turned far before numbers n → RingAdded arcs upper lower far before numbers
+  pub turned-all : (first : List ℕ) {far : ℕ} {before numbers : List ℕ} {n : ℕ} → Graph arcs first (length before) → length numbers ≤ n → Turned far before numbers n → LayerAdded arcs upper lower far before numbers
   turned-all first G h T =
       record {
         same-length = T .same-length;
-        ring =
+        layer =
             record {
               kept = T .kept;
               added = T .added;
@@ -93,9 +93,9 @@ module _ (arcs : List ℕ) (upper lower : Bool) where
 
   -- THE RINGS, until s leads to the outermost.
   module _ (s : ℕ) where
-    -- the rings up to a number, and what s leads to
+    -- the layers up to a number, and what s leads to
     pub record Grown (numbers : List ℕ) (far next : ℕ) : Type 0 where
-      pub rings : Rings (IdleEdge arcs upper lower) s (numberIn numbers) far
+      pub layers : Layers (IdleEdge arcs upper lower) s (numberIn numbers) far
       pub leads : LowestAt arcs upper lower numbers far s next
       pub room : far + zeros numbers ≤ length numbers
       pub some : 0 < far
@@ -104,29 +104,29 @@ module _ (arcs : List ℕ) (upper lower : Bool) where
       pub grown-first : (next : ℕ) → LowestAt arcs upper lower (set numbers s 1) 1 s next → Grown (set numbers s 1) 1 next
       grown-first next L =
           record {
-            rings =
-                rings-begin (IdleEdge arcs upper lower) s (numberIn (set numbers s 1)) (getD-set-same numbers s 1 0 h) (λ x d. getD-set-other numbers s x 1 0 d ∙ U x);
+            layers =
+                layers-begin (IdleEdge arcs upper lower) s (numberIn (set numbers s 1)) (getD-set-same numbers s 1 0 h) (λ x d. getD-set-other numbers s x 1 0 d ∙ U x);
             leads = L;
             room = let z = zeros-set numbers s 1 h (U s) (omega arith) in let a = zeros-all numbers U in let l = length-set numbers s 1 in omega arith;
             some = omega arith;
           }
 
-    module _ {numbers : List ℕ} {far next : ℕ} (G : Grown numbers far next) (k : 256 ≤ next) (w : Walk (IdleEdge arcs upper lower) s s) {after : List ℕ} (A : RingAdded arcs upper lower far numbers after) where
-      -- each ring has a state, since s is on a cycle
+    module _ {numbers : List ℕ} {far next : ℕ} (G : Grown numbers far next) (k : 256 ≤ next) (w : Walk (IdleEdge arcs upper lower) s s) {after : List ℕ} (A : LayerAdded arcs upper lower far numbers after) where
+      -- each layer has a state, since s is on a cycle
       pub grown-fewer : zeros after < zeros numbers
       grown-fewer =
           ⊎-elim
-          (λ e. absurd (rings-end (IdleEdge arcs upper lower) s (G .rings) (λ x y E f. subst (λ (l : List ℕ). 0 < numberIn l x) e (A .ring .covered x y E f)) (G .leads .none-there k) w))
+          (λ e. absurd (layers-end (IdleEdge arcs upper lower) s (G .layers) (λ x y E f. subst (λ (l : List ℕ). 0 < numberIn l x) e (A .layer .covered x y E f)) (G .leads .none-there k) w))
           (λ h. h) (A .fewer)
 
       pub grown-more : (next′ : ℕ) → LowestAt arcs upper lower after (far + 1) s next′ → Grown after (far + 1) next′
       grown-more next′ L =
           record {
-            rings = subst (Rings (IdleEdge arcs upper lower) s (numberIn after)) (sym (add-one far)) (rings-more (IdleEdge arcs upper lower) s (G .rings) (A .ring) (G .leads .none-there k));
+            layers = subst (Layers (IdleEdge arcs upper lower) s (numberIn after)) (sym (add-one far)) (layers-more (IdleEdge arcs upper lower) s (G .layers) (A .layer) (G .leads .none-there k));
             leads = L;
             room = let f = grown-fewer in let l = A .same-length in let m = G .room in omega arith;
             some = omega arith;
           }
 
-    pub grown-ends : {numbers : List ℕ} {far next : ℕ} → length numbers ≤ 256 → Grown numbers far next → next < 256 → RingsTo arcs upper lower s numbers far
-    grown-ends h G k = let F = G .leads .found k in record { rings = G .rings; few = omega (arith, G .room); leads = (_, F .0, F .1) }
+    pub grown-ends : {numbers : List ℕ} {far next : ℕ} → length numbers ≤ 256 → Grown numbers far next → next < 256 → LayersTo arcs upper lower s numbers far
+    grown-ends h G k = let F = G .leads .found k in record { layers = G .layers; few = omega (arith, G .room); leads = (_, F .0, F .1) }

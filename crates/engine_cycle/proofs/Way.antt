@@ -1,4 +1,4 @@
--- The way from ring to ring is the shortest and first cycle.
+-- The way from layer to layer is the shortest and first cycle.
 use Prim.Native.Nat.{ℕ, zero, suc, _+_, _-_, _<_, _≤_}
 use native.Mathlib.Omega.{arith}
 use native.Mathlib.Numerals.{unary-clauses}
@@ -9,7 +9,7 @@ use mathlib.Core.List.{List, [], _∷_, _++_, append-assoc}
 use lib.ListN.{length, set, replicate, length-append}
 use Rattle.table_format.specs.Cells.{arcsAs}
 use Rattle.graph.proofs.First.{Traced}
-use Rattle.graph.proofs.Rings.{Due, due-state, due-next, due-lowest, due-last, rings-cycle}
+use Rattle.graph.proofs.Layers.{Due, due-state, due-next, due-lowest, due-last, layers-cycle}
 use Rattle.graph.proofs.Shown.{cycle-from}
 use Rattle.graph.proofs.Lists.{most?}
 use Rattle.machine.specs.Idle.{leadsBy}
@@ -17,7 +17,7 @@ use Rattle.machine.proofs.Idle.{tells}
 use Rattle.engine_graph.specs.Graph.{Graph, idleBy, IdleEdge}
 use Rattle.engine_graph.proofs.Edges.{among}
 use Rattle.engine_cycle.specs.declared.Cycle.{Cycle}
-use Rattle.engine_cycle.specs.Numbers.{numberIn, LowestAt, RingsTo, cycleCells, cycleThrough}
+use Rattle.engine_cycle.specs.Numbers.{numberIn, LowestAt, LayersTo, cycleCells, cycleThrough}
 
 -- a state more at the front of zeros
 set-next : (c : List ℕ) (m x : ℕ) → 0 < m → set (c ++ replicate m 0) (length c) x ≡ (c ++ x ∷ []) ++ replicate (m - 1) 0
@@ -41,7 +41,7 @@ module _ (arcs : List ℕ) (upper lower : Bool) (s : ℕ) (numbers : List ℕ) (
     pub so-far : 0 < far → (l : List ℕ) → Traced (IdleEdge arcs upper lower) s q l → suc (length l) ≡ far → Whole (path ++ q ∷ l)
     pub at-end : far ≡ 0 → Whole path
 
-  module _ (R : RingsTo arcs upper lower s numbers top) where
+  module _ (R : LayersTo arcs upper lower s numbers top) where
     pub way-begins : OnWay (replicate 256 0) 0 top s
     way-begins =
         record {
@@ -49,9 +49,9 @@ module _ (arcs : List ℕ) (upper lower : Bool) (s : ℕ) (numbers : List ℕ) (
           cells = refl;
           count = refl;
           sum = omega arith;
-          due = λ h. let L = R .leads in due-state (IdleEdge arcs upper lower) s (R .rings) (L .0) (L .1) (L .2);
+          due = λ h. let L = R .leads in due-state (IdleEdge arcs upper lower) s (R .layers) (L .0) (L .1) (L .2);
           so-far = λ h l T e. (refl, e, T);
-          at-end = λ e. absurd (let b = R .rings .bounded s in let a = R .rings .at-state in omega arith);
+          at-end = λ e. absurd (let b = R .layers .bounded s in let a = R .layers .at-state in omega arith);
         }
 
     module _ {states : List ℕ} {n far q : ℕ} (W : OnWay states n far q) where
@@ -71,13 +71,13 @@ module _ (arcs : List ℕ) (upper lower : Bool) (s : ℕ) (numbers : List ℕ) (
                   ∙ set-next (W .path) (256 - n) q (let k = way-room in omega arith) ∙ ap (λ (m : ℕ). (W .path ++ q ∷ []) ++ replicate m 0) {x = 256 - n - 1} {y = 256 - (n + 1)} (omega arith);
               count = let a = length-append (W .path) (q ∷ []) in let c = W .count in omega arith;
               sum = let a = W .sum in omega arith;
-              due = λ k. due-next (IdleEdge arcs upper lower) s (R .rings) far q (W .due h) r (found .1) (omega arith);
+              due = λ k. due-next (IdleEdge arcs upper lower) s (R .layers) far q (W .due h) r (found .1) (omega arith);
               so-far =
                   λ k l T e. subst Whole (sym (append-assoc (W .path) (q ∷ []) (r ∷ l)))
-                  (W .so-far h (r ∷ l) (due-lowest (IdleEdge arcs upper lower) s (R .rings) far q (W .due h) r (found .0) (found .2) (length l) (omega arith), T) (omega arith));
+                  (W .so-far h (r ∷ l) (due-lowest (IdleEdge arcs upper lower) s (R .layers) far q (W .due h) r (found .0) (found .2) (length l) (omega arith), T) (omega arith));
               at-end =
                   λ e. let f : far ≡ 1 = omega arith in
-                  W .so-far h [] (due-last (IdleEdge arcs upper lower) s (R .rings) q (subst (λ (i : ℕ). Due (IdleEdge arcs upper lower) s (numberIn numbers) top i q) f (W .due h))) (sym f);
+                  W .so-far h [] (due-last (IdleEdge arcs upper lower) s (R .layers) q (subst (λ (i : ℕ). Due (IdleEdge arcs upper lower) s (numberIn numbers) top i q) f (W .due h))) (sym f);
             }
           where
             small : r < 256
@@ -94,4 +94,4 @@ module _ (arcs : List ℕ) (upper lower : Bool) (s : ℕ) (numbers : List ℕ) (
           go (x ∷ l) e c w =
               ap₂ (λ (a : List ℕ) (k : ℕ). record { states = a; length = k }) (e ∙ ap₂ (λ (y k : ℕ). (y ∷ l) ++ replicate (256 - k) 0) (w .0) c) (sym (w .1))
               ∙ ap cycleCells
-              (sym (cycle-from (IdleEdge arcs upper lower) (leadsBy (arcsAs arcs) (idleBy upper lower)) (length numbers) (tells (arcsAs arcs) (idleBy upper lower)) (among arcs (idleBy upper lower) first (length numbers) G) s l (rings-cycle (IdleEdge arcs upper lower) s (R .rings) l (w .2) (w .1))))
+              (sym (cycle-from (IdleEdge arcs upper lower) (leadsBy (arcsAs arcs) (idleBy upper lower)) (length numbers) (tells (arcsAs arcs) (idleBy upper lower)) (among arcs (idleBy upper lower) first (length numbers) G) s l (layers-cycle (IdleEdge arcs upper lower) s (R .layers) l (w .2) (w .1))))

@@ -1,12 +1,12 @@
-// The shortest cycle of idle arcs through a state, and of those the one whose states come first. Each state gets a number, its distance to that
-// state, ring by ring (`ring`, `rings`), until the state itself leads to the outermost ring. The way back goes from ring to ring, each time to the
-// lowest state (`lowest`, `trace`).
+// A shortest cycle of idle arcs through a state, and among those the one whose states come first, by a breadth-first search backwards from that state.
+// It has number 1, and others have one more than their distance to it, layer by layer (`layer`, `layers`), until an arc leads from it to the
+// outermost layer. The way back goes from layer to layer, each time to the lowest state to which an arc leads (`lowest`, `trace`).
 ghost use mathlib.Core.Path.{_≡_};
 ghost use Prim.Native.Nat.{_<_, _≤_};
 ghost use lib.ListN.{length};
 ghost use Rattle.graph.specs.Walk.{Walk};
 ghost use Rattle.engine_graph.specs.Graph.{Graph, IdleEdge};
-ghost use Rattle.engine_cycle.specs.Numbers.{Unnumbered, LowestAt, RingAdded, RingsTo, cycleCells, cycleThrough};
+ghost use Rattle.engine_cycle.specs.Numbers.{Unnumbered, LowestAt, LayerAdded, LayersTo, cycleCells, cycleThrough};
 
 // The states of a cycle, from the front; none where there is no cycle.
 pub struct Cycle {
@@ -46,11 +46,11 @@ fn lowest(
     r
 }
 
-// One ring: the states without a number from which an idle arc leads to number `far` get the next one.
-fn ring(arcs: &[u16], first: &[u16], upper: bool, lower: bool, far: u16, numbers: &mut [u16])
+// One layer: the states without a number from which an idle arc leads to number `far` get the next one.
+fn layer(arcs: &[u16], first: &[u16], upper: bool, lower: bool, far: u16, numbers: &mut [u16])
     requires { ⌜ Graph (now arcs) (now first) (length (now numbers)) ⌝ }
     requires { ⌜ (0 < far) × (far ≤ 256) ⌝ }
-    ensures { λ _. ⌜ RingAdded (now (arcs .entry)) upper lower far (now (numbers .entry)) (now (numbers .exit)) ⌝ }
+    ensures { λ _. ⌜ LayerAdded (now (arcs .entry)) upper lower far (now (numbers .entry)) (now (numbers .exit)) ⌝ }
 {
     let mut q = 0;
     while q < numbers.len() {
@@ -65,9 +65,9 @@ fn ring(arcs: &[u16], first: &[u16], upper: bool, lower: bool, far: u16, numbers
     }
 }
 
-// Cells of zeros, one a state, get the numbers of the rings round a state that is on a cycle, up to the ring to which it leads. The number of that
-// ring: so many states has the cycle.
-fn rings(
+// Cells of zeros, one a state, get the numbers of the layers round a state that is on a cycle, up to the layer to which it leads. Gives the number of
+// that layer, which is the count of the cycle's states.
+fn layers(
     arcs: &[u16],
     first: &[u16],
     s: usize,
@@ -79,20 +79,20 @@ fn rings(
     requires { ⌜ s < length (now numbers) ⌝ }
     requires { ⌜ Unnumbered (now numbers) ⌝ }
     requires { ⌜ Walk (IdleEdge (now arcs) upper lower) s s ⌝ }
-    ensures { λ r. ⌜ (length (now (numbers .exit)) ≡ length (now (numbers .entry))) × RingsTo (now (arcs .entry)) upper lower s (now (numbers .exit)) r ⌝ }
+    ensures { λ r. ⌜ (length (now (numbers .exit)) ≡ length (now (numbers .entry))) × LayersTo (now (arcs .entry)) upper lower s (now (numbers .exit)) r ⌝ }
 {
     numbers[s] = 1;
     let mut far: u16 = 1;
     let mut next = lowest(arcs, first, s, upper, lower, numbers, far);
     while 256 <= next {
-        ring(arcs, first, upper, lower, far, numbers);
+        layer(arcs, first, upper, lower, far, numbers);
         far += 1;
         next = lowest(arcs, first, s, upper, lower, numbers, far);
     }
     far
 }
 
-// The way from a state to the ring that it leads to, number `count`, and from ring to ring back to it.
+// The way from a state to the layer that it leads to, number `count`, and from layer to layer back to it.
 fn trace(
     arcs: &[u16],
     first: &[u16],
@@ -104,7 +104,7 @@ fn trace(
 ) -> Cycle
     requires { ⌜ Graph (now arcs) (now first) (length (now numbers)) ⌝ }
     requires { ⌜ s < length (now numbers) ⌝ }
-    requires { ⌜ RingsTo (now arcs) upper lower s (now numbers) count ⌝ }
+    requires { ⌜ LayersTo (now arcs) upper lower s (now numbers) count ⌝ }
     ensures { λ r. ⌜ r ≡ cycleCells (cycleThrough (now (arcs .entry)) upper lower (length (now (numbers .entry))) s) ⌝ }
 {
     let mut states = [0u16; 256];
@@ -132,7 +132,7 @@ fn trace(
     }
 }
 
-// The shortest and first cycle through a state that is on one. Cells of zeros are lent, one a state.
+// The shortest and first cycle through a state that is on one. Cells of zeros are lent to work in, one a state.
 pub fn through(
     arcs: &[u16],
     first: &[u16],
@@ -147,6 +147,6 @@ pub fn through(
     requires { ⌜ Walk (IdleEdge (now arcs) upper lower) s s ⌝ }
     ensures { λ r. ⌜ r ≡ cycleCells (cycleThrough (now (arcs .entry)) upper lower (length (now (numbers .entry))) s) ⌝ }
 {
-    let count = rings(arcs, first, s, upper, lower, numbers);
+    let count = layers(arcs, first, s, upper, lower, numbers);
     trace(arcs, first, s, upper, lower, numbers, count)
 }

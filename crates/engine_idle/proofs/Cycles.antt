@@ -20,7 +20,7 @@ use Rattle.engine_graph.proofs.Edges.{among}
 use Rattle.engine_reach.specs.Reach.{Unmarked, ReachedBy, ReachedCells}
 use Rattle.engine_peel.specs.Peel.{Cyclic, Settled}
 use Rattle.engine_cycle.specs.Numbers.{cycleThrough}
-use Rattle.engine_idle.specs.Found.{AllAlive, NoneLeft, LowestLooped, shownIn}
+use Rattle.engine_idle.specs.Found.{AllAlive, NoneLeft, LoopedAt, LowestLooped, shownIn}
 
 -- NONE IS LEFT: those below s are not.
 
@@ -33,16 +33,13 @@ left-one alive s h a = record { none-alive = λ e. absurd (true≢false (sym e))
 -- THE LOWEST THAT IS LOOPED.
 
 module _ (arcs : List ℕ) (upper lower : Bool) (reached : List ℕ) where
-  abbrev pub LoopedAt : ℕ → Type 0
-  LoopedAt s = (getD reached s 0 ≡ 1) × Walk (IdleEdge arcs upper lower) s s
+  pub looped-more : (s : ℕ) (b : Bool) → (b ≡ true) ↔ LoopedAt arcs upper lower reached s → b ≡ false → ((i : ℕ) → i < s → LoopedAt arcs upper lower reached i → ⊥) → (i : ℕ) → i < s + 1 → LoopedAt arcs upper lower reached i → ⊥
+  looped-more s b B e f = below-more (λ (i : ℕ). LoopedAt arcs upper lower reached i → ⊥) s f (λ L. true≢false (sym (B .1 L) ∙ e))
 
-  pub looped-more : (s : ℕ) (b : Bool) → (b ≡ true) ↔ LoopedAt s → b ≡ false → ((i : ℕ) → i < s → LoopedAt i → ⊥) → (i : ℕ) → i < s + 1 → LoopedAt i → ⊥
-  looped-more s b B e f = below-more (λ (i : ℕ). LoopedAt i → ⊥) s f (λ L. true≢false (sym (B .1 L) ∙ e))
-
-  pub lowest-found : (s : ℕ) → s < length reached → LoopedAt s → ((i : ℕ) → i < s → LoopedAt i → ⊥) → LowestLooped arcs upper lower reached s
+  pub lowest-found : (s : ℕ) → s < length reached → LoopedAt arcs upper lower reached s → ((i : ℕ) → i < s → LoopedAt arcs upper lower reached i → ⊥) → LowestLooped arcs upper lower reached s
   lowest-found s h L f = record { within = omega arith; looped = λ k. L; none-before = f }
 
-  pub lowest-none : (s : ℕ) → length reached ≤ s → s ≤ length reached → ((i : ℕ) → i < s → LoopedAt i → ⊥) → LowestLooped arcs upper lower reached s
+  pub lowest-none : (s : ℕ) → length reached ≤ s → s ≤ length reached → ((i : ℕ) → i < s → LoopedAt arcs upper lower reached i → ⊥) → LowestLooped arcs upper lower reached s
   lowest-none s h k f = record { within = k; looped = λ j. absurd (omega arith); none-before = f }
 
 -- WHAT IS SHOWN, where all states live at first and the rounds leave some.
@@ -56,14 +53,19 @@ module _ (arcs initials : List ℕ) (upper lower : Bool) (first before after : L
   pub cycles-left : Cyclic arcs upper lower after
   cycles-left = S .keeps (λ s w. A s (below s w))
 
-  shown-none : ((s : ℕ) → ReachedBy arcs initials s → Walk (IdleEdge arcs upper lower) s s → ⊥) → shownIn arcs initials (length before) upper lower ≡ []
-  shown-none =
-      shown.shown-none (AnyArc (arcsAs arcs)) (IdleEdge arcs upper lower) (leadsBy (arcsAs arcs) always) (leadsBy (arcsAs arcs) (idleBy upper lower)) (length before) initials
-      (tells (arcsAs arcs) always) (tells (arcsAs arcs) (idleBy upper lower)) (among arcs always first (length before) G) (among arcs (idleBy upper lower) first (length before) G) B
+  tested : shown.Tested (AnyArc (arcsAs arcs)) (IdleEdge arcs upper lower) (leadsBy (arcsAs arcs) always) (leadsBy (arcsAs arcs) (idleBy upper lower)) (length before) initials
+  tested =
+      record {
+        reach-told = tells (arcsAs arcs) always;
+        cycle-told = tells (arcsAs arcs) (idleBy upper lower);
+        reach-among = among arcs always first (length before) G;
+        cycle-among = among arcs (idleBy upper lower) first (length before) G;
+        starts-below = B;
+      }
 
   -- none is left: there is no cycle
   pub none-left : NoneLeft after true → shownIn arcs initials (length before) upper lower ≡ []
-  none-left N = shown-none (λ s R w. N .none-alive refl s (omega (arith, below s w, S .same-length)) (cycles-left s w))
+  none-left N = shown.shown-none tested (λ s R w. N .none-alive refl s (omega (arith, below s w, S .same-length)) (cycles-left s w))
 
   module _ (reached : List ℕ) (l : length reached ≡ length before) (M : ReachedCells arcs initials reached) (r : ℕ) (L : LowestLooped arcs upper lower reached r) where
     looped-at : (s : ℕ) → ReachedBy arcs initials s → Walk (IdleEdge arcs upper lower) s s → LoopedAt arcs upper lower reached s
@@ -71,7 +73,7 @@ module _ (arcs initials : List ℕ) (upper lower : Bool) (first before after : L
 
     -- none that is left is reached: no cycle is
     pub none-reached : length after ≤ r → shownIn arcs initials (length before) upper lower ≡ []
-    none-reached h = shown-none (λ s R w. L .none-before s (omega (arith, below s w, S .same-length)) (looped-at s R w))
+    none-reached h = shown.shown-none tested (λ s R w. L .none-before s (omega (arith, below s w, S .same-length)) (looped-at s R w))
 
     -- one is: so is the cycle through it
     module _ (h : r < length after) where
@@ -83,9 +85,7 @@ module _ (arcs initials : List ℕ) (upper lower : Bool) (first before after : L
 
       pub one-reached : shownIn arcs initials (length before) upper lower ≡ cycleThrough arcs upper lower (length before) r
       one-reached =
-          shown.shown-through (AnyArc (arcsAs arcs)) (IdleEdge arcs upper lower) (leadsBy (arcsAs arcs) always) (leadsBy (arcsAs arcs) (idleBy upper lower)) (length before) initials
-          (tells (arcsAs arcs) always) (tells (arcsAs arcs) (idleBy upper lower)) (among arcs always first (length before) G) (among arcs (idleBy upper lower) first (length before) G) B
-          r here on-cycle (λ s R w. ⊎-elim (λ k. k) (λ k. absurd (L .none-before s k (looped-at s R w))) (most? r s))
+          shown.shown-through tested r here on-cycle (λ s R w. ⊎-elim (λ k. k) (λ k. absurd (L .none-before s k (looped-at s R w))) (most? r s))
         where
           here : ReachedBy arcs initials r
           here = ⊎-elim (λ y. y .1) (λ n. absurd (let y = n .0 in let z = looped-here .0 in omega arith)) (M r)

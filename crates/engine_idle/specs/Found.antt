@@ -19,12 +19,16 @@ pub record NoneLeft (alive : List ℕ) (r : Bool) : Type 0 where
   pub none-alive : r ≡ true → (s : ℕ) → s < length alive → getD alive s 0 ≡ 1 → ⊥
   pub one-alive : r ≡ false → (s : ℕ) × (s < length alive) × (getD alive s 0 ≡ 1)
 
-module _ (arcs : List ℕ) (upper lower : Bool) where
-  -- the lowest state that is reached and on a cycle, or the count of states where none is
-  pub record LowestLooped (reached : List ℕ) (r : ℕ) : Type 0 where
+module _ (arcs : List ℕ) (upper lower : Bool) (reached : List ℕ) where
+  -- a state is reached and on a cycle
+  abbrev pub LoopedAt : ℕ → Type 0
+  LoopedAt s = (getD reached s 0 ≡ 1) × Walk (IdleEdge arcs upper lower) s s
+
+  -- the lowest that is, or the count of states where none is
+  pub record LowestLooped (r : ℕ) : Type 0 where
     pub within : r ≤ length reached
-    pub looped : r < length reached → (getD reached r 0 ≡ 1) × Walk (IdleEdge arcs upper lower) r r
-    pub none-before : (s : ℕ) → s < r → (getD reached s 0 ≡ 1) × Walk (IdleEdge arcs upper lower) s s → ⊥
+    pub looped : r < length reached → LoopedAt r
+    pub none-before : (s : ℕ) → s < r → LoopedAt s → ⊥
 
 -- the cycle to be shown: any arcs reach, idle ones make the cycle
 abbrev pub shownIn : (arcs initials : List ℕ) (states : ℕ) (upper lower : Bool) → List ℕ

@@ -1,2 +1,2 @@
--- What the search for an idle cycle that is reached says.
+-- What the search for the idle cycle to be shown says.
 pub mod Found

@@ -7,14 +7,13 @@ ghost use mathlib.Core.Logic.{_↔_};
 ghost use mathlib.Core.Bool.{true};
 ghost use mathlib.Core.List.{[]};
 ghost use Prim.Native.Nat.{_<_};
-ghost use lib.ListN.{length, getD};
+ghost use lib.ListN.{length};
 ghost use Rattle.graph.specs.Lists.{AllBelow};
-ghost use Rattle.graph.specs.Walk.{Walk};
-ghost use Rattle.engine_graph.specs.Graph.{Graph, IdleEdge};
+ghost use Rattle.engine_graph.specs.Graph.{Graph};
 ghost use Rattle.engine_reach.specs.Reach.{Unmarked};
 ghost use Rattle.engine_peel.specs.Peel.{Cyclic};
 ghost use Rattle.engine_cycle.specs.Numbers.{cycleCells};
-ghost use Rattle.engine_idle.specs.Found.{AllAlive, NoneLeft, LowestLooped, shownIn};
+ghost use Rattle.engine_idle.specs.Found.{AllAlive, NoneLeft, LoopedAt, LowestLooped, shownIn};
 
 // No state is left.
 fn none_left(alive: &[u8]) -> bool
@@ -30,7 +29,7 @@ fn none_left(alive: &[u8]) -> bool
     true
 }
 
-// A state is reached and on an idle cycle. All that are on one are left.
+// A state is reached and on an idle cycle. Every state on one is alive.
 fn looped(
     arcs: &[u16],
     first: &[u16],
@@ -44,7 +43,7 @@ fn looped(
     requires { ⌜ s < length (now alive) ⌝ }
     requires { ⌜ length (now reached) ≡ length (now alive) ⌝ }
     requires { ⌜ Cyclic (now arcs) upper lower (now alive) ⌝ }
-    ensures { λ r. ⌜ (r ≡ true) ↔ ((getD (now (reached .entry)) s 0 ≡ 1) × Walk (IdleEdge (now (arcs .entry)) upper lower) s s) ⌝ }
+    ensures { λ r. ⌜ (r ≡ true) ↔ LoopedAt (now (arcs .entry)) upper lower (now (reached .entry)) s ⌝ }
 {
     if alive[s] == 1 {
         if reached[s] == 1 {

@@ -16,7 +16,7 @@ use Rattle.graph.proofs.Lists.{below-more}
 use Rattle.graph.proofs.Walk.{rotated}
 use Rattle.engine_graph.specs.Graph.{Graph, idleBy, IdleEdge}
 use Rattle.engine_graph.proofs.Edges.{number-of, edge-of}
-use Rattle.engine_peel.specs.Peel.{total, leadsAlive, Cyclic, Stable, Next, Peeled, Settled}
+use Rattle.engine_peel.specs.Peel.{total, leadsAlive, Cyclic, Stable, Leaf, Peeled, Settled}
 
 -- an arc that is looked at once more where it is idle
 pub leads-by : (upper lower : Bool) (alive : List ℕ) (a : Arc) (r : held.Arc) {x : Bool} → r ≡ arcHeld a → x ≡ idleBy upper lower a
@@ -40,21 +40,17 @@ module _ (arcs : List ℕ) (upper lower : Bool) where
   leadsAt alive n = leadsAlive upper lower alive (arcOf arcs n)
 
   module _ (first alive : List ℕ) (G : Graph arcs first (length alive)) (q : ℕ) (h : q < length alive) where
-    at-number : (n : ℕ) → getD first q 0 ≤ n → n < getD first (q + 1) 0 → leadsAt alive n ≡ true → Next arcs upper lower alive q (arcOf arcs n .target)
-    at-number n a b e =
+    pub leaf-not : (n : ℕ) → getD first q 0 ≤ n → n < getD first (q + 1) 0 → leadsAt alive n ≡ true → Leaf arcs upper lower alive q false
+    leaf-not n a b e =
         let idle = and-left (idleBy upper lower (arcOf arcs n)) (eqb (getD alive (arcOf arcs n .target) 0) 1) e in
         let lives = and-right (idleBy upper lower (arcOf arcs n)) (eqb (getD alive (arcOf arcs n .target) 0) 1) e in
         record {
-          leads-on = λ k. (edge-of arcs (idleBy upper lower) first (length alive) G q n h a b idle, eqb-true _ _ lives);
-          leads-nowhere = λ k. absurd (omega (arith, G .target-in n (G .numbered q n h a b .0), G .few));
+          leads-on = λ k. (arcOf arcs n .target, edge-of arcs (idleBy upper lower) first (length alive) G q n h a b idle, eqb-true _ _ lives);
+          leads-nowhere = λ k. absurd (true≢false (sym k));
         }
 
-    pub next-found : (n : ℕ) (r : held.Arc) → r ≡ arcHeld (arcOf arcs n) → getD first q 0 ≤ n → n < getD first (q + 1) 0 → leadsAt alive n ≡ true
-        → Next arcs upper lower alive q (r .target)
-    next-found n r z a b t = subst (λ (x : held.Arc). Next arcs upper lower alive q (x .target)) (sym z) (at-number n a b t)
-
-    pub next-none : ((n : ℕ) → getD first q 0 ≤ n → n < getD first (q + 1) 0 → leadsAt alive n ≡ false) → Next arcs upper lower alive q 256
-    next-none f = record { leads-on = λ k. absurd (omega arith); leads-nowhere = λ k x E a. clash x E a }
+    pub leaf : ((n : ℕ) → getD first q 0 ≤ n → n < getD first (q + 1) 0 → leadsAt alive n ≡ false) → Leaf arcs upper lower alive q true
+    leaf f = record { leads-on = λ k. absurd (true≢false k); leads-nowhere = λ k x E a. clash x E a }
       where
         clash : (x : ℕ) (E : IdleEdge arcs upper lower q x) → getD alive x 0 ≡ 1 → ⊥
         clash x E a =
@@ -91,11 +87,11 @@ module _ (arcs : List ℕ) (upper lower : Bool) where
     pub round-dead : (getD alive (q - 1) 0 ≡ 1 → ⊥) → Round before alive (q - 1) died
     round-dead d = stays (λ e. absurd (d e))
 
-    module _ (r : ℕ) (N : Next arcs upper lower alive (q - 1) r) where
-      pub round-lives : r < 256 → Round before alive (q - 1) died
-      round-lives k = stays (λ e. (r, N .leads-on k .0, N .leads-on k .1))
+    module _ (r : Bool) (N : Leaf arcs upper lower alive (q - 1) r) where
+      pub round-lives : r ≡ false → Round before alive (q - 1) died
+      round-lives k = stays (λ e. N .leads-on k)
 
-      pub round-dies : q ≤ length alive → getD alive (q - 1) 0 ≡ 1 → 256 ≤ r → Round before (set alive (q - 1) 0) (q - 1) true
+      pub round-dies : q ≤ length alive → getD alive (q - 1) 0 ≡ 1 → r ≡ true → Round before (set alive (q - 1) 0) (q - 1) true
       round-dies i a k =
           let less : total (set alive (q - 1) 0) < total alive = total-set alive (q - 1) (omega arith) a in
           let few = R .no-more in

@@ -29,10 +29,10 @@ module _ (arcs : List ℕ) (upper lower : Bool) where
   abbrev pub Stable : List ℕ → Type 0
   Stable alive = (s : ℕ) → s < length alive → getD alive s 0 ≡ 1 → (r : ℕ) × IdleEdge arcs upper lower s r × (getD alive r 0 ≡ 1)
 
-  -- r is a state that is alive and to which an idle arc leads from q, or beyond the states where there is none
-  pub record Next (alive : List ℕ) (q r : ℕ) : Type 0 where
-    pub leads-on : r < 256 → IdleEdge arcs upper lower q r × (getD alive r 0 ≡ 1)
-    pub leads-nowhere : 256 ≤ r → (x : ℕ) → IdleEdge arcs upper lower q x → getD alive x 0 ≡ 1 → ⊥
+  -- whether no idle arc leads from q to a state that is alive
+  pub record Leaf (alive : List ℕ) (q : ℕ) (r : Bool) : Type 0 where
+    pub leads-on : r ≡ false → (x : ℕ) × IdleEdge arcs upper lower q x × (getD alive x 0 ≡ 1)
+    pub leads-nowhere : r ≡ true → (x : ℕ) → IdleEdge arcs upper lower q x → getD alive x 0 ≡ 1 → ⊥
 
   -- a round, and whether a state died in it
   pub record Peeled (before after : List ℕ) (died : Bool) : Type 0 where
@@ -42,7 +42,7 @@ module _ (arcs : List ℕ) (upper lower : Bool) where
     pub fewer : died ≡ true → total after < total before
     pub stable : died ≡ false → Stable after
 
-  -- all rounds
+  -- all rounds; that nothing more can die (`stable`) says that they are all, and what is shown does not lean on it
   pub record Settled (before after : List ℕ) : Type 0 where
     pub same-length : length after ≡ length before
     pub keeps : Cyclic before → Cyclic after

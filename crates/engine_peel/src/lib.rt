@@ -1,12 +1,12 @@
 // Peeling: in the graph of a table's idle arcs, a state without an idle arc to a state that remains is removed, in rounds, until none is (leaf
-// removal). A state remains ("is alive") while its cell is 1. `leads` looks at an arc, `next` at the arcs of a state, `peel` makes a round,
+// removal). A state remains ("is alive") while its cell is 1. `leads` looks at an arc, `is_leaf` at the arcs of a state, `peel` makes a round,
 // `settle` all of them.
 ghost use mathlib.Core.Path.{_≡_};
 ghost use Prim.Native.Nat.{_<_};
 ghost use lib.ListN.{length};
 ghost use Rattle.table_format.specs.Cells.{arcCount, arcOf};
 ghost use Rattle.engine_graph.specs.Graph.{Graph};
-ghost use Rattle.engine_peel.specs.Peel.{leadsAlive, Next, Peeled, Settled};
+ghost use Rattle.engine_peel.specs.Peel.{leadsAlive, Leaf, Peeled, Settled};
 
 // Arc `n` is idle and leads to a living state.
 fn leads(arcs: &[u16], n: usize, upper: bool, lower: bool, alive: &[u8]) -> bool
@@ -22,22 +22,21 @@ fn leads(arcs: &[u16], n: usize, upper: bool, lower: bool, alive: &[u8]) -> bool
     false
 }
 
-// A living state to which an idle arc leads from state `q`; 256 where there is none.
-fn next(arcs: &[u16], first: &[u16], q: usize, upper: bool, lower: bool, alive: &[u8]) -> u16
+// No idle arc leads from state `q` to a living state.
+fn is_leaf(arcs: &[u16], first: &[u16], q: usize, upper: bool, lower: bool, alive: &[u8]) -> bool
     requires { ⌜ Graph (now arcs) (now first) (length (now alive)) ⌝ }
     requires { ⌜ q < length (now alive) ⌝ }
-    ensures { λ r. ⌜ Next (now (arcs .entry)) upper lower (now (alive .entry)) q r ⌝ }
+    ensures { λ r. ⌜ Leaf (now (arcs .entry)) upper lower (now (alive .entry)) q r ⌝ }
 {
     let end = widen::cell_as_index(first[q + 1]);
     let mut n = widen::cell_as_index(first[q]);
     while n < end {
         if leads(arcs, n, upper, lower, alive) {
-            let arc = table_format::arc_at(arcs, n);
-            return arc.target;
+            return false;
         }
         n += 1;
     }
-    256
+    true
 }
 
 // One round, last state first. Whether a state died.
@@ -50,8 +49,7 @@ fn peel(arcs: &[u16], first: &[u16], upper: bool, lower: bool, alive: &mut [u8])
     while 0 < q {
         q -= 1;
         if alive[q] == 1 {
-            let r = next(arcs, first, q, upper, lower, alive);
-            if 256 <= r {
+            if is_leaf(arcs, first, q, upper, lower, alive) {
                 alive[q] = 0;
                 died = true;
             }

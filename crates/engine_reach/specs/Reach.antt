@@ -40,7 +40,7 @@ pub record Meets (Who : ℕ → Type 0) (cells order : List ℕ) (count : ℕ) (
   pub no-fewer : count ≤ count′
   pub in-place : (i : ℕ) → i < count → getD order′ i 0 ≡ getD order i 0
 
--- all to which edges of E lead from the states that are met is met, and nothing else
+-- the states met before and all to which edges of E lead from them are met, and no others
 pub record Spread (E : ℕ → ℕ → Type 0) (before after : List ℕ) : Type 0 where
   pub same-length : length after ≡ length before
   pub ones : (s : ℕ) → 0 < getD after s 0 → getD after s 0 ≡ 1

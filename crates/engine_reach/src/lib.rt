@@ -108,7 +108,7 @@ pub fn reach(arcs: &[u16], first: &[u16], initials: &[u16], cells: &mut [u8])
     spread(arcs, first, false, false, cells, &mut order, count);
 }
 
-// Whether idle arcs lead from state `q` back to it. Cells of zeros, one a state, become 1 where they lead to.
+// Whether idle arcs lead from state `q` back to it. Cells of zeros are lent to work in, one a state.
 pub fn returns(
     arcs: &[u16],
     first: &[u16],

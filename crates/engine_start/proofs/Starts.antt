@@ -22,10 +22,10 @@ use Rattle.machine.specs.declared.StartAnswer.the-variants.{Ready, Refused}
 use Rattle.machine.specs.Query.{upperSide, lowerSide, Query}
 use Rattle.machine.specs.Idle.{idle, leadsBy, always, hasIdleCycle, shownIdle}
 use Rattle.machine.specs.Asked.{Asked, turned, asked}
-use Rattle.machine.specs.Start.{firstRun, startedWith, startedAs, started, StartedIs}
+use Rattle.machine.specs.Start.{firstRun, startedWith, byTest, startedAs, started, StartedIs}
 use Rattle.machine.proofs.Asked.{loaded-rules}
 use Rattle.machine.proofs.Idle.{shown-some, shown-there, shown-none}
-use Rattle.machine.proofs.Start.{is-started, byTest, started-by}
+use Rattle.machine.proofs.Start.{is-started, started-by}
 use Rattle.engine_cycle.specs.declared.Cycle.{Cycle}
 use Rattle.engine_graph.specs.Graph.{Graph}
 use Rattle.engine_cycle.specs.Numbers.{cycleCells}

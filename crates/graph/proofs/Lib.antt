@@ -6,6 +6,6 @@ pub mod Cycle
 pub mod Reached
 pub mod First
 pub mod Shown
-pub mod Rings
+pub mod Layers
 pub mod Cost
 pub mod Examples

@@ -126,19 +126,36 @@ module _ (E : ℕ → ℕ → Type 0) (e : ℕ → ℕ → Bool) (n : ℕ) (D : 
   pub cycle-from : (l : List ℕ) → FirstCycle E s l → cycleFrom e n s ≡ s ∷ l
   cycle-from l F = ap (λ (x : List ℕ). s ∷ x) (first-only E s (firstThrough e n s (lowest (backAfter e n s) n) s) l (first-cycle (walk-on E e n D G s (l, F .closed))) F)
 
-module _ (A E : ℕ → ℕ → Type 0) (a e : ℕ → ℕ → Bool) (n : ℕ) (starts : List ℕ) (DA : Decides A a) (DE : Decides E e) (GA : Among A n) (GE : Among E n) (B : AllBelow n starts) where
+-- tests tell the edges, which lead among the states below n, and the starts are such states
+pub record Tested (A E : ℕ → ℕ → Type 0) (a e : ℕ → ℕ → Bool) (n : ℕ) (starts : List ℕ) : Type 0 where
+  pub reach-told : Decides A a
+  pub cycle-told : Decides E e
+  pub reach-among : Among A n
+  pub cycle-among : Among E n
+  pub starts-below : AllBelow n starts
+
+module _ {A E : ℕ → ℕ → Type 0} {a e : ℕ → ℕ → Bool} {n : ℕ} {starts : List ℕ} (G : Tested A E a e n starts) where
+  reached-told : (s : ℕ) → List·Memᴰ s (reached a n starts) ↔ Reached A starts s
+  reached-told = reached-is A a n starts (G .reach-told) (G .reach-among) (G .starts-below)
+
+  on-cycle : (s : ℕ) → Walk E s s → onCycle e n s ≡ true
+  on-cycle = walk-on E e n (G .cycle-told) (G .cycle-among)
+
+  first-told : (s : ℕ) → onCycle e n s ≡ true → FirstCycle E s (firstThrough e n s (lowest (backAfter e n s) n) s)
+  first-told = first-cycle E e n (G .cycle-told) (G .cycle-among)
+
   looped-true : (s : ℕ) → Reached A starts s → Walk E s s → looped a e n starts s ≡ true
-  looped-true s R w = and-both (mem-member s (reached a n starts) (reached-is A a n starts DA GA B s .1 R)) (walk-on E e n DE GE s w)
+  looped-true s R w = and-both (mem-member s (reached a n starts) (reached-told s .1 R)) (on-cycle s w)
 
   has : (s : ℕ) → Reached A starts s → Walk E s s → hasReachedCycle a e n starts ≡ true
-  has s R w = any-mem (looped a e n starts) (upTo n) s (upTo-mem n s (walk-below E n GE s s w)) (looped-true s R w)
+  has s R w = any-mem (looped a e n starts) (upTo n) s (upTo-mem n s (walk-below E n (G .cycle-among) s s w)) (looped-true s R w)
 
   from-is : (s : ℕ) → Lowest (looped a e n starts) n s → ShownFrom A E starts s (firstThrough e n s (lowest (backAfter e n s) n) s)
   from-is s L =
       record {
-        is-reached = reached-is A a n starts DA GA B s .0 (member-mem s (reached a n starts) (and-left (member s (reached a n starts)) (onCycle e n s) (L .passes)));
+        is-reached = reached-told s .0 (member-mem s (reached a n starts) (and-left (member s (reached a n starts)) (onCycle e n s) (L .passes)));
         lowest-state = λ r R w. L .least r (looped-true r R w);
-        cycle = first-cycle E e n DE GE s (and-right (member s (reached a n starts)) (onCycle e n s) (L .passes));
+        cycle = first-told s (and-right (member s (reached a n starts)) (onCycle e n s) (L .passes));
       }
 
   -- where the test says so, the computed cycle is the one to be shown, and else there is none
@@ -170,4 +187,4 @@ module _ (A E : ℕ → ℕ → Type 0) (a e : ℕ → ℕ → Bool) (n : ℕ) (
 
   -- from the lowest reached state on a cycle it is the one through that state
   pub shown-through : (s : ℕ) → Reached A starts s → Walk E s s → ((r : ℕ) → Reached A starts r → Walk E r r → s ≤ r) → shownCycle a e n starts ≡ cycleFrom e n s
-  shown-through s R w low = shown-equal (cycleFrom e n s) (record { is-reached = R; lowest-state = low; cycle = first-cycle E e n DE GE s (walk-on E e n DE GE s w) })
+  shown-through s R w low = shown-equal (cycleFrom e n s) (record { is-reached = R; lowest-state = low; cycle = first-told s (on-cycle s w) })

@@ -21,7 +21,7 @@ keep p (x ∷ l) = cond (p x) (x ∷ keep p l) (keep p l)
 abbrev pub AllBelow : ℕ → List ℕ → Type 0
 AllBelow n l = (x : ℕ) → List·Memᴰ x l → x < n
 
--- the order of words: the first difference decides, and a word stands before its continuations
+-- the order of words (lexicographic): the first difference decides, and a word stands before its continuations
 abbrev pub Before : List ℕ → List ℕ → Type 0
 Before [] [] = ⊥
 Before [] (y ∷ ys) = Unit {0}

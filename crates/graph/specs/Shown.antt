@@ -18,13 +18,13 @@ pub record FirstCycle (E : ℕ → ℕ → Type 0) (s : ℕ) (l : List ℕ) : Ty
   pub first : (k : List ℕ) → Through E s k s → length k ≡ length l → (k ≡ l) ⊎ Before l k
 
 module _ (A E : ℕ → ℕ → Type 0) (starts : List ℕ) where
-  -- and s is the lowest reached state on a cycle
+  -- such a cycle, and s is the lowest reached state that is on one
   pub record ShownFrom (s : ℕ) (l : List ℕ) : Type 0 where
     pub is-reached : Reached A starts s
     pub lowest-state : (r : ℕ) → Reached A starts r → Walk E r r → s ≤ r
     pub cycle : FirstCycle E s l
 
-  -- the same of all its states
+  -- the same, of the list of all its states, s first
   abbrev pub Shown : List ℕ → Type 0
   Shown [] = ⊥
   Shown (s ∷ l) = ShownFrom s l

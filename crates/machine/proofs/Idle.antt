@@ -73,26 +73,30 @@ module _ (t : Table) (k : Task) where
   shown-some (s ∷ l) C e = omega arith
 
   module _ (U : Ruled t) where
+    tested : graphs.Tested (AnyArc (t .arcs)) (IdleArc t k) (leadsBy (t .arcs) always) (leadsBy (t .arcs) (idle k)) (t .states) (t .initials)
+    tested =
+        record {
+          reach-told = tells (t .arcs) always;
+          cycle-told = tells (t .arcs) (idle k);
+          reach-among = among t U always;
+          cycle-among = among t U (idle k);
+          starts-below = U .initial-in;
+        }
+
     pub shown-there : hasIdleCycle t k ≡ true → ShownIdle t k (shownIdle t k)
     unfolding hasIdleCycle
-    shown-there =
-        graphs.shown-test (AnyArc (t .arcs)) (IdleArc t k) (leadsBy (t .arcs) always) (leadsBy (t .arcs) (idle k)) (t .states) (t .initials)
-        (tells (t .arcs) always) (tells (t .arcs) (idle k)) (among t U always) (among t U (idle k)) (U .initial-in)
+    shown-there = graphs.shown-test tested
 
     by-none : hasIdleCycle t k ≡ false → NoIdleCycle t k × (shownIdle t k ≡ [])
     unfolding hasIdleCycle
-    by-none =
-        graphs.none-test (AnyArc (t .arcs)) (IdleArc t k) (leadsBy (t .arcs) always) (leadsBy (t .arcs) (idle k)) (t .states) (t .initials)
-        (tells (t .arcs) always) (tells (t .arcs) (idle k)) (among t U always) (among t U (idle k)) (U .initial-in)
+    by-none = graphs.none-test tested
 
     pub shown-none : hasIdleCycle t k ≡ false → shownIdle t k ≡ []
     shown-none e = by-none e .1
 
     -- whatever is to be shown is what is computed
     pub shown-is : (c : List ℕ) → ShownIdle t k c → shownIdle t k ≡ c
-    shown-is =
-        graphs.shown-equal (AnyArc (t .arcs)) (IdleArc t k) (leadsBy (t .arcs) always) (leadsBy (t .arcs) (idle k)) (t .states) (t .initials)
-        (tells (t .arcs) always) (tells (t .arcs) (idle k)) (among t U always) (among t U (idle k)) (U .initial-in)
+    shown-is = graphs.shown-equal tested
 
     pub none-found : hasIdleCycle t k ≡ false → NoIdleCycle t k
     none-found e = by-none e .0

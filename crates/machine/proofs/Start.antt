@@ -3,7 +3,7 @@ use Prim.Native.Nat.{ℕ, _-_, _≤_}
 use native.Mathlib.Omega.{arith}
 use mathlib.Core.Path.{_≡_, refl, sym, ap, subst, _∙_}
 use mathlib.Core.Logic.{_↔_, ⊎-elim}
-use mathlib.Core.Bool.{Bool, true, false, cond}
+use mathlib.Core.Bool.{Bool, true, false}
 use mathlib.Core.List.{List, [], _∷_}
 use lib.ListN.{length, take, replicate, length-append, length-replicate}
 use lib.Seq.{take-append-seam}
@@ -20,7 +20,7 @@ use Rattle.machine.specs.declared.Started.{Started}
 use Rattle.machine.specs.Query.{Task, Query}
 use Rattle.machine.specs.Idle.{idle, StateReached, IdleArc, IdleWalk, CycleStates, hasIdleCycle, ShownIdle, shownIdle}
 use Rattle.machine.specs.Asked.{Asked, turned, runs, asked}
-use Rattle.machine.specs.Start.{firstRun, startedWith, startedAs, started, startToldBy, StartedIs}
+use Rattle.machine.specs.Start.{firstRun, startedWith, byTest, startedAs, started, startToldBy, StartedIs}
 use Rattle.machine.proofs.Told.{start-told-one}
 use Rattle.machine.proofs.Idle.{among, shown-states, shown-walk, shown-there, none-found}
 use Rattle.machine.proofs.Asked.{asked-facts, TurnedBy, turned-by, same-asked}
@@ -44,10 +44,6 @@ pub record ReadyFacts (w : Asked) (task : ℕ) (s : Started) : Type 0 where
   pub is : w ≡ runs table query
   pub no-cycle : hasIdleCycle table (query .task) ≡ false
   pub run-is : s .run ≡ firstRun task
-
--- a start that is asked for a table and a query, by the test
-abbrev pub byTest : Table → Query → ℕ → Bool → Started
-byTest t q task b = cond b (startedWith (Refused (Input IdleCycle)) (firstRun 0) (shownIdle t (q .task))) (startedWith Ready (firstRun task) [])
 
 ready-as : (w : Asked) (task : ℕ) → startedAs w task .answer ≡ Ready → ReadyFacts w task (startedAs w task)
 ready-as (turned r) task e = absurd (ready-refused r e)

@@ -286,6 +286,8 @@ rows =
     ∷ corner connected 3 [] (1 ∷ 3 ∷ 2 ∷ []) (refusedWith 12 (5 ∷ []))
     -- Slip 8: "From the lowest state on an idle cycle", though a higher one, which is reached first, has a shorter one
     ∷ loops 3 2 (arcAs 0 0 0 1 ∷ arcAs 1 0 0 0 ∷ arcAs 2 0 0 0 ∷ arcAs 2 0 0 2 ∷ []) (0 ∷ 1 ∷ [])
+    -- and though a lower one leads to it, on no cycle itself
+    ∷ loops 3 0 (arcAs 0 0 0 2 ∷ arcAs 1 0 0 2 ∷ arcAs 2 0 0 1 ∷ []) (1 ∷ 2 ∷ [])
     -- "show a shortest cycle through it", though a lower next state leads back too, and a still shorter one reads a letter
     ∷ loops 4 0 (arcAs 0 0 0 1 ∷ arcAs 0 0 0 3 ∷ arcAs 0 1 0 0 ∷ arcAs 1 0 0 2 ∷ arcAs 2 0 0 0 ∷ arcAs 3 0 0 0 ∷ []) (0 ∷ 3 ∷ [])
     -- "among those the one whose state numbers come first, compared one by one"; in any order of the arcs

@@ -2,17 +2,19 @@
 -- gives a run of zeros; the cycle's cells are 0 where no state is told.
 use Prim.Native.Nat.{ℕ, _-_}
 use mathlib.Core.Path.{_≡_}
-use mathlib.Core.Bool.{cond}
+use mathlib.Core.Bool.{Bool, cond}
 use mathlib.Core.List.{List, [], _++_}
 use lib.ListN.{length, replicate}
 use Rattle.refusal.specs.declared.Refusal.the-variants.{Input}
 use Rattle.refusal.specs.declared.InputCause.the-variants.{IdleCycle}
 use Rattle.refusal.specs.Told.{Told}
+use Rattle.table_format.specs.Table.{Table}
 use Rattle.machine.specs.declared.Run.{Run}
 use Rattle.machine.specs.declared.StartAnswer.{StartAnswer}
 use Rattle.machine.specs.declared.StartAnswer.the-variants.{Ready, Refused}
 use Rattle.machine.specs.declared.Started.{Started}
 use Rattle.machine.specs.Answer.{startTold}
+use Rattle.machine.specs.Query.{Query}
 use Rattle.machine.specs.Idle.{hasIdleCycle, shownIdle}
 use Rattle.machine.specs.Asked.{Asked, turned, runs, asked}
 
@@ -20,14 +22,22 @@ use Rattle.machine.specs.Asked.{Asked, turned, runs, asked}
 abbrev pub firstRun : ℕ → Run
 firstRun task = record { task = task; started = 0; depth = 0 }
 
--- an answer and a run, with the states of a cycle in 256 cells and their count
-abbrev pub startedWith : StartAnswer → Run → List ℕ → Started
-startedWith answer run cycle = record { answer = answer; run = run; cycle = cycle ++ replicate (256 - length cycle) 0; length = length cycle }
+-- the states of a cycle in 256 cells
+abbrev pub inCells : List ℕ → List ℕ
+inCells cycle = cycle ++ replicate (256 - length cycle) 0
 
--- a start that is asked for a task; 12 tells the cycle that is to be shown
+-- an answer and a run, with the states of a cycle in their cells and their count
+abbrev pub startedWith : StartAnswer → Run → List ℕ → Started
+startedWith answer run cycle = record { answer = answer; run = run; cycle = inCells cycle; length = length cycle }
+
+-- a start that is asked for a table and a query, by whether an idle cycle is reached; 12 tells the cycle that is to be shown
+abbrev pub byTest : Table → Query → ℕ → Bool → Started
+byTest t q task b = cond b (startedWith (Refused (Input IdleCycle)) (firstRun 0) (shownIdle t (q .task))) (startedWith Ready (firstRun task) [])
+
+-- any start
 abbrev pub startedAs : Asked → ℕ → Started
 startedAs (turned r) task = startedWith (Refused r) (firstRun 0) []
-startedAs (runs t q) task = cond (hasIdleCycle t (q .task)) (startedWith (Refused (Input IdleCycle)) (firstRun 0) (shownIdle t (q .task))) (startedWith Ready (firstRun task) [])
+startedAs (runs t q) task = byTest t q task (hasIdleCycle t (q .task))
 
 -- a start on a loaded table's cells, the task's number and the words
 unfoldable pub started : List ℕ → ℕ → List ℕ → List ℕ → Started

@@ -75,6 +75,12 @@ impl Started {
         };
         Started { answer, cycle }
     }
+
+    /// Refusal 12 where a cycle is to be shown, else a start that passes.
+    pub fn showing(cycle: Option<&[u16]>) -> Started {
+        let passed = Started::bare(Answer::done(0));
+        cycle.map_or(passed, Started::with_cycle)
+    }
 }
 
 impl Answer {

@@ -1,5 +1,5 @@
 //! Which cycle refusal 12 shows: for each table and task one answer, whatever the order of the arcs.
-use readings_check::answer::{Answer, Run, Started};
+use readings_check::answer::{Run, Started};
 use readings_check::cycles;
 use readings_check::draw;
 use readings_check::engine::{Engine, Start};
@@ -23,8 +23,7 @@ fn started(engine: &impl Engine, table: &Table, task: u32) -> Started {
 
 /// A start with empty words shows this cycle; with none it passes.
 fn shows(engine: &impl Engine, table: &Table, task: u32, cycle: Option<&[u16]>) {
-    let passed = Started::bare(Answer::done(0));
-    let expected = cycle.map_or(passed, Started::with_cycle);
+    let expected = Started::showing(cycle);
     let told = started(engine, table, task);
     assert!(
         told == expected,

@@ -1,4 +1,4 @@
--- The loop: the states so far, and a ring to go to.
+-- The loop: the states so far, and a layer to go to.
 use Prim.Native.Nat.{ℕ}
 use native.Mathlib.Omega.{arith}
 use mathlib.Core.Path.{subst}

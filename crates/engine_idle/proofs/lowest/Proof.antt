@@ -4,7 +4,8 @@ use native.Mathlib.Omega.{arith}
 use denote.Ref.{now}
 use lib.ListN.{length}
 use borrow.Author.Needs.{needs}
-use Rattle.engine_idle.proofs.Cycles.{LoopedAt, looped-more, lowest-found, lowest-none}
+use Rattle.engine_idle.specs.Found.{LoopedAt}
+use Rattle.engine_idle.proofs.Cycles.{looped-more, lowest-found, lowest-none}
 use Rattle.engine_idle.proofs.lowest.Statement.{statement}
 use Rattle.engine_idle.proofs.lowest.Tie as tie
 

@@ -26,8 +26,8 @@ sub-q c = search needs
 slice-read-if1 : tie.Need-slice-read-if1 Inv-loop μ-loop
 slice-read-if1 c = search needs
 
-next-requires : tie.Need-next-requires Inv-loop μ-loop
-next-requires c κs = (subst (λ (n : ℕ). Graph (now (c .before .before .before .before .before .before .before .before .args .arcs)) (now (c .before .before .before .before .before .before .before .before .args .first)) n) (sym (c .before .before .before .before .loop .inv .1 .same-length)) (c .before .before .before .before .before .before .before .before .pre), omega (arith, c .before .before .before .before .loop .inv .0))
+is-leaf-requires : tie.Need-is-leaf-requires Inv-loop μ-loop
+is-leaf-requires c κs = (subst (λ (n : ℕ). Graph (now (c .before .before .before .before .before .before .before .before .args .arcs)) (now (c .before .before .before .before .before .before .before .before .args .first)) n) (sym (c .before .before .before .before .loop .inv .1 .same-length)) (c .before .before .before .before .before .before .before .before .pre), omega (arith, c .before .before .before .before .loop .inv .0))
 
 slice-write-alive : tie.Need-slice-write-alive Inv-loop μ-loop
 slice-write-alive c = search needs
@@ -36,13 +36,13 @@ loop-less : tie.Need-loop-less Inv-loop μ-loop
 loop-less c = search needs
 
 loop-again : tie.Need-loop-again Inv-loop μ-loop
-loop-again c = (omega (arith, length-set (c .before .before .before .before .before .before .loop .alive) (c .before .before .before .before .before .before .loop .q - 1) 0, c .before .before .before .before .before .before .loop .inv .0), round-dies (now (c .before .before .before .before .before .before .before .before .before .before .args .arcs)) (c .before .before .before .before .before .before .before .before .before .before .args .upper) (c .before .before .before .before .before .before .before .before .before .before .args .lower) (now (c .before .before .before .before .before .before .before .before .before .before .args .alive)) (c .before .before .before .before .before .before .loop .alive) (c .before .before .before .before .before .before .loop .q) (c .before .before .before .before .before .before .loop .died) (omega arith) (c .before .before .before .before .before .before .loop .inv .1) (c .before .next .result) (c .before .next .ensures) (c .before .before .before .before .before .before .loop .inv .0) (c .before .before .before .if1 .taken) (c .if2 .taken))
+loop-again c = (omega (arith, length-set (c .before .before .before .before .before .before .loop .alive) (c .before .before .before .before .before .before .loop .q - 1) 0, c .before .before .before .before .before .before .loop .inv .0), round-dies (now (c .before .before .before .before .before .before .before .before .before .before .args .arcs)) (c .before .before .before .before .before .before .before .before .before .before .args .upper) (c .before .before .before .before .before .before .before .before .before .before .args .lower) (now (c .before .before .before .before .before .before .before .before .before .before .args .alive)) (c .before .before .before .before .before .before .loop .alive) (c .before .before .before .before .before .before .loop .q) (c .before .before .before .before .before .before .loop .died) (omega arith) (c .before .before .before .before .before .before .loop .inv .1) (c .before .is-leaf .result) (c .before .is-leaf .ensures) (c .before .before .before .before .before .before .loop .inv .0) (c .before .before .before .if1 .taken) (c .if2 .taken))
 
 loop-less-2 : tie.Need-loop-less-2 Inv-loop μ-loop
 loop-less-2 c = search needs
 
 loop-again-2 : tie.Need-loop-again-2 Inv-loop μ-loop
-loop-again-2 c = (omega (arith, c .before .before .before .before .before .before .loop .inv .0), round-lives (now (c .before .before .before .before .before .before .before .before .before .before .args .arcs)) (c .before .before .before .before .before .before .before .before .before .before .args .upper) (c .before .before .before .before .before .before .before .before .before .before .args .lower) (now (c .before .before .before .before .before .before .before .before .before .before .args .alive)) (c .before .before .before .before .before .before .loop .alive) (c .before .before .before .before .before .before .loop .q) (c .before .before .before .before .before .before .loop .died) (omega arith) (c .before .before .before .before .before .before .loop .inv .1) (c .before .next .result) (c .before .next .ensures) (omega arith))
+loop-again-2 c = (omega (arith, c .before .before .before .before .before .before .loop .inv .0), round-lives (now (c .before .before .before .before .before .before .before .before .before .before .args .arcs)) (c .before .before .before .before .before .before .before .before .before .before .args .upper) (c .before .before .before .before .before .before .before .before .before .before .args .lower) (now (c .before .before .before .before .before .before .before .before .before .before .args .alive)) (c .before .before .before .before .before .before .loop .alive) (c .before .before .before .before .before .before .loop .q) (c .before .before .before .before .before .before .loop .died) (omega arith) (c .before .before .before .before .before .before .loop .inv .1) (c .before .is-leaf .result) (c .before .is-leaf .ensures) (c .if2 .left))
 
 loop-less-3 : tie.Need-loop-less-3 Inv-loop μ-loop
 loop-less-3 c = search needs
@@ -65,7 +65,7 @@ peel-spec =
     loop-holds
     sub-q
     slice-read-if1
-    next-requires
+    is-leaf-requires
     slice-write-alive
     loop-less
     loop-again

@@ -19,7 +19,7 @@ pub const INITIALS_REACHED: u8 = 7;
 pub const UNREACHED_TOLD: u8 = 8;
 /// Reached is what arcs lead to whose letters the words have: each letter on a side that is read is 0 or stands somewhere in its word.
 pub const WORD_REACHED: u8 = 9;
-/// The cycle whose states come first is shown, whatever its length: the search goes deep before it goes wide.
+/// The search goes deep before it goes wide, so that a longer cycle can be shown.
 pub const DEPTH_FIRST: u8 = 10;
 /// The shortest of all cycles is shown, from whatever state.
 pub const SHORTEST_OF_ALL: u8 = 11;

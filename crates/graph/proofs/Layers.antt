@@ -1,4 +1,4 @@
--- Laws of the rings: they grow until s leads to the outermost, and the way from ring to ring, each time to the lowest state, is the shortest and
+-- Laws of the layers: they grow until s leads to the outermost, and the way from layer to layer, each time to the lowest state, is the shortest and
 -- first cycle through s.
 use Prim.Native.Nat.{ℕ, suc, _+_, _-_, _<_, _≤_}
 use native.Mathlib.Omega.{arith}
@@ -8,14 +8,14 @@ use mathlib.Core.List.{List, [], _∷_}
 use lib.ListN.{length}
 use Rattle.graph.specs.Walk.{Through, Walk}
 use Rattle.graph.specs.Shown.{FirstCycle}
-use Rattle.graph.specs.Rings.{Ring, Rings}
+use Rattle.graph.specs.Layers.{Layer, Layers}
 use Rattle.graph.proofs.Lists.{same?, zero?, most?}
 use Rattle.graph.proofs.First.{LowestNext, Traced, traced-through, traced-first}
 
 module _ (E : ℕ → ℕ → Type 0) (s : ℕ) where
   -- at first s alone has a number
-  pub rings-begin : (d : ℕ → ℕ) → d s ≡ 1 → ((x : ℕ) → (x ≡ s → ⊥) → d x ≡ 0) → Rings E s d 1
-  rings-begin d e z =
+  pub layers-begin : (d : ℕ → ℕ) → d s ≡ 1 → ((x : ℕ) → (x ≡ s → ⊥) → d x ≡ 0) → Layers E s d 1
+  layers-begin d e z =
       record {
         at-state = e;
         only-state = λ x h. ⊎-elim (λ u. u) (λ n. absurd (let k = z x n in omega arith)) (same? x s);
@@ -31,19 +31,19 @@ module _ (E : ℕ → ℕ → Type 0) (s : ℕ) where
     pub no-lower : (z : ℕ) → E x z → 0 < d z → at ≤ d z
     pub leads : (y : ℕ) × E x y × (d y ≡ at)
 
-  module _ {d : ℕ → ℕ} {far : ℕ} (R : Rings E s d far) where
+  module _ {d : ℕ → ℕ} {far : ℕ} (R : Layers E s d far) where
     some : 0 < d s
     some = let a = R .at-state in omega arith
 
-    first-ring : 0 < far
-    first-ring = let b = R .bounded s in omega (arith, some)
+    first-layer : 0 < far
+    first-layer = let b = R .bounded s in omega (arith, some)
 
-    -- a ring more, where s does not lead to the outermost
-    pub rings-more : {after : ℕ → ℕ} → Ring E far d after → ((y : ℕ) → E s y → d y ≡ far → ⊥) → Rings E s after (suc far)
-    rings-more {after} N none =
+    -- a layer more, where s does not lead to the outermost
+    pub layers-more : {after : ℕ → ℕ} → Layer E far d after → ((y : ℕ) → E s y → d y ≡ far → ⊥) → Layers E s after (suc far)
+    layers-more {after} N none =
         record {
           at-state = N .kept s (let h = R .at-state in omega arith) ∙ R .at-state;
-          only-state = λ x h. ⊎-elim (λ z. absurd (let A = N .added x z (omega arith) in let k = A .0 in omega (arith, first-ring))) (λ p. R .only-state x (sym (N .kept x p) ∙ h)) (zero? (d x));
+          only-state = λ x h. ⊎-elim (λ z. absurd (let A = N .added x z (omega arith) in let k = A .0 in omega (arith, first-layer))) (λ p. R .only-state x (sym (N .kept x p) ∙ h)) (zero? (d x));
           bounded = top;
           settled = settled′;
           leads-on = leads-on′;
@@ -67,11 +67,11 @@ module _ (E : ℕ → ℕ → Type 0) (s : ℕ) where
         leads-on′ : (x : ℕ) → 1 < after x → (y : ℕ) × E x y × (suc (after y) ≡ after x)
         leads-on′ x h =
             ⊎-elim
-            (λ z. let A = N .added x z (omega arith) in let e = A .0 in let q = A .1 .2 in let k = N .kept (A .1 .0) (omega (arith, first-ring)) in (A .1 .0, A .1 .1, omega arith))
+            (λ z. let A = N .added x z (omega arith) in let e = A .0 in let q = A .1 .2 in let k = N .kept (A .1 .0) (omega (arith, first-layer)) in (A .1 .0, A .1 .1, omega arith))
             (λ p. let e = N .kept x p in let L = R .leads-on x (omega arith) in let q = L .2 in let k = N .kept (L .0) (omega arith) in (L .0, L .1, omega arith))
             (zero? (d x))
 
-    -- a walk to s within the rings has a number
+    -- a walk to s within the layers has a number
     near : (x : ℕ) (l : List ℕ) → Through E x l s → length l + 2 ≤ far → (0 < d x) × (d x ≤ length l + 2)
     near x [] T h = let a = R .at-state in let S = R .settled x s T (omega arith) (omega arith) in (S .0, omega (arith, S .1))
     near x (y ∷ l) T h = let I = near y l (T .1) (omega arith) in let p = I .0 in let q = I .1 in let S = R .settled x y (T .0) p (omega arith) in (S .0, omega (arith, S .1))
@@ -82,8 +82,8 @@ module _ (E : ℕ → ℕ → Type 0) (s : ℕ) where
         ⊎-elim (λ h. h) (λ h. let I = near y k (T .1) (omega arith) in let q = I .1 in let n = R .not-yet y (T .0) (I .0) in omega arith) (most? far (suc (suc (length k))))
 
     -- where all that leads to a number has one, and s does not lead to the outermost, s is on no cycle
-    pub rings-end : ((x y : ℕ) → E x y → d y ≡ far → 0 < d x) → ((y : ℕ) → E s y → d y ≡ far → ⊥) → Walk E s s → ⊥
-    rings-end all none w = go (w .0) (w .1)
+    pub layers-end : ((x y : ℕ) → E x y → d y ≡ far → 0 < d x) → ((y : ℕ) → E s y → d y ≡ far → ⊥) → Walk E s s → ⊥
+    layers-end all none w = go (w .0) (w .1)
       where
         back : (x y : ℕ) → E x y → 0 < d y → 0 < d x
         back x y g p = ⊎-elim (all x y g) (λ n. let b = R .bounded y in R .settled x y g p (omega arith) .0) (same? (d y) far)
@@ -114,7 +114,7 @@ module _ (E : ℕ → ℕ → Type 0) (s : ℕ) where
           leads = (L .0, L .1, omega arith);
         }
 
-    -- the lowest state of the ring is the lowest from which the walk can go on
+    -- the lowest state of the layer is the lowest from which the walk can go on
     pub due-lowest : (at x : ℕ) → Due d far at x → (y : ℕ) → E x y → ((z : ℕ) → E x z → d z ≡ at → y ≤ z) → (m : ℕ) → m + 2 ≡ at → LowestNext E s m x y
     due-lowest at x D y g low m e =
         record {
@@ -126,5 +126,5 @@ module _ (E : ℕ → ℕ → Type 0) (s : ℕ) where
     due-last x D = let L = D .leads in subst (E x) (R .only-state (L .0) (L .2)) (L .1)
 
     -- each time by the lowest: the cycle through s
-    pub rings-cycle : (l : List ℕ) → Traced E s s l → suc (length l) ≡ far → FirstCycle E s l
-    rings-cycle l T h = record { closed = traced-through E s s l T; shortest = λ k U. let n = no-shorter k U in omega arith; first = traced-first E s s l T }
+    pub layers-cycle : (l : List ℕ) → Traced E s s l → suc (length l) ≡ far → FirstCycle E s l
+    layers-cycle l T h = record { closed = traced-through E s s l T; shortest = λ k U. let n = no-shorter k U in omega arith; first = traced-first E s s l T }

@@ -6,9 +6,9 @@ use mathlib.Core.Bool.{false}
 use denote.Ref.{now}
 use lib.ListN.{getD}
 use borrow.Author.Needs.{needs}
-use Rattle.engine_peel.proofs.Rounds.{fails-more, leadsAt, next-found, next-none}
-use Rattle.engine_peel.proofs.next.Statement.{statement}
-use Rattle.engine_peel.proofs.next.Tie as tie
+use Rattle.engine_peel.proofs.Rounds.{fails-more, leadsAt, leaf-not, leaf}
+use Rattle.engine_peel.proofs.is_leaf.Statement.{statement}
+use Rattle.engine_peel.proofs.is_leaf.Tie as tie
 
 abbrev Inv-loop : tie.InvT-loop
 Inv-loop arcs first q upper lower alive end n₀ n = (getD first q 0 ≤ n) × (end ≡ getD first (q + 1) 0) × ((i : ℕ) → getD first q 0 ≤ i → i < n → leadsAt arcs upper lower alive i ≡ false)
@@ -43,11 +43,8 @@ loop-holds c = (omega (arith, c .cell-as-index2 .ensures .0), omega (arith, c .b
 leads-requires : tie.Need-leads-requires Inv-loop μ-loop
 leads-requires c κs = let h = c .before .before .before .before .before .before .before .before .before .pre .0 .numbered (c .before .before .before .before .before .before .before .before .before .args .q) (c .before .loop .n) (c .before .before .before .before .before .before .before .before .before .pre .1) (omega (arith, c .before .loop .inv .0)) (omega (arith, c .before .loop .inv .1)) .0 in (h, c .before .before .before .before .before .before .before .before .before .pre .0 .target-in _ h)
 
-arc-at-requires : tie.Need-arc-at-requires Inv-loop μ-loop
-arc-at-requires c κs = c .before .before .before .before .before .before .before .before .before .before .before .pre .0 .numbered (c .before .before .before .before .before .before .before .before .before .before .before .args .q) (c .before .before .before .loop .n) (c .before .before .before .before .before .before .before .before .before .before .before .pre .1) (omega (arith, c .before .before .before .loop .inv .0)) (omega (arith, c .before .before .before .loop .inv .1)) .0
-
 returns : tie.Need-returns Inv-loop μ-loop
-returns c = next-found (now (c .before .before .before .before .before .before .before .before .before .before .before .before .args .arcs)) (c .before .before .before .before .before .before .before .before .before .before .before .before .args .upper) (c .before .before .before .before .before .before .before .before .before .before .before .before .args .lower) (now (c .before .before .before .before .before .before .before .before .before .before .before .before .args .first)) (now (c .before .before .before .before .before .before .before .before .before .before .before .before .args .alive)) (c .before .before .before .before .before .before .before .before .before .before .before .before .pre .0) (c .before .before .before .before .before .before .before .before .before .before .before .before .args .q) (c .before .before .before .before .before .before .before .before .before .before .before .before .pre .1) (c .before .before .before .before .loop .n) (c .arc-at .result) (c .arc-at .ensures) (omega (arith, c .before .before .before .before .loop .inv .0)) (omega (arith, c .before .before .before .before .loop .inv .1)) (sym (c .before .before .leads .ensures) ∙ c .before .if1 .taken)
+returns c = leaf-not (now (c .before .before .before .before .before .before .before .before .before .before .before .args .arcs)) (c .before .before .before .before .before .before .before .before .before .before .before .args .upper) (c .before .before .before .before .before .before .before .before .before .before .before .args .lower) (now (c .before .before .before .before .before .before .before .before .before .before .before .args .first)) (now (c .before .before .before .before .before .before .before .before .before .before .before .args .alive)) (c .before .before .before .before .before .before .before .before .before .before .before .pre .0) (c .before .before .before .before .before .before .before .before .before .before .before .args .q) (c .before .before .before .before .before .before .before .before .before .before .before .pre .1) (c .before .before .before .loop .n) (omega (arith, c .before .before .before .loop .inv .0)) (omega (arith, c .before .before .before .loop .inv .1)) (sym (c .before .leads .ensures) ∙ c .if1 .taken)
 
 add-n : tie.Need-add-n Inv-loop μ-loop
 add-n c = omega (arith, c .before .before .before .before .before .before .before .before .before .before .before .pre .0 .numbered (c .before .before .before .before .before .before .before .before .before .before .before .args .q) (c .before .before .before .loop .n) (c .before .before .before .before .before .before .before .before .before .before .before .pre .1) (omega (arith, c .before .before .before .loop .inv .0)) (omega (arith, c .before .before .before .loop .inv .1)) .0)
@@ -59,10 +56,10 @@ loop-again : tie.Need-loop-again Inv-loop μ-loop
 loop-again c = (omega (arith, c .before .before .before .loop .inv .0), c .before .before .before .loop .inv .1, fails-more (leadsAt (now (c .before .before .before .before .before .before .before .before .before .before .before .args .arcs)) (c .before .before .before .before .before .before .before .before .before .before .before .args .upper) (c .before .before .before .before .before .before .before .before .before .before .before .args .lower) (now (c .before .before .before .before .before .before .before .before .before .before .before .args .alive))) (getD (now (c .before .before .before .before .before .before .before .before .before .before .before .args .first)) (c .before .before .before .before .before .before .before .before .before .before .before .args .q) 0) (c .before .before .before .loop .n) (c .before .before .before .loop .inv .2) (sym (c .before .leads .ensures) ∙ c .if1 .left))
 
 returns-2 : tie.Need-returns-2 Inv-loop μ-loop
-returns-2 c = next-none (now (c .before .before .before .before .before .before .before .before .before .args .arcs)) (c .before .before .before .before .before .before .before .before .before .args .upper) (c .before .before .before .before .before .before .before .before .before .args .lower) (now (c .before .before .before .before .before .before .before .before .before .args .first)) (now (c .before .before .before .before .before .before .before .before .before .args .alive)) (c .before .before .before .before .before .before .before .before .before .pre .0) (c .before .before .before .before .before .before .before .before .before .args .q) (c .before .before .before .before .before .before .before .before .before .pre .1) (λ n a b. c .before .loop .inv .2 n a (omega (arith, c .before .loop .inv .1)))
+returns-2 c = leaf (now (c .before .before .before .before .before .before .before .before .before .args .arcs)) (c .before .before .before .before .before .before .before .before .before .args .upper) (c .before .before .before .before .before .before .before .before .before .args .lower) (now (c .before .before .before .before .before .before .before .before .before .args .first)) (now (c .before .before .before .before .before .before .before .before .before .args .alive)) (c .before .before .before .before .before .before .before .before .before .pre .0) (c .before .before .before .before .before .before .before .before .before .args .q) (c .before .before .before .before .before .before .before .before .before .pre .1) (λ n a b. c .before .loop .inv .2 n a (omega (arith, c .before .loop .inv .1)))
 
-pub next-spec : {M : Type 1} → statement M
-next-spec =
+pub is-leaf-spec : {M : Type 1} → statement M
+is-leaf-spec =
     tie.close
     (tie.spec
     Inv-loop
@@ -76,7 +73,6 @@ next-spec =
     cell-as-index-requires-2
     loop-holds
     leads-requires
-    arc-at-requires
     returns
     add-n
     loop-less

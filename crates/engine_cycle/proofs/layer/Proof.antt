@@ -7,8 +7,8 @@ use lib.ListN.{length, length-set}
 use borrow.Author.Needs.{needs}
 use Rattle.engine_graph.specs.Graph.{Graph}
 use Rattle.engine_cycle.proofs.Rounds.{Turned, turned-none, turned-numbered, turned-leads-not, turned-adds, turned-all}
-use Rattle.engine_cycle.proofs.ring.Statement.{statement}
-use Rattle.engine_cycle.proofs.ring.Tie as tie
+use Rattle.engine_cycle.proofs.layer.Statement.{statement}
+use Rattle.engine_cycle.proofs.layer.Tie as tie
 
 abbrev Inv-loop : tie.InvT-loop
 Inv-loop arcs first upper lower far numbers₀ q₀ numbers q = Turned arcs upper lower far numbers₀ numbers q
@@ -64,8 +64,8 @@ same-length c = c .before .loop .inv .same-length
 returns : tie.Need-returns Inv-loop μ-loop
 returns c = turned-all (now (c .before .before .before .before .before .args .arcs)) (c .before .before .before .before .before .args .upper) (c .before .before .before .before .before .args .lower) (now (c .before .before .before .before .before .args .first)) (c .before .before .before .before .before .pre .0) (c .loop-test .left) (c .before .loop .inv)
 
-pub ring-spec : {M : Type 1} → statement M
-ring-spec =
+pub layer-spec : {M : Type 1} → statement M
+layer-spec =
     tie.close
     (tie.spec
     Inv-loop
