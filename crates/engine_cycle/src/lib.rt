@@ -28,10 +28,10 @@ fn lowest(
     requires { ⌜ q < length (now numbers) ⌝ }
     ensures { λ r. ⌜ LowestAt (now (arcs .entry)) upper lower (now (numbers .entry)) far q r ⌝ }
 {
-    let end = widen::cell_as_index(first[q + 1]);
-    let mut n = widen::cell_as_index(first[q]);
+    let of = engine_graph::arcs_of(first, q);
+    let mut n = of.from;
     let mut r: u16 = 256;
-    while n < end {
+    while n < of.end {
         let at = n;
         n += 1;
         if engine_graph::idle(arcs, at, upper, lower) {

@@ -28,9 +28,9 @@ fn is_leaf(arcs: &[u16], first: &[u16], q: usize, upper: bool, lower: bool, aliv
     requires { ⌜ q < length (now alive) ⌝ }
     ensures { λ r. ⌜ Leaf (now (arcs .entry)) upper lower (now (alive .entry)) q r ⌝ }
 {
-    let end = widen::cell_as_index(first[q + 1]);
-    let mut n = widen::cell_as_index(first[q]);
-    while n < end {
+    let of = engine_graph::arcs_of(first, q);
+    let mut n = of.from;
+    while n < of.end {
         if leads(arcs, n, upper, lower, alive) {
             return false;
         }

@@ -155,13 +155,13 @@ module _ {cells order : List ℕ} {count : ℕ} {cells′ order′ : List ℕ} {
       (λ s v. let b = v .2 in subst (λ (x : ℕ). List·Memᴰ x l) (v .4) (at-mem l (v .0) 0 (omega arith)))
 
   -- all to which idle arcs lead from q
-  pub meets-targets : (arcs : List ℕ) (upper lower : Bool) (first : List ℕ) → Graph arcs first (length cells) → (q : ℕ) → q < length cells → (n end : ℕ) → end ≡ getD first (q + 1) 0 → end ≤ n
-      → ((i : ℕ) → getD first q 0 ≤ i → i < n → i < end)
+  pub meets-targets : (arcs : List ℕ) (upper lower : Bool) (first : List ℕ) → Graph arcs first (length cells) → (q : ℕ) → q < length cells → (n : ℕ) → getD first (q + 1) 0 ≤ n
+      → ((i : ℕ) → getD first q 0 ≤ i → i < n → i < getD first (q + 1) 0)
       → Meets (Values (λ i. idleBy upper lower (arcOf arcs i)) (λ i. arcOf arcs i .target) (getD first q 0) n) cells order count cells′ order′ count′
       → Meets (IdleEdge arcs upper lower q) cells order count cells′ order′ count′
-  meets-targets arcs upper lower first G q h n end e k within =
+  meets-targets arcs upper lower first G q h n k within =
       meets-as (λ s A. let N = number-of arcs (idleBy upper lower) first (length cells) G q s A in (N .number, N .from, omega (arith, N .until), N .passes, N .target-is))
-      (λ s v. subst (IdleEdge arcs upper lower q) (v .4) (edge-of arcs (idleBy upper lower) first (length cells) G q (v .0) h (v .1) (omega (arith, within (v .0) (v .1) (v .2))) (v .3)))
+      (λ s v. subst (IdleEdge arcs upper lower q) (v .4) (edge-of arcs (idleBy upper lower) first (length cells) G q (v .0) h (v .1) (within (v .0) (v .1) (v .2)) (v .3)))
 
 -- THE SEARCH: the arcs of the first states of the order are followed.
 

@@ -59,10 +59,10 @@ fn follow(
     requires { ⌜ Met (now cells) (now order) before ⌝ }
     ensures { λ r. ⌜ Meets (IdleEdge (now (arcs .entry)) upper lower q) (now (cells .entry)) (now (order .entry)) before (now (cells .exit)) (now (order .exit)) r ⌝ }
 {
-    let end = widen::cell_as_index(first[q + 1]);
-    let mut n = widen::cell_as_index(first[q]);
+    let of = engine_graph::arcs_of(first, q);
+    let mut n = of.from;
     let mut count = before;
-    while n < end {
+    while n < of.end {
         let at = n;
         n += 1;
         if engine_graph::idle(arcs, at, upper, lower) {

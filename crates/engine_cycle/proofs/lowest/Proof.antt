@@ -1,7 +1,7 @@
 -- The loop: of the targets of the state's arcs before n, the lowest with the number.
 use Prim.Native.Nat.{ℕ, _+_, _-_, _<_, _≤_}
 use native.Mathlib.Omega.{arith}
-use mathlib.Core.Path.{_≡_, sym, ap, _∙_}
+use mathlib.Core.Path.{sym, ap, _∙_}
 use mathlib.Core.Bool.{true≢false}
 use denote.Ref.{now}
 use lib.ListN.{getD}
@@ -13,79 +13,61 @@ use Rattle.engine_cycle.proofs.lowest.Statement.{statement}
 use Rattle.engine_cycle.proofs.lowest.Tie as tie
 
 abbrev Inv-loop : tie.InvT-loop
-Inv-loop arcs first q upper lower numbers far end n₀ r₀ n r = (getD first q 0 ≤ n) × (end ≡ getD first (q + 1) 0) × ((i : ℕ) → getD first q 0 ≤ i → i < n → i < end) × Least arcs upper lower first numbers far q n r
+Inv-loop arcs first q upper lower numbers far of n₀ r₀ n r = (getD first q 0 ≤ n) × ((i : ℕ) → getD first q 0 ≤ i → i < n → i < getD first (q + 1) 0) × Least arcs upper lower first numbers far q n r
 
 abbrev μ-loop : tie.MeasureT-loop
-μ-loop arcs first q upper lower numbers far end n₀ r₀ n r = end - n
+μ-loop arcs first q upper lower numbers far of n₀ r₀ n r = of .end - n
 
-add-cell-as-index : tie.Need-add-cell-as-index Inv-loop μ-loop
-add-cell-as-index c = omega (arith, c .before .before .before .pre .0 .few, c .before .before .before .pre .1)
+arcs-of-requires : tie.Need-arcs-of-requires Inv-loop μ-loop
+arcs-of-requires c κs = omega (arith, c .before .before .before .pre .0 .few, c .before .before .before .pre .0 .index, c .before .before .before .pre .1)
 
-mul-cell-as-index : tie.Need-mul-cell-as-index Inv-loop μ-loop
-mul-cell-as-index c = search needs
+loop-holds : tie.Need-loop-holds Inv-loop μ-loop
+loop-holds c = (omega (arith, c .arcs-of .ensures .0), λ i h k. absurd (omega (arith, c .arcs-of .ensures .0)), least-begins (now (c .before .before .before .before .args .arcs)) (c .before .before .before .before .args .upper) (c .before .before .before .before .args .lower) (now (c .before .before .before .before .args .first)) (now (c .before .before .before .before .args .numbers)) (c .before .before .before .before .args .far) (c .before .before .before .before .args .q) (c .arcs-of .result .from) (omega (arith, c .arcs-of .ensures .0)))
 
-shared-slice-read-cell-as-index : tie.Need-shared-slice-read-cell-as-index Inv-loop μ-loop
-shared-slice-read-cell-as-index c = omega (arith, c .before .before .before .before .pre .0 .few, c .before .before .before .before .pre .1, c .before .before .before .before .pre .0 .index)
+add-n : tie.Need-add-n Inv-loop μ-loop
+add-n c = omega (arith, c .before .before .before .before .before .before .before .pre .0 .numbered (c .before .before .before .before .before .before .before .args .q) (c .before .before .loop .n) (c .before .before .before .before .before .before .before .pre .1) (c .before .before .loop .inv .0) (omega (arith, c .if1 .taken, c .before .before .before .arcs-of .ensures .1)) .0)
+
+idle-requires : tie.Need-idle-requires Inv-loop μ-loop
+idle-requires c κs = c .before .before .before .before .before .before .before .pre .0 .numbered (c .before .before .before .before .before .before .before .args .q) (c .before .before .loop .n) (c .before .before .before .before .before .before .before .pre .1) (c .before .before .loop .inv .0) (omega (arith, c .if1 .taken, c .before .before .before .arcs-of .ensures .1)) .0
+
+arc-at-requires : tie.Need-arc-at-requires Inv-loop μ-loop
+arc-at-requires c κs = c .before .before .before .before .before .before .before .before .before .pre .0 .numbered (c .before .before .before .before .before .before .before .before .before .args .q) (c .before .before .before .before .loop .n) (c .before .before .before .before .before .before .before .before .before .pre .1) (c .before .before .before .before .loop .inv .0) (omega (arith, c .before .before .if1 .taken, c .before .before .before .before .before .arcs-of .ensures .1)) .0
 
 cell-as-index-requires : tie.Need-cell-as-index-requires Inv-loop μ-loop
 cell-as-index-requires c κs = search needs
 
-mul-cell-as-index-2 : tie.Need-mul-cell-as-index-2 Inv-loop μ-loop
-mul-cell-as-index-2 c = search needs
+mul-if3 : tie.Need-mul-if3 Inv-loop μ-loop
+mul-if3 c = search needs
 
-shared-slice-read-cell-as-index-2 : tie.Need-shared-slice-read-cell-as-index-2 Inv-loop μ-loop
-shared-slice-read-cell-as-index-2 c = omega (arith, c .before .before .before .before .before .before .pre .0 .few, c .before .before .before .before .before .before .pre .1, c .before .before .before .before .before .before .pre .0 .index)
-
-cell-as-index-requires-2 : tie.Need-cell-as-index-requires-2 Inv-loop μ-loop
-cell-as-index-requires-2 c κs = search needs
-
-loop-holds : tie.Need-loop-holds Inv-loop μ-loop
-loop-holds c = (omega (arith, c .cell-as-index2 .ensures .0), c .before .before .cell-as-index .ensures .0, λ i h k. absurd (omega (arith, c .cell-as-index2 .ensures .0)), least-begins (now (c .before .before .before .before .before .before .before .args .arcs)) (c .before .before .before .before .before .before .before .args .upper) (c .before .before .before .before .before .before .before .args .lower) (now (c .before .before .before .before .before .before .before .args .first)) (now (c .before .before .before .before .before .before .before .args .numbers)) (c .before .before .before .before .before .before .before .args .far) (c .before .before .before .before .before .before .before .args .q) (c .cell-as-index2 .result) (omega (arith, c .cell-as-index2 .ensures .0)))
-
-add-n : tie.Need-add-n Inv-loop μ-loop
-add-n c = omega (arith, c .before .before .before .before .before .before .before .before .before .pre .0 .numbered (c .before .before .before .before .before .before .before .before .before .args .q) (c .before .loop .n) (c .before .before .before .before .before .before .before .before .before .pre .1) (c .before .loop .inv .0) (omega (arith, c .before .loop .inv .1)) .0)
-
-idle-requires : tie.Need-idle-requires Inv-loop μ-loop
-idle-requires c κs = c .before .before .before .before .before .before .before .before .before .pre .0 .numbered (c .before .before .before .before .before .before .before .before .before .args .q) (c .before .loop .n) (c .before .before .before .before .before .before .before .before .before .pre .1) (c .before .loop .inv .0) (omega (arith, c .before .loop .inv .1)) .0
-
-arc-at-requires : tie.Need-arc-at-requires Inv-loop μ-loop
-arc-at-requires c κs = c .before .before .before .before .before .before .before .before .before .before .before .pre .0 .numbered (c .before .before .before .before .before .before .before .before .before .before .before .args .q) (c .before .before .before .loop .n) (c .before .before .before .before .before .before .before .before .before .before .before .pre .1) (c .before .before .before .loop .inv .0) (omega (arith, c .before .before .before .loop .inv .1)) .0
-
-cell-as-index-requires-3 : tie.Need-cell-as-index-requires-3 Inv-loop μ-loop
-cell-as-index-requires-3 c κs = search needs
-
-mul-if2 : tie.Need-mul-if2 Inv-loop μ-loop
-mul-if2 c = search needs
-
-shared-slice-read-if2 : tie.Need-shared-slice-read-if2 Inv-loop μ-loop
-shared-slice-read-if2 c = omega (arith, c .before .cell-as-index3 .ensures .0, ap (λ (a : held.Arc). a .target) (c .before .before .arc-at .ensures), c .before .before .before .before .before .before .before .before .before .before .before .before .before .before .pre .0 .target-in (c .before .before .before .before .before .before .loop .n) (c .before .before .before .before .before .before .before .before .before .before .before .before .before .before .pre .0 .numbered (c .before .before .before .before .before .before .before .before .before .before .before .before .before .before .args .q) (c .before .before .before .before .before .before .loop .n) (c .before .before .before .before .before .before .before .before .before .before .before .before .before .before .pre .1) (c .before .before .before .before .before .before .loop .inv .0) (omega (arith, c .before .before .before .before .before .before .loop .inv .1)) .0))
+shared-slice-read-if3 : tie.Need-shared-slice-read-if3 Inv-loop μ-loop
+shared-slice-read-if3 c = omega (arith, c .before .cell-as-index .ensures .0, ap (λ (a : held.Arc). a .target) (c .before .before .arc-at .ensures), c .before .before .before .before .before .before .before .before .before .before .before .before .pre .0 .target-in (c .before .before .before .before .before .before .before .loop .n) (c .before .before .before .before .before .before .before .before .before .before .before .before .pre .0 .numbered (c .before .before .before .before .before .before .before .before .before .before .before .before .args .q) (c .before .before .before .before .before .before .before .loop .n) (c .before .before .before .before .before .before .before .before .before .before .before .before .pre .1) (c .before .before .before .before .before .before .before .loop .inv .0) (omega (arith, c .before .before .before .before .before .if1 .taken, c .before .before .before .before .before .before .before .before .arcs-of .ensures .1)) .0))
 
 loop-less : tie.Need-loop-less Inv-loop μ-loop
-loop-less c = search needs
+loop-less c = omega (arith, c .before .before .before .before .before .before .before .before .if1 .taken)
 
 loop-again : tie.Need-loop-again Inv-loop μ-loop
-loop-again c = (omega (arith, c .before .before .before .before .before .before .before .before .before .loop .inv .0), c .before .before .before .before .before .before .before .before .before .loop .inv .1, λ i h k. omega arith, least-takes (now (c .before .before .before .before .before .before .before .before .before .before .before .before .before .before .before .before .before .args .arcs)) (c .before .before .before .before .before .before .before .before .before .before .before .before .before .before .before .before .before .args .upper) (c .before .before .before .before .before .before .before .before .before .before .before .before .before .before .before .before .before .args .lower) (now (c .before .before .before .before .before .before .before .before .before .before .before .before .before .before .before .before .before .args .first)) (now (c .before .before .before .before .before .before .before .before .before .before .before .before .before .before .before .before .before .args .numbers)) (c .before .before .before .before .before .before .before .before .before .before .before .before .before .before .before .before .before .args .far) (c .before .before .before .before .before .before .before .before .before .before .before .before .before .before .before .before .before .args .q) (c .before .before .before .before .before .before .before .before .before .loop .n) (c .before .before .before .before .before .before .before .before .before .loop .r) (c .before .before .before .before .before .before .before .before .before .loop .inv .3) (c .before .before .before .before .before .before .before .before .before .loop .inv .0) (sym (c .before .before .before .before .before .before .before .idle .ensures) ∙ c .before .before .before .before .before .before .if1 .taken, ap (numberIn (now (c .before .before .before .before .before .before .before .before .before .before .before .before .before .before .before .before .before .args .numbers))) (sym (c .before .before .before .before .cell-as-index3 .ensures .0 ∙ ap (λ (a : held.Arc). a .target) (c .before .before .before .before .before .arc-at .ensures))) ∙ c .before .before .if2 .taken) (c .before .before .before .before .before .arc-at .result .target) (ap (λ (a : held.Arc). a .target) (c .before .before .before .before .before .arc-at .ensures)) (c .if3 .taken))
+loop-again c = (omega (arith, c .before .before .before .before .before .before .before .before .before .before .loop .inv .0), λ i h k. omega (arith, c .before .before .before .before .before .before .before .before .if1 .taken, c .before .before .before .before .before .before .before .before .before .before .before .arcs-of .ensures .1), least-takes (now (c .before .before .before .before .before .before .before .before .before .before .before .before .before .before .before .args .arcs)) (c .before .before .before .before .before .before .before .before .before .before .before .before .before .before .before .args .upper) (c .before .before .before .before .before .before .before .before .before .before .before .before .before .before .before .args .lower) (now (c .before .before .before .before .before .before .before .before .before .before .before .before .before .before .before .args .first)) (now (c .before .before .before .before .before .before .before .before .before .before .before .before .before .before .before .args .numbers)) (c .before .before .before .before .before .before .before .before .before .before .before .before .before .before .before .args .far) (c .before .before .before .before .before .before .before .before .before .before .before .before .before .before .before .args .q) (c .before .before .before .before .before .before .before .before .before .before .loop .n) (c .before .before .before .before .before .before .before .before .before .before .loop .r) (c .before .before .before .before .before .before .before .before .before .before .loop .inv .2) (c .before .before .before .before .before .before .before .before .before .before .loop .inv .0) (sym (c .before .before .before .before .before .before .before .idle .ensures) ∙ c .before .before .before .before .before .before .if2 .taken, ap (numberIn (now (c .before .before .before .before .before .before .before .before .before .before .before .before .before .before .before .args .numbers))) (sym (c .before .before .before .before .cell-as-index .ensures .0 ∙ ap (λ (a : held.Arc). a .target) (c .before .before .before .before .before .arc-at .ensures))) ∙ c .before .before .if3 .taken) (c .before .before .before .before .before .arc-at .result .target) (ap (λ (a : held.Arc). a .target) (c .before .before .before .before .before .arc-at .ensures)) (c .if4 .taken))
 
 loop-less-2 : tie.Need-loop-less-2 Inv-loop μ-loop
-loop-less-2 c = search needs
+loop-less-2 c = omega (arith, c .before .before .before .before .before .before .before .before .if1 .taken)
 
 loop-again-2 : tie.Need-loop-again-2 Inv-loop μ-loop
-loop-again-2 c = (omega (arith, c .before .before .before .before .before .before .before .before .before .loop .inv .0), c .before .before .before .before .before .before .before .before .before .loop .inv .1, λ i h k. omega arith, least-keeps (now (c .before .before .before .before .before .before .before .before .before .before .before .before .before .before .before .before .before .args .arcs)) (c .before .before .before .before .before .before .before .before .before .before .before .before .before .before .before .before .before .args .upper) (c .before .before .before .before .before .before .before .before .before .before .before .before .before .before .before .before .before .args .lower) (now (c .before .before .before .before .before .before .before .before .before .before .before .before .before .before .before .before .before .args .first)) (now (c .before .before .before .before .before .before .before .before .before .before .before .before .before .before .before .before .before .args .numbers)) (c .before .before .before .before .before .before .before .before .before .before .before .before .before .before .before .before .before .args .far) (c .before .before .before .before .before .before .before .before .before .before .before .before .before .before .before .before .before .args .q) (c .before .before .before .before .before .before .before .before .before .loop .n) (c .before .before .before .before .before .before .before .before .before .loop .r) (c .before .before .before .before .before .before .before .before .before .loop .inv .3) (λ F. omega (arith, ap (λ (a : held.Arc). a .target) (c .before .before .before .before .before .arc-at .ensures), c .if3 .left)))
+loop-again-2 c = (omega (arith, c .before .before .before .before .before .before .before .before .before .before .loop .inv .0), λ i h k. omega (arith, c .before .before .before .before .before .before .before .before .if1 .taken, c .before .before .before .before .before .before .before .before .before .before .before .arcs-of .ensures .1), least-keeps (now (c .before .before .before .before .before .before .before .before .before .before .before .before .before .before .before .args .arcs)) (c .before .before .before .before .before .before .before .before .before .before .before .before .before .before .before .args .upper) (c .before .before .before .before .before .before .before .before .before .before .before .before .before .before .before .args .lower) (now (c .before .before .before .before .before .before .before .before .before .before .before .before .before .before .before .args .first)) (now (c .before .before .before .before .before .before .before .before .before .before .before .before .before .before .before .args .numbers)) (c .before .before .before .before .before .before .before .before .before .before .before .before .before .before .before .args .far) (c .before .before .before .before .before .before .before .before .before .before .before .before .before .before .before .args .q) (c .before .before .before .before .before .before .before .before .before .before .loop .n) (c .before .before .before .before .before .before .before .before .before .before .loop .r) (c .before .before .before .before .before .before .before .before .before .before .loop .inv .2) (λ F. omega (arith, ap (λ (a : held.Arc). a .target) (c .before .before .before .before .before .arc-at .ensures), c .if4 .left)))
 
 loop-less-3 : tie.Need-loop-less-3 Inv-loop μ-loop
-loop-less-3 c = search needs
+loop-less-3 c = omega (arith, c .before .before .before .before .before .before .if1 .taken)
 
 loop-again-3 : tie.Need-loop-again-3 Inv-loop μ-loop
-loop-again-3 c = (omega (arith, c .before .before .before .before .before .before .before .loop .inv .0), c .before .before .before .before .before .before .before .loop .inv .1, λ i h k. omega arith, least-keeps (now (c .before .before .before .before .before .before .before .before .before .before .before .before .before .before .before .args .arcs)) (c .before .before .before .before .before .before .before .before .before .before .before .before .before .before .before .args .upper) (c .before .before .before .before .before .before .before .before .before .before .before .before .before .before .before .args .lower) (now (c .before .before .before .before .before .before .before .before .before .before .before .before .before .before .before .args .first)) (now (c .before .before .before .before .before .before .before .before .before .before .before .before .before .before .before .args .numbers)) (c .before .before .before .before .before .before .before .before .before .before .before .before .before .before .before .args .far) (c .before .before .before .before .before .before .before .before .before .before .before .before .before .before .before .args .q) (c .before .before .before .before .before .before .before .loop .n) (c .before .before .before .before .before .before .before .loop .r) (c .before .before .before .before .before .before .before .loop .inv .3) (λ F. absurd (c .if2 .left (sym (ap (numberIn (now (c .before .before .before .before .before .before .before .before .before .before .before .before .before .before .before .args .numbers))) (sym (c .before .before .cell-as-index3 .ensures .0 ∙ ap (λ (a : held.Arc). a .target) (c .before .before .before .arc-at .ensures)))) ∙ F .1))))
+loop-again-3 c = (omega (arith, c .before .before .before .before .before .before .before .before .loop .inv .0), λ i h k. omega (arith, c .before .before .before .before .before .before .if1 .taken, c .before .before .before .before .before .before .before .before .before .arcs-of .ensures .1), least-keeps (now (c .before .before .before .before .before .before .before .before .before .before .before .before .before .args .arcs)) (c .before .before .before .before .before .before .before .before .before .before .before .before .before .args .upper) (c .before .before .before .before .before .before .before .before .before .before .before .before .before .args .lower) (now (c .before .before .before .before .before .before .before .before .before .before .before .before .before .args .first)) (now (c .before .before .before .before .before .before .before .before .before .before .before .before .before .args .numbers)) (c .before .before .before .before .before .before .before .before .before .before .before .before .before .args .far) (c .before .before .before .before .before .before .before .before .before .before .before .before .before .args .q) (c .before .before .before .before .before .before .before .before .loop .n) (c .before .before .before .before .before .before .before .before .loop .r) (c .before .before .before .before .before .before .before .before .loop .inv .2) (λ F. absurd (c .if3 .left (sym (ap (numberIn (now (c .before .before .before .before .before .before .before .before .before .before .before .before .before .args .numbers))) (sym (c .before .before .cell-as-index .ensures .0 ∙ ap (λ (a : held.Arc). a .target) (c .before .before .before .arc-at .ensures)))) ∙ F .1))))
 
 loop-less-4 : tie.Need-loop-less-4 Inv-loop μ-loop
-loop-less-4 c = search needs
+loop-less-4 c = omega (arith, c .before .before .if1 .taken)
 
 loop-again-4 : tie.Need-loop-again-4 Inv-loop μ-loop
-loop-again-4 c = (omega (arith, c .before .before .before .loop .inv .0), c .before .before .before .loop .inv .1, λ i h k. omega arith, least-keeps (now (c .before .before .before .before .before .before .before .before .before .before .before .args .arcs)) (c .before .before .before .before .before .before .before .before .before .before .before .args .upper) (c .before .before .before .before .before .before .before .before .before .before .before .args .lower) (now (c .before .before .before .before .before .before .before .before .before .before .before .args .first)) (now (c .before .before .before .before .before .before .before .before .before .before .before .args .numbers)) (c .before .before .before .before .before .before .before .before .before .before .before .args .far) (c .before .before .before .before .before .before .before .before .before .before .before .args .q) (c .before .before .before .loop .n) (c .before .before .before .loop .r) (c .before .before .before .loop .inv .3) (λ F. absurd (true≢false (sym (F .0) ∙ sym (c .before .idle .ensures) ∙ c .if1 .left))))
+loop-again-4 c = (omega (arith, c .before .before .before .before .loop .inv .0), λ i h k. omega (arith, c .before .before .if1 .taken, c .before .before .before .before .before .arcs-of .ensures .1), least-keeps (now (c .before .before .before .before .before .before .before .before .before .args .arcs)) (c .before .before .before .before .before .before .before .before .before .args .upper) (c .before .before .before .before .before .before .before .before .before .args .lower) (now (c .before .before .before .before .before .before .before .before .before .args .first)) (now (c .before .before .before .before .before .before .before .before .before .args .numbers)) (c .before .before .before .before .before .before .before .before .before .args .far) (c .before .before .before .before .before .before .before .before .before .args .q) (c .before .before .before .before .loop .n) (c .before .before .before .before .loop .r) (c .before .before .before .before .loop .inv .2) (λ F. absurd (true≢false (sym (F .0) ∙ sym (c .before .idle .ensures) ∙ c .if2 .left))))
 
 returns : tie.Need-returns Inv-loop μ-loop
-returns c = least-is (now (c .before .before .before .before .before .before .before .before .before .args .arcs)) (c .before .before .before .before .before .before .before .before .before .args .upper) (c .before .before .before .before .before .before .before .before .before .args .lower) (now (c .before .before .before .before .before .before .before .before .before .args .first)) (now (c .before .before .before .before .before .before .before .before .before .args .numbers)) (c .before .before .before .before .before .before .before .before .before .args .far) (c .before .before .before .before .before .before .before .before .before .args .q) (c .before .before .before .before .before .before .before .before .before .pre .0) (c .before .before .before .before .before .before .before .before .before .pre .1) (c .before .loop .n) (c .before .loop .r) (omega (arith, c .before .loop .inv .1)) (λ i h k. omega (arith, c .before .loop .inv .2 i h k, c .before .loop .inv .1)) (c .before .loop .inv .3)
+returns c = least-is (now (c .before .before .before .before .before .before .before .args .arcs)) (c .before .before .before .before .before .before .before .args .upper) (c .before .before .before .before .before .before .before .args .lower) (now (c .before .before .before .before .before .before .before .args .first)) (now (c .before .before .before .before .before .before .before .args .numbers)) (c .before .before .before .before .before .before .before .args .far) (c .before .before .before .before .before .before .before .args .q) (c .before .before .before .before .before .before .before .pre .0) (c .before .before .before .before .before .before .before .pre .1) (c .before .before .loop .n) (c .before .before .loop .r) (omega (arith, c .if1 .left, c .before .before .before .arcs-of .ensures .1)) (c .before .before .loop .inv .1) (c .before .before .loop .inv .2)
 
 pub lowest-spec : {M : Type 1} → statement M
 lowest-spec =
@@ -93,20 +75,14 @@ lowest-spec =
     (tie.spec
     Inv-loop
     μ-loop
-    add-cell-as-index
-    mul-cell-as-index
-    shared-slice-read-cell-as-index
-    cell-as-index-requires
-    mul-cell-as-index-2
-    shared-slice-read-cell-as-index-2
-    cell-as-index-requires-2
+    arcs-of-requires
     loop-holds
     add-n
     idle-requires
     arc-at-requires
-    cell-as-index-requires-3
-    mul-if2
-    shared-slice-read-if2
+    cell-as-index-requires
+    mul-if3
+    shared-slice-read-if3
     loop-less
     loop-again
     loop-less-2
