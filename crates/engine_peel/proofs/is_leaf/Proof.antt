@@ -1,11 +1,10 @@
 -- The loop: no arc before n leads to a state that is alive.
-use Prim.Native.Nat.{ℕ, _+_, _-_, _<_, _≤_}
+use Prim.Native.Nat.{ℕ, _-_, _<_, _≤_}
 use native.Mathlib.Omega.{arith}
 use mathlib.Core.Path.{_≡_, sym, _∙_}
 use mathlib.Core.Bool.{false}
 use denote.Ref.{now}
 use lib.ListN.{getD}
-use borrow.Author.Needs.{needs}
 use Rattle.engine_peel.proofs.Rounds.{fails-more, leadsAt, leaf-not, leaf}
 use Rattle.engine_peel.proofs.is_leaf.Statement.{statement}
 use Rattle.engine_peel.proofs.is_leaf.Tie as tie

@@ -4,7 +4,6 @@ use native.Mathlib.Omega.{arith}
 use mathlib.Core.Path.{sym, ap, _∙_}
 use denote.Ref.{now}
 use lib.ListN.{getD}
-use borrow.Author.Needs.{needs}
 use Rattle.table_format.specs.declared.Arc as held
 use Rattle.table_format.specs.Cells.{arcOf}
 use Rattle.engine_graph.specs.Graph.{idleBy}
