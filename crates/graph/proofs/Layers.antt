@@ -42,7 +42,7 @@ module _ (E : ℕ → ℕ → Type 0) (s : ℕ) where
     pub layers-more : {after : ℕ → ℕ} → Layer E far d after → ((y : ℕ) → E s y → d y ≡ far → ⊥) → Layers E s after (suc far)
     layers-more {after} N none =
         record {
-          at-state = N .kept s (let h = R .at-state in omega arith) ∙ R .at-state;
+          at-state = N .kept s some ∙ R .at-state;
           only-state = λ x h. ⊎-elim (λ z. absurd (let A = N .added x z (omega arith) in let k = A .0 in omega (arith, first-layer))) (λ p. R .only-state x (sym (N .kept x p) ∙ h)) (zero? (d x));
           bounded = top;
           settled = settled′;
