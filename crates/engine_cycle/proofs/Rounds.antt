@@ -18,7 +18,7 @@ use Rattle.engine_graph.proofs.Edges.{among}
 use Rattle.engine_cycle.specs.Numbers.{numberIn, Unnumbered, LowestAt, LayerAdded, LayersTo}
 
 module _ (arcs : List ℕ) (upper lower : Bool) where
-  -- ONE RING: the states below n had their turn.
+  -- ONE LAYER: the states below n had their turn.
   pub record Turned (far : ℕ) (before numbers : List ℕ) (n : ℕ) : Type 0 where
     pub same-length : length numbers ≡ length before
     pub kept : (x : ℕ) → 0 < numberIn before x → numberIn numbers x ≡ numberIn before x
@@ -91,7 +91,7 @@ module _ (arcs : List ℕ) (upper lower : Bool) where
         fewer = T .fewer;
       }
 
-  -- THE RINGS, until s leads to the outermost.
+  -- THE LAYERS, until s leads to the outermost.
   module _ (s : ℕ) where
     -- the layers up to a number, and what s leads to
     pub record Grown (numbers : List ℕ) (far next : ℕ) : Type 0 where

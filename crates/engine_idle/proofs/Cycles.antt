@@ -71,11 +71,11 @@ module _ (arcs initials : List ℕ) (upper lower : Bool) (first before after : L
     looped-at : (s : ℕ) → ReachedBy arcs initials s → Walk (IdleEdge arcs upper lower) s s → LoopedAt arcs upper lower reached s
     looped-at s R w = (⊎-elim (λ y. y .0) (λ n. absurd (n .1 R)) (M s), w)
 
-    -- none that is left is reached: no cycle is
+    -- no state is reached and on a cycle: none is shown
     pub none-reached : length after ≤ r → shownIn arcs initials (length before) upper lower ≡ []
     none-reached h = shown.shown-none tested (λ s R w. L .none-before s (omega (arith, below s w, S .same-length)) (looped-at s R w))
 
-    -- one is: so is the cycle through it
+    -- one is: the cycle through the lowest
     module _ (h : r < length after) where
       looped-here : LoopedAt arcs upper lower reached r
       looped-here = L .looped (omega (arith, S .same-length))

@@ -1,5 +1,5 @@
-// The idle cycle to be shown. Where peeling (engine_peel) leaves no state there is none. Else what is reached is marked (engine_reach), and the lowest
-// of the states that are left and reached and lead back to themselves is the one through which the shortest and first cycle is shown
+// The idle cycle to be shown. Where peeling (engine_peel) leaves no state there is none. Else what is reached is marked (engine_reach), and of the
+// states that are left and reached, the lowest from which idle arcs lead back to it begins the cycle: the shortest and first one through it
 // (engine_cycle).
 use engine_cycle::Cycle;
 ghost use mathlib.Core.Path.{_≡_};
