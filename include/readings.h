@@ -23,8 +23,8 @@
 #include <stdint.h>
 
 /* The version of this interface, as text and as 10,000 x major + 100 x minor + patch. */
-#define RD_VERSION "0.1.0"
-#define RD_VERSION_NUMBER 100
+#define RD_VERSION "0.2.0"
+#define RD_VERSION_NUMBER 200
 
 /* Limits. */
 #define RD_MOST_STATES 256   /* states of a table */
@@ -39,6 +39,14 @@
 #define RD_FRAME_CELLS 4     /* cells of a frame: state, next arc, letters passed on the upper and on the lower side */
 #define RD_CYCLE_STATES 256  /* states of the longest cycle that is told */
 
+/* Limits of an answer sheet. */
+#define RD_FACES 63             /* faces: characters for letters 1 to 63 */
+#define RD_MOST_READINGS 1000   /* readings of a sheet */
+#define RD_MOST_READING 65535   /* letters of a reading */
+#define RD_SHEET_LINE 73        /* bytes of a line, with its line feed */
+#define RD_ROW_LETTERS 66       /* letters that stand on a line */
+#define RD_SHEET_BYTES 72489146 /* bytes that hold every sheet: some 70 MiB, too many for a stack */
+
 /* What is enough for a search over a table of so many states, begun by rd_start: frames of the stack, their cells, letters of the
  * output. The letters to read are those of every word that the task reads, together. A path that the words allow has fewer arcs than
  * these frames, and an arc writes one letter at most, in recognition none. */
@@ -46,7 +54,12 @@
 #define RD_STACK_CELLS(letters, states) (RD_FRAME_CELLS * RD_STACK_FRAMES(letters, states))
 #define RD_OUTPUT_LETTERS(letters, states) (RD_STACK_FRAMES(letters, states) - 1)
 
-/* A word of length 0, for the side that a task does not read: a pointer that is not null. */
+/* What a sheet has: lines of a reading of so many letters (which is evaluated twice), and bytes of a sheet whose readings have so many
+ * lines together. */
+#define RD_READING_LINES(letters) ((letters) == 0 ? 1 : ((letters) + RD_ROW_LETTERS - 1) / RD_ROW_LETTERS)
+#define RD_SHEET_SIZE(lines) (RD_SHEET_LINE * ((lines) + 2))
+
+/* A word of length 0, for the side that a task does not read, and a list of no readings: a pointer that is not null. */
 #ifdef __cplusplus
 #define RD_NO_LETTERS (reinterpret_cast<const uint8_t *>(""))
 #else
@@ -59,7 +72,7 @@ extern "C" {
 
 /* The kinds of an answer. */
 enum rd_kind {
-    RD_DONE = 0,   /* rd_table_read, rd_table_write, rd_start: it was done */
+    RD_DONE = 0,   /* rd_table_read, rd_table_write, rd_start, rd_sheet_write: it was done */
     RD_FOUND = 1,  /* rd_next: a reading stands at the front of the output */
     RD_PAUSED = 2, /* rd_next: the allowance is used; call again to go on */
     RD_ENDED = 3,  /* rd_next: there are no more readings */
@@ -74,7 +87,7 @@ enum rd_task {
 };
 
 /* Why a call is refused. In what order: a text: its first bad line, in it the lowest number, then 24; rd_table_write: 20, 24;
- * rd_start: 20, 11, 10, 12; rd_next: 20, 11, 10, 21, then in a step 22, 23. */
+ * rd_start: 20, 11, 10, 12; rd_next: 20, 11, 10, 21, then in a step 22, 23; rd_sheet_write: 33, 24. */
 enum rd_refusal {
     RD_REFUSAL_MALFORMED = 1,          /* a line is empty, has an odd count of digits, another character than 0-9, A-F,
                                           or lacks its line feed */
@@ -96,7 +109,9 @@ enum rd_refusal {
     RD_REFUSAL_PLACE = 21,             /* the run or its used frames are not a place in a search */
     RD_REFUSAL_STACK_FULL = 22,        /* the stack is full; rd_next says how to go on */
     RD_REFUSAL_OUTPUT_FULL = 23,       /* the output is too short for the reading; rd_next says how to go on */
-    RD_REFUSAL_DESTINATION_SHORT = 24  /* a destination is too short for what is to be written to it */
+    RD_REFUSAL_DESTINATION_SHORT = 24, /* a destination is too short for what is to be written to it */
+    RD_REFUSAL_SHEET_FAULT = 33        /* two faces are equal or one is not 33 to 126; or there are over 1,000 readings, one is
+                                          cut short, or one has a letter 0 or over 63 */
 };
 
 /* What a call answers. A field that has no meaning for an answer is 0. */
@@ -151,6 +166,18 @@ rd_started rd_start(const uint16_t *table, size_t n, uint32_t task, const uint8_
 rd_answer rd_next(const uint16_t *table, size_t n, const uint8_t *upper, size_t u, const uint8_t *lower, size_t l, rd_run *run,
                   uint32_t *stack, size_t s, uint32_t allowance, uint8_t *output, size_t o);
 
+/* Writes an answer sheet: a list of readings on lines of 72 characters and a line feed. The readings are n bytes, one after another,
+ * each as its length (two bytes, high first) and its letters. The faces are RD_FACES characters in ASCII, 33 to 126, no two equal: the
+ * first shows letter 1, the last letter 63. ended is 0 where the run of these readings may go on, any other number where it has ended.
+ *
+ * The first line is READINGS. Then each reading has its ordinal, 1 to 1,000, right-aligned in 5 columns, a blank, and its first
+ * RD_ROW_LETTERS letters; those that are left go on in lines that begin with 6 blanks. The last line is MORE where ended is 0, else
+ * END. All lines are filled up with blanks. Two sheets over the same faces are equal only if their lists and their last words are.
+ *
+ * A reading takes RD_READING_LINES(letters) lines, also one of no letters. RD_SHEET_SIZE(lines of all readings) bytes are what the
+ * sheet has, with no zero byte after them; RD_SHEET_BYTES are enough for every sheet. length: bytes of the sheet. Refusals: 33, 24. */
+rd_answer rd_sheet_write(const uint8_t *readings, size_t n, const uint8_t *faces, uint32_t ended, uint8_t *sheet, size_t m);
+
 /* Use, with a text of n bytes and an upper word of u letters (examples/list.c is this as a program):
  *
  *     static uint16_t table[RD_TABLE_CELLS];
@@ -167,6 +194,12 @@ rd_answer rd_next(const uint16_t *table, size_t n, const uint8_t *upper, size_t 
  *         if (a.kind == RD_REFUSED) return a.number;
  *         if (a.kind == RD_FOUND) show(output, a.length);
  *     } while (a.kind != RD_ENDED);
+ *
+ * A sheet of the readings found, where a list of n bytes has them and a is the last answer (examples/sheet.c is this as a program):
+ *
+ *     rd_answer s = rd_sheet_write(list, n, faces, a.kind == RD_ENDED, sheet, sizeof sheet);
+ *     if (s.kind == RD_REFUSED) return s.number;
+ *     fwrite(sheet, 1, s.length, stdout);
  */
 
 #ifdef __cplusplus

@@ -1,4 +1,4 @@
-//! The four calls of the C interface on memory that the caller lends: plain slices and plain integers in, numbers out.
+//! The five calls of the C interface on memory that the caller lends: plain slices and plain integers in, numbers out.
 //! `include/readings.h` says what each does, and what to do after refusals 22 and 23.
 //!
 //! ```
@@ -20,7 +20,7 @@
 //! assert_eq!(output, [2]);
 //! # Ok::<(), Box<dyn std::error::Error>>(())
 //! ```
-use crate::limits::CYCLE_STATES;
+use crate::limits::{CYCLE_STATES, FACES};
 use crate::{Answer, Refusal, StartRefused};
 
 /// The kinds of a reply.
@@ -43,7 +43,7 @@ pub struct Reply {
     pub number: u32,
     /// The steps made in this call.
     pub steps: u32,
-    /// Cells of a table, bytes of a text, states of a cycle or letters of a reading.
+    /// Cells of a table, bytes of a text or a sheet, states of a cycle or letters of a reading.
     pub length: u32,
 }
 
@@ -89,8 +89,8 @@ impl Reply {
         is_refused.then(|| Refusal::of(self.number).expect("a refusal's number"))
     }
 
-    /// The answer of [`table_read`] or [`table_write`]: how many cells or bytes were written. Panics on a reply of [`next`] that was not
-    /// refused.
+    /// The answer of [`table_read`], [`table_write`] or [`sheet_write`]: how many cells or bytes were written. Panics on a reply of
+    /// [`next`] that was not refused.
     pub fn done(self) -> Result<usize, Refusal> {
         match self.kind {
             kind::DONE => Ok(self.length as usize),
@@ -132,7 +132,7 @@ impl StartReply {
 
 /// The C functions. Pointers are not null, also where a length is 0, and point to aligned memory of that many elements.
 mod raw {
-    use super::{Reply, Run, StartReply};
+    use super::{FACES, Reply, Run, StartReply};
 
     unsafe extern "C" {
         pub fn rd_table_read(text: *const u8, n: usize, table: *mut u16, m: usize) -> Reply;
@@ -163,6 +163,15 @@ mod raw {
             allowance: u32,
             output: *mut u8,
             o: usize,
+        ) -> Reply;
+
+        pub fn rd_sheet_write(
+            readings: *const u8,
+            n: usize,
+            faces: *const [u8; FACES],
+            ended: u32,
+            sheet: *mut u8,
+            m: usize,
         ) -> Reply;
     }
 }
@@ -222,6 +231,22 @@ pub fn next(
             allowance,
             output.as_mut_ptr(),
             output.len(),
+        )
+    }
+}
+
+/// Writes the answer sheet of readings that stand one after another, each as its length, two bytes with the high one first, and its
+/// letters. The last line is `MORE` where `ended` is 0, else `END`.
+pub fn sheet_write(readings: &[u8], faces: &[u8; FACES], ended: u32, sheet: &mut [u8]) -> Reply {
+    // SAFETY: as in `table_read`; the faces are as many as the call reads.
+    unsafe {
+        raw::rd_sheet_write(
+            readings.as_ptr(),
+            readings.len(),
+            faces,
+            ended,
+            sheet.as_mut_ptr(),
+            sheet.len(),
         )
     }
 }

@@ -23,6 +23,8 @@
 //! # Ok::<(), Box<dyn std::error::Error>>(())
 //! ```
 //!
+//! [`sheet`] lays readings out for a person to read.
+//!
 //! [`Table`] and [`Search`] own their memory; the calls of [`lending`] work on memory that the caller lends, and allocate nothing.
 //! No call keeps anything, so searches may run on several threads and share a table.
 
@@ -31,9 +33,11 @@ pub mod lending;
 pub mod limits;
 mod refusal;
 mod search;
+mod sheet;
 mod table;
 
 pub use answer::{Answer, Task};
 pub use refusal::{Refusal, StartRefused};
 pub use search::Search;
+pub use sheet::{Faces, sheet};
 pub use table::Table;

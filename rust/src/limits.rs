@@ -1,4 +1,4 @@
-//! Limits, and how much memory a search needs.
+//! Limits, and how much memory a search or a sheet needs.
 
 /// States of a table.
 pub const MOST_STATES: usize = 256;
@@ -22,6 +22,18 @@ pub const TEXT_BYTES: usize = 18_970;
 pub const FRAME_CELLS: usize = 4;
 /// States of the longest cycle that is told.
 pub const CYCLE_STATES: usize = 256;
+/// Faces of a sheet: characters for letters 1 to 63.
+pub const FACES: usize = 63;
+/// Readings of a sheet.
+pub const MOST_READINGS: usize = 1_000;
+/// Letters of a reading on a sheet.
+pub const MOST_READING: usize = 65_535;
+/// Bytes of a sheet's line, with its line feed.
+pub const SHEET_LINE: usize = 73;
+/// Letters that stand on a line of a sheet.
+pub const ROW_LETTERS: usize = 66;
+/// Bytes that hold every sheet.
+pub const SHEET_BYTES: usize = sheet_size(MOST_READINGS * reading_lines(MOST_READING));
 
 /// Cells of a table, by its counts of initial states, terminal states and arcs.
 pub const fn table_cells(initials: usize, terminals: usize, arcs: usize) -> usize {
@@ -42,4 +54,18 @@ pub const fn stack_cells(letters: usize, states: usize) -> usize {
 /// one letter at most, in recognition none.
 pub const fn output_letters(letters: usize, states: usize) -> usize {
     stack_frames(letters, states) - 1
+}
+
+/// Lines that a reading takes on a sheet, by its letters: one also where it has none.
+pub const fn reading_lines(letters: usize) -> usize {
+    if letters == 0 {
+        1
+    } else {
+        letters.div_ceil(ROW_LETTERS)
+    }
+}
+
+/// Bytes of a sheet, by the lines that its readings take together: the first and the last line are added.
+pub const fn sheet_size(lines: usize) -> usize {
+    SHEET_LINE * (lines + 2)
 }

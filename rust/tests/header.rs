@@ -135,6 +135,36 @@ fn limits_and_sizes() {
 }
 
 #[test]
+fn limits_and_sizes_of_a_sheet() {
+    let most = limits::MOST_READINGS * limits::reading_lines(limits::MOST_READING);
+    assert_eq!(limits::SHEET_BYTES, limits::sheet_size(most));
+    let limits = [
+        ("RD_FACES", limits::FACES),
+        ("RD_FACES", limits::MOST_LETTER.into()),
+        ("RD_MOST_READINGS", limits::MOST_READINGS),
+        ("RD_MOST_READING", limits::MOST_READING),
+        ("RD_SHEET_LINE", limits::SHEET_LINE),
+        ("RD_ROW_LETTERS", limits::ROW_LETTERS),
+        ("RD_SHEET_BYTES", limits::SHEET_BYTES),
+        ("RD_READING_LINES(0)", limits::reading_lines(0)),
+        ("RD_READING_LINES(1)", limits::reading_lines(1)),
+        ("RD_READING_LINES(65 + 1)", limits::reading_lines(66)),
+        (
+            "2 * RD_READING_LINES(1 + 66)",
+            2 * limits::reading_lines(67),
+        ),
+        ("RD_READING_LINES(RD_MOST_READING)", 993),
+        ("RD_SHEET_SIZE(0)", limits::sheet_size(0)),
+        ("2 * RD_SHEET_SIZE(1 + 1)", 2 * limits::sheet_size(2)),
+        (
+            "RD_SHEET_SIZE(RD_MOST_READINGS * RD_READING_LINES(RD_MOST_READING))",
+            limits::SHEET_BYTES,
+        ),
+    ];
+    check("sheet.c", &named(&limits)).unwrap();
+}
+
+#[test]
 fn layouts() {
     let layouts = [
         ("sizeof(rd_answer)", size_of::<Reply>()),
@@ -167,7 +197,8 @@ fn calls() {
          rd_started (*s)(const uint16_t *, size_t, uint32_t, const uint8_t *, size_t, const uint8_t *, size_t,
                          rd_run *) = rd_start;
          rd_answer (*n)(const uint16_t *, size_t, const uint8_t *, size_t, const uint8_t *, size_t, rd_run *,
-                        uint32_t *, size_t, uint32_t, uint8_t *, size_t) = rd_next;\n"
+                        uint32_t *, size_t, uint32_t, uint8_t *, size_t) = rd_next;
+         rd_answer (*a)(const uint8_t *, size_t, const uint8_t *, uint32_t, uint8_t *, size_t) = rd_sheet_write;\n"
     );
     takes("calls.c", &types).unwrap();
     takes("other.c", &format!("{table_write} = rd_table_read;\n")).unwrap_err();

@@ -1,4 +1,4 @@
-//! What to do after refusals 22 and 23, and how much memory is enough.
+//! What to do after refusals 22 and 23, and how much memory is enough or needed.
 use readings::lending::{self, Run};
 use readings::{Answer, Refusal, limits};
 
@@ -101,7 +101,34 @@ fn any_number_may_be_given_as_task() {
     }
 }
 
-/// All four calls, on the largest chain.
+/// A list of one reading whose letters are all 1, as it is lent.
+fn one_reading(letters: u16) -> Vec<u8> {
+    let mut list = letters.to_be_bytes().to_vec();
+    list.resize(list.len() + usize::from(letters), 1);
+    list
+}
+
+/// Faces that the call takes.
+fn faces() -> [u8; limits::FACES] {
+    std::array::from_fn(|k| b'!' + k as u8)
+}
+
+#[test]
+fn a_sheet_has_the_bytes_that_it_needs() {
+    for letters in [0, 1, 66, 67, 132, 133, u16::MAX] {
+        let size = limits::sheet_size(limits::reading_lines(letters.into()));
+        let mut sheet = vec![0; size];
+        let list = one_reading(letters);
+        let reply = lending::sheet_write(&list, &faces(), 1, &mut sheet);
+        assert_eq!(reply.done(), Ok(size));
+        let reply = lending::sheet_write(&list, &faces(), 1, &mut sheet[1..]);
+        assert_eq!(reply.done(), Err(Refusal::DestinationShort));
+        let reply = lending::sheet_write(&list, &[b'x'; limits::FACES], 1, &mut sheet[1..]);
+        assert_eq!(reply.done(), Err(Refusal::SheetFault));
+    }
+}
+
+/// All five calls, on the largest chain and the longest reading of a sheet.
 fn all_calls() {
     let (table, word) = (chain(256), [1; 64]);
     let mut text = vec![0; limits::TEXT_BYTES];
@@ -112,6 +139,9 @@ fn all_calls() {
     assert_eq!(cells[..length.expect("a text's table")], table);
     let (answer, _) = first_call(&cells, &word, limits::stack_frames(64, 256), 16_639);
     assert!(matches!(answer, Answer::Found { length: 16_639, .. }));
+    let mut sheet = vec![0; limits::sheet_size(993)];
+    let written = lending::sheet_write(&one_reading(u16::MAX), &faces(), 0, &mut sheet).done();
+    assert_eq!(written, Ok(sheet.len()));
 }
 
 #[test]

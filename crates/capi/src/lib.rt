@@ -1,5 +1,6 @@
-// The C interface of include/readings.h: the calls of `table` and `engine`, each answer as a struct of numbers.
+// The C interface of include/readings.h: the calls of `table`, `engine` and `sheet`, each answer as a struct of numbers.
 pub mod calls;
+pub mod sheets;
 pub mod starts;
 pub mod tables;
 

@@ -1,6 +1,6 @@
 // A table's text, read and written.
 use capi_numbers::Reply;
-use capi_numbers::table_numbers;
+use capi_numbers::stored_numbers;
 ghost use mathlib.Core.Path.{_≡_};
 ghost use Rattle.table.specs.Calls.{readAnswer, readCells, writeAnswer, writeText};
 ghost use Rattle.destination.specs.Told.{storedTold};
@@ -13,7 +13,7 @@ pub extern "C" fn rd_table_read(text: &[u8], table: &mut [u16]) -> Reply
         × (now (table .exit) ≡ readCells (now (text .entry)) (now (table .entry))) ⌝ }
 {
     let answer = table::reader::read(text, table);
-    table_numbers(answer)
+    stored_numbers(answer)
 }
 
 // Writes the text of a table's cells. The length told is the number of bytes; a refusal leaves all bytes as they were.
@@ -23,5 +23,5 @@ pub extern "C" fn rd_table_write(table: &[u16], text: &mut [u8]) -> Reply
         × (now (text .exit) ≡ writeText (now (table .entry)) (now (text .entry))) ⌝ }
 {
     let answer = table::writer::write(table, text);
-    table_numbers(answer)
+    stored_numbers(answer)
 }

@@ -66,8 +66,8 @@ pub fn answer_numbers(answer: machine::Answer) -> Reply
     }
 }
 
-// Of the reader and the writer, whose counts fit.
-pub fn table_numbers(answer: destination::Answer) -> Reply
+// Of the calls with a destination, whose counts fit.
+pub fn stored_numbers(answer: destination::Answer) -> Reply
     requires { ⌜ ((count : ℕ) → answer ≡ Done count → count < 2 ^ 32) ⌝ }
     ensures { λ r. ⌜ replyTold r ≡ storedTold answer ⌝ }
 {

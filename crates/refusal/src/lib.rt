@@ -1,8 +1,8 @@
-// Every refusal of document 01, and its number.
+// Every refusal of documents 01 and 02, and its number.
 ghost use mathlib.Core.Path.{_≡_};
 ghost use Rattle.refusal.specs.Refusal.{inputNumber, stateNumber, numberOf};
 
-// Why an input is turned down, document 01's 1 to 12.
+// Why an input is turned down: document 01's 1 to 12, and document 02's 33.
 pub enum InputCause {
     Malformed,
     Misplaced,
@@ -16,6 +16,7 @@ pub enum InputCause {
     WordFault,
     TaskFault,
     IdleCycle,
+    SheetFault,
 }
 
 // Why a state is turned down, document 01's 20 to 24.
@@ -48,6 +49,7 @@ fn input_number(cause: InputCause) -> u8
         InputCause::WordFault => 10,
         InputCause::TaskFault => 11,
         InputCause::IdleCycle => 12,
+        InputCause::SheetFault => 33,
     }
 }
 
@@ -63,7 +65,7 @@ fn state_number(cause: StateCause) -> u8
     }
 }
 
-// Document 01's number of a refusal.
+// The number of a refusal.
 pub fn number(refusal: Refusal) -> u8
     ensures { λ r. ⌜ r ≡ numberOf refusal ⌝ }
 {

@@ -30,7 +30,7 @@ module _ {A : Type 0} (same : A → A → Bool) where
         let z : _≡_ {A = ℕ} 0 1 = cc in
         omega arith
 
-    each-differ : (xs : List A) → each test [] xs ≡ true → Differ xs
+    pub each-differ : (xs : List A) → each test [] xs ≡ true → Differ xs
     each-differ xs e d i j h k s = go (ltb i j) (ltb j i) refl refl
       where
         go : (a b : Bool) → ltb i j ≡ a → ltb j i ≡ b → i ≡ j
@@ -38,7 +38,7 @@ module _ {A : Type 0} (same : A → A → Bool) where
         go false true p q = absurd (apart xs e d j i (ltb-true _ _ q) h (sym s))
         go false false p q = omega (arith, ltb-false i j p, ltb-false j i q)
 
-  differ-new : ((x y : A) → same x y ≡ true → x ≡ y) → (xs : List A) → Differ xs → (d : A) (k : ℕ) → k < length xs
+  pub differ-new : ((x y : A) → same x y ≡ true → x ≡ y) → (xs : List A) → Differ xs → (d : A) (k : ℕ) → k < length xs
       → any (λ y. same y (getD xs k d)) (take k xs) ≡ false
   differ-new law xs D d k h = any-none (λ y. same y (getD xs k d)) d (take k xs) (λ j g. go j g (same (getD (take k xs) j d) (getD xs k d)) refl)
     where

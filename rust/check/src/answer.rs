@@ -19,7 +19,7 @@ pub struct Answer {
     pub number: u32,
     /// The steps made in this call.
     pub steps: u32,
-    /// Cells of a table, bytes of a text, states of a cycle or letters of a reading.
+    /// Cells of a table, bytes of a text or a sheet, states of a cycle or letters of a reading.
     pub length: u32,
 }
 

@@ -1,6 +1,7 @@
-//! Random tables and words. Alphabets are small, so that words have many readings.
+//! Random tables and words. Alphabets are small, so that words have many readings. And random lists of readings with faces for a sheet.
 use crate::query;
 use crate::random::Random;
+use crate::sheet::Faces;
 use crate::table::{Arc, Table};
 
 /// The letter of ways into a corner, which no other arc has and few words have.
@@ -206,4 +207,33 @@ pub fn words(random: &mut Random, table: &Table, task: u32) -> (Vec<u8>, Vec<u8>
     upper.truncate(if reads_upper { 64 } else { 0 });
     lower.truncate(if reads_lower { 64 } else { 0 });
     (upper, lower)
+}
+
+/// Faces that keep the rules.
+pub fn faces(random: &mut Random) -> Faces {
+    let mut printable: Vec<u8> = (33..=126).collect();
+    random.shuffle(&mut printable);
+    std::array::from_fn(|k| printable[k])
+}
+
+/// The letters of a reading, about so many as fill lines.
+fn reading(random: &mut Random, longest: usize) -> Vec<u8> {
+    let length = match random.below(6) {
+        0 => 0,
+        1 => random.within(1, 9),
+        2 => *random.pick(&[65, 66, 67, 131, 132, 133]),
+        _ => random.below(longest + 1),
+    };
+    (0..length).map(|_| random.within(1, 63) as u8).collect()
+}
+
+/// A list of readings that keeps the rules: mostly few, or many short ones, or a long one.
+pub fn readings(random: &mut Random) -> Vec<Vec<u8>> {
+    let (count, longest) = match random.below(100) {
+        0 => (random.within(900, 1_000), 3),
+        1 => (random.within(1, 2), 65_535),
+        2..=9 => (random.within(90, 110), 9),
+        _ => (random.below(12), 200),
+    };
+    (0..count).map(|_| reading(random, longest)).collect()
 }

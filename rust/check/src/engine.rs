@@ -1,5 +1,6 @@
-//! What is compared: anything that starts searches and calls for readings, and anything that reads and writes tables.
+//! What is compared: anything that starts searches and calls for readings, that reads and writes tables, or that writes sheets.
 use crate::answer::{Answer, Run, Started};
+use readings::limits::FACES;
 
 /// What a start is handed, beside the run that it sets.
 #[derive(Clone, Copy, Debug)]
@@ -57,4 +58,20 @@ pub trait Engine {
 pub trait Texts {
     fn read(&self, text: &[u8], table: &mut [u16]) -> Answer;
     fn write(&self, table: &[u16], text: &mut [u8]) -> Answer;
+}
+
+/// What a sheet is written from.
+#[derive(Clone, Copy, Debug)]
+pub struct Sheet<'a> {
+    /// One after another, each as its length, two bytes with the high one first, and its letters.
+    pub readings: &'a [u8],
+    /// The characters of letters 1 to 63.
+    pub faces: &'a [u8; FACES],
+    /// 0 where the run may go on.
+    pub ended: u32,
+}
+
+/// Sheets of lent readings.
+pub trait Sheets {
+    fn sheet(&self, sheet: Sheet, destination: &mut [u8]) -> Answer;
 }

@@ -13,6 +13,7 @@ pub mod query;
 pub mod random;
 pub mod rules;
 pub mod session;
+pub mod sheet;
 pub mod table;
 pub mod text;
 pub mod tree;

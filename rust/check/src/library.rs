@@ -1,6 +1,6 @@
 //! The proved library, called through the package `readings`.
 use crate::answer::{Answer, Run, Started};
-use crate::engine::{Engine, Next, Start, Texts};
+use crate::engine::{Engine, Next, Sheet, Sheets, Start, Texts};
 use readings::lending;
 
 /// The proved library. It keeps nothing: all memory is lent by the caller.
@@ -33,5 +33,11 @@ impl Engine for Library {
             call.output,
         )
         .into()
+    }
+}
+
+impl Sheets for Library {
+    fn sheet(&self, sheet: Sheet, destination: &mut [u8]) -> Answer {
+        lending::sheet_write(sheet.readings, sheet.faces, sheet.ended, destination).into()
     }
 }

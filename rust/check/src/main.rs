@@ -1,8 +1,8 @@
 //! The benchmark: the proved library against its twin in Rust, over two lists of 50 words of 64 letters, each word run as a session
-//! runs it. Times mean something on a quiet machine only.
+//! runs it, and over two answer sheets. Times mean something on a quiet machine only.
 mod benchmark;
 
-use benchmark::{figures, lists, runs};
+use benchmark::{figures, lists, runs, sheets};
 use readings_check::library::Library;
 use readings_check::twin::{PLAIN, SOUND};
 use std::env;
@@ -22,5 +22,9 @@ fn main() {
         figures::show("Rust", &work, &times);
         let times = runs::measure(&Library, &PLAIN, &list, &work, repetitions);
         figures::show("plain Rust", &work, &times);
+    }
+    for load in sheets::loads() {
+        let times = sheets::measure(&Library, &SOUND, &load, repetitions);
+        figures::show_sheet(&load, &times);
     }
 }

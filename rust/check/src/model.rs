@@ -1,9 +1,10 @@
 //! What a start and a call must answer on anything that they are handed: the refusals in order, then the rule for one step.
 //! Plain and slow, on structs and vectors, after the specification's list of refusals and its rule for one step.
 use crate::answer::{Answer, Run, Started};
-use crate::engine::{Engine, Next, Start, Texts};
+use crate::engine::{Engine, Next, Sheet, Sheets, Start, Texts};
 use crate::idle;
 use crate::query;
+use crate::sheet;
 use crate::table::{Arc, Table};
 use crate::text;
 use readings::limits::FRAME_CELLS;
@@ -286,5 +287,11 @@ impl Texts for Model {
 
     fn write(&self, table: &[u16], text: &mut [u8]) -> Answer {
         text::write(table, text)
+    }
+}
+
+impl Sheets for Model {
+    fn sheet(&self, sheet: Sheet, destination: &mut [u8]) -> Answer {
+        sheet::write(sheet, destination)
     }
 }

@@ -137,7 +137,7 @@ pub fn print(table: &Table) -> Vec<u8> {
 }
 
 /// What is to be written, to the front of a destination: 24 where it is too short.
-fn deliver<T: Copy>(all: &[T], destination: &mut [T]) -> Answer {
+pub fn deliver<T: Copy>(all: &[T], destination: &mut [T]) -> Answer {
     match destination.get_mut(..all.len()) {
         None => Answer::refused(24, 0),
         Some(front) => {

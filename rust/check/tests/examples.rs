@@ -4,6 +4,7 @@ mod common;
 use common::{from_root, program};
 use readings_check::model::Model;
 use readings_check::session::session;
+use readings_check::sheet;
 use readings_check::text;
 use readings_check::tree;
 use std::fs;
@@ -53,25 +54,44 @@ fn the_german_tables_are_letter_trees() {
     }
 }
 
-/// The header and the archive serve a C program: `cc` is the compiler that links these tests too.
-#[test]
-fn the_c_program_lists_the_readings() {
-    let list = Path::new(env!("CARGO_TARGET_TMPDIR")).join("list");
+/// What a C program under examples/ prints. The header and the archive serve it; `cc` is the compiler that links these tests too.
+fn c_program(name: &str) -> String {
+    let program = Path::new(env!("CARGO_TARGET_TMPDIR")).join(name);
     let compiled = Command::new("cc")
         .args(["-std=c99", "-Wall", "-Wextra", "-Wpedantic", "-Wconversion"])
         .args(["-Werror", "-I"])
         .arg(from_root("include"))
-        .arg(from_root("examples/list.c"))
+        .arg(from_root(&format!("examples/{name}.c")))
         .arg(from_root("target/staticlib/libcapi.a"))
         .arg("-o")
-        .arg(&list)
+        .arg(&program)
         .status()
         .expect("a C compiler");
     assert!(compiled.success());
-    let output = Command::new(list).output().expect("the program runs");
+    let output = Command::new(program).output().expect("the program runs");
     assert!(output.status.success());
-    assert_eq!(
-        String::from_utf8(output.stdout).expect("text"),
-        "01 02\n01 03 02\n"
-    );
+    String::from_utf8(output.stdout).expect("text")
+}
+
+#[test]
+fn the_c_program_lists_the_readings() {
+    assert_eq!(c_program("list"), "01 02\n01 03 02\n");
+}
+
+#[test]
+fn the_c_program_prints_the_sheet() {
+    let sheet = fs::read_to_string(from_root("examples/sheet.out")).expect("its output");
+    assert_eq!(c_program("sheet"), sheet);
+}
+
+/// A reading's length and letters stand in a session's line as they are lent for a sheet, after kind and ordinal.
+#[test]
+fn the_sheet_has_the_readings_of_the_session() {
+    let printed = fs::read(from_root("examples/german.out")).expect("an output");
+    let lines = text::lines(&printed).map(|line| text::line_bytes(line).expect("digits"));
+    let readings = lines.filter(|bytes| bytes[0] == 0x20);
+    let lent: Vec<u8> = readings.flat_map(|bytes| bytes[3..].to_vec()).collect();
+    let sheet = fs::read(from_root("examples/sheet.out")).expect("an output");
+    let (list, ended) = sheet::read(&sheet, sheet::SMALL_LETTERS).expect("a sheet");
+    assert_eq!((sheet::packed(&list), ended), (lent, true));
 }

@@ -1,7 +1,10 @@
-//! The largest tables, the deepest searches, and stacks at the limit of 33,024 frames.
+//! The largest tables, the deepest searches, stacks at the limit of 33,024 frames, and the largest sheet.
 use readings::limits::{FRAME_CELLS, MOST_FRAMES as MOST, TABLE_CELLS, TEXT_BYTES};
+use readings::limits::{MOST_READING, MOST_READINGS, SHEET_BYTES};
 use readings_check::answer::{Answer, FOUND, Run};
 use readings_check::compare::call::{self, Call};
+use readings_check::compare::page::Page;
+use readings_check::compare::sheets;
 use readings_check::compare::texts;
 use readings_check::library::Library;
 use readings_check::lister;
@@ -149,4 +152,14 @@ fn no_more_frames_are_used() {
     assert_eq!(answer, Answer::refused(21, 0));
     let answer = call::compare(&Library, &mut looping(MOST, MOST - 1)).unwrap();
     assert_eq!(answer, Answer::refused(21, 0));
+}
+
+#[test]
+fn the_largest_sheet() {
+    let page = Page::of_lengths([MOST_READING; MOST_READINGS]);
+    assert_eq!((page.size(), SHEET_BYTES), (72_489_146, 72_489_146));
+    for bytes in [SHEET_BYTES - 1, SHEET_BYTES, SHEET_BYTES + 1] {
+        let answer = sheets::compare(&Library, &page, bytes).unwrap();
+        assert_eq!(answer.is_refused(), bytes < SHEET_BYTES);
+    }
 }

@@ -2,7 +2,7 @@
 use readings::limits::FRAME_CELLS;
 use readings_check::answer::{Answer, DONE, ENDED, FOUND, PAUSED, Run, Started};
 use readings_check::compare::fixed;
-use readings_check::engine::{Engine, Next, Start};
+use readings_check::engine::{Engine, Next, Sheet, Sheets, Start};
 use readings_check::twin::SOUND;
 
 /// What a call leaves.
@@ -141,4 +141,68 @@ fn a_cycle_told_twice_over() {
         }
     };
     noticed(meddle, "cycle is [");
+}
+
+/// Sheets whose answer and destination are meddled with at the end of a call.
+struct Smudged(fn(&mut Answer, &mut [u8]));
+
+impl Sheets for Smudged {
+    fn sheet(&self, sheet: Sheet, destination: &mut [u8]) -> Answer {
+        let mut answer = SOUND.sheet(sheet, destination);
+        self.0(&mut answer, destination);
+        answer
+    }
+}
+
+fn noticed_in_sheets(smudge: fn(&mut Answer, &mut [u8]), said: &str) {
+    let difference = fixed::all_sheets(&Smudged(smudge)).expect_err("it is not noticed");
+    assert!(difference.contains(said), "noticed otherwise: {difference}");
+}
+
+#[test]
+fn the_last_byte_of_a_long_destination() {
+    let smudge = |answer: &mut Answer, bytes: &mut [u8]| {
+        if answer.kind == DONE && bytes.len() > answer.length as usize {
+            bytes[bytes.len() - 1] = b' ';
+        }
+    };
+    noticed_in_sheets(smudge, "sheet: cell 318 is 32, expected 238");
+}
+
+#[test]
+fn a_short_destination_cleared() {
+    let smudge = |answer: &mut Answer, bytes: &mut [u8]| {
+        if answer.number == 24 {
+            bytes.fill(b' ');
+        }
+    };
+    noticed_in_sheets(smudge, "sheet: cell 0 is 32, expected 238");
+}
+
+#[test]
+fn the_last_byte_for_a_list_that_is_refused() {
+    let smudge = |answer: &mut Answer, bytes: &mut [u8]| {
+        if answer.number == 33
+            && let Some(byte) = bytes.last_mut()
+        {
+            *byte = b'\n';
+        }
+    };
+    noticed_in_sheets(smudge, "is 10, expected 238");
+}
+
+#[test]
+fn a_length_told_for_a_short_destination() {
+    noticed_in_sheets(
+        |answer, _| answer.length += 219 * u32::from(answer.number == 24),
+        "answer is Answer { kind: 4, number: 24, steps: 0, length: 219 }",
+    );
+}
+
+#[test]
+fn lines_told_as_steps() {
+    noticed_in_sheets(
+        |answer, _| answer.steps = answer.length / 73,
+        "answer is Answer { kind: 0, number: 0, steps: 3, length: 219 }",
+    );
 }

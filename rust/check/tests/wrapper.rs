@@ -1,9 +1,13 @@
-//! The package `readings` against the lister: whole searches, and outputs that are too short; and the cycles that it shows.
+//! The package `readings` against the lister: whole searches, and outputs that are too short; the cycles that it shows; and its sheets
+//! against the layout.
 use readings::lending::{self, Run};
-use readings::{Answer, Refusal, Search, StartRefused, Table, Task, limits};
+use readings::{Answer, Faces, Refusal, Search, StartRefused, Table, Task, limits};
+use readings_check::compare::page::Page;
 use readings_check::draw;
+use readings_check::engine::Sheets;
 use readings_check::idle;
 use readings_check::lister;
+use readings_check::model::Model;
 use readings_check::random::Random;
 
 const TASKS: [Task; 3] = [Task::Recognition, Task::Synthesis, Task::Analysis];
@@ -116,4 +120,22 @@ fn a_refused_start_shows_its_cycle() {
         assert_eq!(told, expected, "on {drawn:?}");
     }
     assert!(refused > 1_000, "only {refused} cycles");
+}
+
+#[test]
+fn a_sheet_is_as_the_layout_has_it() {
+    for case in 0..2_000 {
+        let random = &mut Random::of_case(0x53EE7, case);
+        let page = Page {
+            faces: draw::faces(random),
+            ended: random.below(2) as u32,
+            ..Page::new(draw::readings(random))
+        };
+        let mut expected = vec![0; page.size()];
+        let answer = Model.sheet(page.sheet(&page.lent()), &mut expected);
+        assert!(!answer.is_refused(), "{answer:?} on {page:?}");
+        let faces = Faces::new(&page.faces).expect("faces that keep the rules");
+        let sheet = readings::sheet(&page.list, &faces, page.ended != 0);
+        assert_eq!(sheet.map(String::into_bytes), Ok(expected), "on {page:?}");
+    }
 }

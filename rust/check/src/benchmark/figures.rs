@@ -1,6 +1,7 @@
 //! Medians and spreads, printed.
 use super::lists::List;
 use super::runs::{Pair, Times, Work};
+use super::sheets::Load;
 use std::time::Duration;
 
 /// The least, the middle and the most of some numbers.
@@ -61,5 +62,19 @@ pub fn show(other: &str, work: &Work, times: &Times) {
         "    a start:        {}, ratio {}",
         sides(other, &times.starts, 1),
         ratio(&times.starts)
+    );
+}
+
+/// The times of a sheet against the twin, and how many megabytes of it are written in a second.
+pub fn show_sheet(load: &Load, pairs: &[Pair]) {
+    let megabytes = |side| load.bytes() as f64 * 1e3 / nanoseconds(pairs, side, 1);
+    println!();
+    println!("{}: a sheet of {} bytes", load.name, load.bytes());
+    println!("  ours / Rust: {}", ratio(pairs));
+    println!("    a sheet:        {}", sides("Rust", pairs, 1));
+    println!(
+        "    in a second:    ours {:.0} MB, Rust {:.0} MB",
+        megabytes(|p| p.ours),
+        megabytes(|p| p.rust)
     );
 }

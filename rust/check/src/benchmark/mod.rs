@@ -2,3 +2,4 @@
 pub mod figures;
 pub mod lists;
 pub mod runs;
+pub mod sheets;

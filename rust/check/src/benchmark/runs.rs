@@ -164,7 +164,7 @@ fn time_starts(engine: &impl Engine, list: &List) -> Duration {
 }
 
 /// A pair of timings, the one that comes first taking turns.
-fn in_turn(
+pub fn in_turn(
     turn: usize,
     mut ours: impl FnMut() -> Duration,
     mut rust: impl FnMut() -> Duration,

@@ -1,7 +1,7 @@
 //! The fixed series of cases that an engine is put to.
 use super::tally::Tally;
-use super::{damage, search, series, start};
-use crate::engine::Engine;
+use super::{damage, search, series, sheets, start};
+use crate::engine::{Engine, Sheets};
 
 /// Starts and lists of calls on one run.
 pub fn searches(engine: &impl Engine) -> Result<Tally, String> {
@@ -45,5 +45,20 @@ pub fn all(engine: &impl Engine) -> Result<(), String> {
     knots(engine)?;
     damaged(engine)?;
     arbitrary(engine)?;
+    Ok(())
+}
+
+/// Sheets of random lists, with and without faults.
+pub fn sheets(sheets: &impl Sheets) -> Result<Tally, String> {
+    series("sheets", 0x54EE7, 20_000, |random, tally| {
+        sheets::any(sheets, random, tally)
+    })
+}
+
+/// All sheets; nothing, or the first difference.
+pub fn all_sheets(sheets: &impl Sheets) -> Result<(), String> {
+    sheets::sizes(sheets)?;
+    sheets::faults(sheets)?;
+    self::sheets(sheets)?;
     Ok(())
 }

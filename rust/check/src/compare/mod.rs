@@ -1,11 +1,13 @@
 //! The comparison of an engine with the model and the lister, case by case. It takes any engine: the proved library, the twin, and
-//! twins with a fault.
+//! twins with a fault. Likewise for texts and for sheets.
 pub mod call;
 pub mod damage;
 pub mod fixed;
 pub mod loops;
+pub mod page;
 pub mod rival;
 pub mod search;
+pub mod sheets;
 pub mod start;
 pub mod tally;
 pub mod texts;
@@ -42,5 +44,15 @@ fn same<T: PartialEq + std::fmt::Debug>(name: &str, got: T, expected: T) -> Resu
         Ok(())
     } else {
         Err(format!("{name} is {got:?}, expected {expected:?}"))
+    }
+}
+
+/// A length about the one that is needed.
+fn about(random: &mut Random, need: usize) -> usize {
+    match random.below(6) {
+        0 => need.saturating_sub(1),
+        1 => need,
+        2 => random.below(need + 1),
+        _ => need + random.below(9),
     }
 }

@@ -1,6 +1,6 @@
 //! A table's text read and written: the answer and every cell of the destination.
-use super::same;
 use super::tally::Tally;
+use super::{about, same};
 use crate::answer::{Answer, DONE};
 use crate::draw;
 use crate::engine::Texts;
@@ -44,16 +44,6 @@ pub fn write(texts: &impl Texts, source: &[u16], bytes: usize) -> Result<Answer,
     };
     check().map_err(|difference| format!("{difference}, writing to {bytes} bytes {source:?}"))?;
     Ok(expected)
-}
-
-/// A length about the one that is needed.
-fn about(random: &mut Random, need: usize) -> usize {
-    match random.below(6) {
-        0 => need.saturating_sub(1),
-        1 => need,
-        2 => random.below(need + 1),
-        _ => need + random.below(9),
-    }
 }
 
 /// A random table written, and the text read back.

@@ -29,3 +29,36 @@ pub const AS_LISTED: u8 = 12;
 pub const BEGUN_ELSEWHERE: u8 = 13;
 /// Reached is what idle arcs lead to from the initial states.
 pub const IDLE_REACHED: u8 = 14;
+
+/// A sheet's lines have 73 characters.
+pub const LONG_LINES: u8 = 15;
+/// No blank follows an ordinal, and 67 letters stand on a line.
+pub const LONG_ROWS: u8 = 16;
+/// Ordinals are left-aligned.
+pub const LEFT_ALIGNED: u8 = 17;
+/// Ordinals are counted from 0.
+pub const FROM_NOUGHT: u8 = 18;
+/// The last word is `END` whatever the run did.
+pub const ALWAYS_ENDED: u8 = 19;
+/// A run counts as ended only where its number is 1.
+pub const ONE_ENDED: u8 = 20;
+/// A reading that fills its last line has an empty one after it.
+pub const EMPTY_ROW: u8 = 21;
+/// A reading's length has its low byte first.
+pub const LOW_FIRST: u8 = 22;
+/// Faces may repeat.
+pub const FACES_REPEAT: u8 = 23;
+/// A blank may be a face.
+pub const BLANK_FACE: u8 = 24;
+/// Of a reading that is cut short what is there is shown.
+pub const CUT_SHOWN: u8 = 25;
+/// One reading too many is shown.
+pub const ONE_MORE: u8 = 26;
+/// A reading's last letter is not looked at before it is shown.
+pub const LAST_LETTER: u8 = 27;
+/// The faces are looked at after the destination's length.
+pub const SHORT_FIRST: u8 = 28;
+/// Lines are written to a short destination as far as they go.
+pub const WRITTEN_EARLY: u8 = 29;
+/// A zero is put after the sheet, where the destination goes on.
+pub const ZERO_AFTER: u8 = 30;

@@ -7,10 +7,11 @@ mod place;
 mod reach;
 mod scan;
 mod search;
+mod sheet;
 mod shown;
 
 use crate::answer::{Answer, Run, Started};
-use crate::engine::{Engine, Next, Start};
+use crate::engine::{Engine, Next, Sheet, Sheets, Start};
 use check::View;
 use search::Search;
 
@@ -86,5 +87,12 @@ impl<const FAULT: u8, const VECTOR: bool> Engine for Twin<FAULT, VECTOR> {
             2 => Search::<true, false, FAULT>::new(&view, &call).call(call),
             _ => Search::<false, true, FAULT>::new(&view, &call).call(call),
         }
+    }
+}
+
+impl<const FAULT: u8, const VECTOR: bool> Sheets for Twin<FAULT, VECTOR> {
+    #[inline(never)]
+    fn sheet(&self, sheet: Sheet, destination: &mut [u8]) -> Answer {
+        sheet::write::<FAULT>(sheet, destination)
     }
 }

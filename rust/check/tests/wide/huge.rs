@@ -5,7 +5,8 @@ use crate::narrow::Cut::{self, Low};
 use crate::narrow::Part::*;
 use crate::{Checked, is, tells};
 use readings_check::answer::{Answer, Run};
-use readings_check::engine::{Engine, Next, Start, Texts};
+use readings_check::compare::page::Page;
+use readings_check::engine::{Engine, Next, Sheets, Start, Texts};
 use readings_check::text::K;
 use reserved::Reserved;
 
@@ -157,5 +158,23 @@ fn calls(engine: &Boundary) -> Checked {
 fn huge_calls() {
     for part in [NextTable, NextUpper, NextLower, NextStack, NextOutput] {
         tells(calls, part, CUTS);
+    }
+}
+
+/// A list of zeros is of empty readings, far too many here.
+fn sheets(boundary: &Boundary) -> Checked {
+    let page = Page::of_lengths([0]);
+    let list = Reserved::new(&[], HUGE);
+    let answer = boundary.sheet(page.sheet(&list), &mut [0; 219]);
+    is(answer, Answer::refused(33, 0))?;
+    let mut text = Reserved::new(&[], HUGE);
+    let answer = boundary.sheet(page.sheet(&page.lent()), &mut text);
+    is(answer, Answer::done(219))
+}
+
+#[test]
+fn huge_sheets() {
+    for part in [SheetReadings, SheetText] {
+        tells(sheets, part, CUTS);
     }
 }

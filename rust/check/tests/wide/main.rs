@@ -4,11 +4,14 @@
 //!
 //! Some cuts nobody can tell, for document 01 has no case that they would change: a destination or a loaded table taken for 4,612
 //! cells where it has more, a destination for 18,970 bytes, a stack for 132,096 cells (33,024 frames), an output for 33,023 letters, and
-//! a length that is told in 16 bits. Steps of more than 25 bits in one call are left out, since they would take long.
+//! a length that is told in 16 bits; and likewise with a sheet, a list taken for 65,537,001 bytes (1,000 readings of 65,535 letters and
+//! one byte), a destination for 72,489,146 bytes, and a length told in 27 bits. Steps of more than 25 bits in one call are left out,
+//! since they would take long.
 mod calls;
 mod huge;
 mod inputs;
 mod narrow;
+mod sheets;
 mod starts;
 mod texts;
 

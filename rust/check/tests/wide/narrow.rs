@@ -1,6 +1,6 @@
 //! The library behind a boundary that cuts one value of its calls: the faults that wide values are to show.
 use readings_check::answer::{Answer, Run, Started};
-use readings_check::engine::{Engine, Next, Start, Texts};
+use readings_check::engine::{Engine, Next, Sheet, Sheets, Start, Texts};
 use readings_check::library::Library;
 use std::borrow::Cow;
 
@@ -43,6 +43,11 @@ pub enum Part {
     LeftStarted,
     LeftDepth,
     LeftFrames,
+
+    SheetReadings,
+    SheetEnded,
+    SheetText,
+    SheetLength,
 }
 
 /// What becomes of a value.
@@ -195,6 +200,19 @@ impl Engine for Boundary {
         }
         *run = self.run(Part::NextRun, *run);
         self.frames(Part::LeftFrames, stack);
+        answer
+    }
+}
+
+impl Sheets for Boundary {
+    fn sheet(&self, sheet: Sheet, destination: &mut [u8]) -> Answer {
+        let narrow = Sheet {
+            readings: self.front(Part::SheetReadings, sheet.readings),
+            ended: self.number(Part::SheetEnded, sheet.ended),
+            ..sheet
+        };
+        let mut answer = Library.sheet(narrow, self.front_mut(Part::SheetText, destination));
+        answer.length = self.number(Part::SheetLength, answer.length);
         answer
     }
 }

@@ -10,8 +10,8 @@ use Rattle.capi.proofs.tables.rd_table_read.Tie as tie
 read-requires : tie.Need-read-requires
 read-requires c κs = search needs
 
-table-numbers-requires : tie.Need-table-numbers-requires
-table-numbers-requires c κs =
+stored-numbers-requires : tie.Need-stored-numbers-requires
+stored-numbers-requires c κs =
     let args = c .before .before .before .before .before .before .args in
     λ n e. read-small (now (args .text)) (now (args .table)) n (sym (stored-told-one _ _ (c .before .before .read .ensures .0)) ∙ e)
 
@@ -19,7 +19,7 @@ same-length : tie.Need-same-length
 same-length c = search needs
 
 returns : tie.Need-returns
-returns c = let read = c .before .before .before .read .ensures in (c .table-numbers .ensures ∙ read .0, read .1)
+returns c = let read = c .before .before .before .read .ensures in (c .stored-numbers .ensures ∙ read .0, read .1)
 
 pub rd-table-read-spec : {M : Type 1} → statement M
-rd-table-read-spec = tie.close (tie.spec read-requires table-numbers-requires same-length returns)
+rd-table-read-spec = tie.close (tie.spec read-requires stored-numbers-requires same-length returns)

@@ -3,8 +3,8 @@ use native.Mathlib.Omega.{arith}
 use mathlib.Core.Path.{sym, ap, _∙_}
 use borrow.Author.Needs.{needs}
 use Rattle.destination.specs.Told.{storedTold}
-use Rattle.capi_numbers.proofs.table_numbers.Statement.{statement}
-use Rattle.capi_numbers.proofs.table_numbers.Tie as tie
+use Rattle.capi_numbers.proofs.stored_numbers.Statement.{statement}
+use Rattle.capi_numbers.proofs.stored_numbers.Tie as tie
 
 enum-known-answer : tie.Need-enum-known-answer
 enum-known-answer c = search needs
@@ -27,8 +27,8 @@ returns c = c .answered .ensures ∙ sym (ap storedTold (c .before .before .answ
 returns-2 : tie.Need-returns-2
 returns-2 c = c .refused .ensures ∙ sym (ap storedTold (c .before .before .answer2 .given .1))
 
-pub table-numbers-spec : {M : Type 1} → statement M
-table-numbers-spec =
+pub stored-numbers-spec : {M : Type 1} → statement M
+stored-numbers-spec =
     tie.close
     (tie.spec
     enum-known-answer
