@@ -9,6 +9,7 @@ use Rattle.sheet.specs.declared.LastWord.the-variants.{End, More, Neithe
 use Rattle.sheet_lines.specs.Lines.{lineSize, filled}
 use Rattle.sheet.specs.Sheet.{openingWord, lastWord}
 
+-- whether two texts are the same, character by character
 abbrev pub same : List ℕ → List ℕ → Bool
 same [] [] = true
 same [] (y ∷ ys) = false
