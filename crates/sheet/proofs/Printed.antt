@@ -1,5 +1,5 @@
 -- The 72 characters of every line are blanks or printable, 32 to 126: the only line feeds are those at the lines' ends.
-use Prim.Native.Nat.{ℕ, zero, suc, _+_, _-_, _/_, _%_, _<_, _≤_}
+use Prim.Native.Nat.{ℕ, suc, _+_, _-_, _/_, _%_, _<_, _≤_}
 use native.Mathlib.Omega.{arith}
 use mathlib.Core.Path.{_≡_, refl, sym, ap, subst, _∙_}
 use mathlib.Core.Bool.{Bool, true, false, cond}
@@ -16,7 +16,7 @@ use Rattle.faces.proofs.Faces.{face-printable}
 use Rattle.sheet_lines.specs.Lines.{columns, leadColumns, rowLetters, filled, digitAt, ordinalColumns, rowsOf, firstLine, nextLine, readingLines}
 use Rattle.sheet_lines.specs.Laid.{IsLine}
 use Rattle.sheet.specs.Sheet.{openingWord, lastWord, listLines, sheetLines}
-use Rattle.sheet_lines.proofs.Lists.{take-most, all-take, all-drop}
+use Rattle.sheet_lines.proofs.Lists.{all-replicate, take-most, all-take, all-drop}
 use Rattle.sheet_lines.proofs.Lines.{Row, rows-short, rows-all}
 use Rattle.faces.proofs.Facts.{readings-are}
 
@@ -27,8 +27,7 @@ abbrev pub Printed : List ℕ → Type 0
 Printed l = All Printable (take columns l)
 
 blanks-printable : (n : ℕ) → All Printable (replicate n 32)
-blanks-printable zero = tt
-blanks-printable (suc n) = (omega arith, blanks-printable n)
+blanks-printable n = all-replicate Printable n 32 (omega arith)
 
 filled-printed : (cs : List ℕ) → length cs ≤ columns → All Printable cs → Printed (filled cs)
 unfolding filled

@@ -45,6 +45,7 @@ pub rows-joined : (cs : List ℕ) → joined (rowsOf cs) ≡ cs
 unfolding rowsOf
 rows-joined cs = cut-joined ((length cs + (rowLetters - 1)) / rowLetters) cs (omega arith)
 
+-- pieces of one length, joined
 module _ (P : List ℕ → Type 0) (k : ℕ) (size : (l : List ℕ) → P l → length l ≡ k) where
   pub pieces-length : (ls : List (List ℕ)) → All P ls → length (joined ls) ≡ k * length ls
   pieces-length [] h = omega arith
