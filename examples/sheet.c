@@ -1,4 +1,4 @@
-/* The answer sheet of Staubecken: how the word can be cut into stau, staub, becken, ecken, wach, wachs, stube and tube.
+/* The answer sheet of Staubecken: how the word can be cut into becken, ecken, stau, staub, stube, tube, wach and wachs.
  *
  * From the repository's root:
  *
@@ -11,29 +11,27 @@
 
 #include <stdio.h>
 
-/* The letter tree of the eight words, as in examples/german.txt: 29 states, 36 arcs. The last arc of a word reads nothing, writes 63 and
- * goes back to state 0. */
-static const char text[] =
-    "01001D000100080024\n"
-    "020000\n"
-    "030006\n03000B\n03000F\n030010\n030013\n030017\n03001B\n03001C\n"
-    "04000002020001\n04000005050007\n0400001313000C\n04000014140014\n04000017170018\n"
-    "04000105050002\n04000203030003\n0400030B0B0004\n04000405050005\n0400050E0E0006\n040006003F0000\n"
-    "04000703030008\n0400080B0B0009\n0400090505000A\n04000A0E0E000B\n04000B003F0000\n"
-    "04000C1414000D\n04000D0101000E\n04000D15150011\n04000E1515000F\n04000F02020010\n04000F003F0000\n040010003F0000\n"
-    "04001102020012\n04001205050013\n040013003F0000\n"
-    "04001415150015\n04001502020016\n04001605050017\n040017003F0000\n"
-    "04001801010019\n0400190303001A\n04001A0808001B\n04001B1313001C\n04001B003F0000\n04001C003F0000\n"
-    "05002E\n";
+/* The list in dictionary order, each word as its length and its letters: a is 1, z is 26. */
+static const uint8_t words[] = {
+    6, 2,  5,  3,  11, 5, 14, /* becken */
+    5, 5,  3,  11, 5,  14,    /* ecken */
+    4, 19, 20, 1,  21,        /* stau */
+    5, 19, 20, 1,  21, 2,     /* staub */
+    5, 19, 20, 21, 2,  5,     /* stube */
+    4, 20, 21, 2,  5,         /* tube */
+    4, 23, 1,  3,  8,         /* wach */
+    5, 23, 1,  3,  8,  19,    /* wachs */
+};
 
 /* Letters 1 to 26 are shown as a to z, 63 as a bar; the others are not used here. */
 static const char faces[] = "abcdefghijklmnopqrstuvwxyzABCDEFGHIJKLMNOPQRSTUVWXYZ0123456789|";
 
-enum { STATES = 29, LETTERS = 10, LONGEST = RD_OUTPUT_LETTERS(LETTERS, STATES) /* letters of a reading */ };
+/* States of the words' table, letters of the word and of a reading. */
+enum { STATES = 29, LETTERS = 10, LONGEST = RD_OUTPUT_LETTERS(LETTERS, STATES) };
 
 static const uint8_t upper[LETTERS] = {19, 20, 1, 21, 2, 5, 3, 11, 5, 14}; /* staubecken */
 
-static uint16_t table[RD_TABLE_CELLS];
+static uint16_t table[RD_TREE_CELLS];
 static uint32_t stack[RD_STACK_CELLS(LETTERS, STATES)];
 
 /* Room for every list of 1,000 readings, and for its sheet. */
@@ -69,8 +67,8 @@ int main(void) {
     rd_run run;
     size_t n;
 
-    rd_answer read = rd_table_read((const uint8_t *)text, sizeof text - 1, table, RD_TABLE_CELLS);
-    if (read.kind == RD_REFUSED) return refused("rd_table_read", read);
+    rd_answer read = rd_words_read(words, sizeof words, table, RD_TREE_CELLS);
+    if (read.kind == RD_REFUSED) return refused("rd_words_read", read);
 
     rd_answer start = rd_start(table, read.length, RD_SYNTHESIS, upper, LETTERS, RD_NO_LETTERS, 0, &run).answer;
     if (start.kind == RD_REFUSED) return refused("rd_start", start);

@@ -23,8 +23,8 @@
 #include <stdint.h>
 
 /* The version of this interface, as text and as 10,000 x major + 100 x minor + patch. */
-#define RD_VERSION "0.2.0"
-#define RD_VERSION_NUMBER 200
+#define RD_VERSION "0.3.0"
+#define RD_VERSION_NUMBER 300
 
 /* Limits. */
 #define RD_MOST_STATES 256   /* states of a table */
@@ -38,6 +38,11 @@
 #define RD_TEXT_BYTES 18970  /* bytes that hold the text of every table */
 #define RD_FRAME_CELLS 4     /* cells of a frame: state, next arc, letters passed on the upper and on the lower side */
 #define RD_CYCLE_STATES 256  /* states of the longest cycle that is told */
+
+/* Limits of a word list. */
+#define RD_MOST_LISTED_LETTER 62 /* the highest letter of a listed word; the lowest is 1 */
+#define RD_CUT 63                /* the letter that a reading has between two words */
+#define RD_TREE_CELLS 2300       /* cells that hold the table of every list */
 
 /* Limits of an answer sheet. */
 #define RD_FACES 63             /* faces: characters for letters 1 to 63 */
@@ -59,7 +64,7 @@
 #define RD_READING_LINES(letters) ((letters) == 0 ? 1 : ((letters) + RD_ROW_LETTERS - 1) / RD_ROW_LETTERS)
 #define RD_SHEET_SIZE(lines) (RD_SHEET_LINE * ((lines) + 2))
 
-/* A word of length 0, for the side that a task does not read, and a list of no readings: a pointer that is not null. */
+/* A word of length 0, for the side that a task does not read, and a list of no words or no readings: a pointer that is not null. */
 #ifdef __cplusplus
 #define RD_NO_LETTERS (reinterpret_cast<const uint8_t *>(""))
 #else
@@ -72,7 +77,7 @@ extern "C" {
 
 /* The kinds of an answer. */
 enum rd_kind {
-    RD_DONE = 0,   /* rd_table_read, rd_table_write, rd_start, rd_sheet_write: it was done */
+    RD_DONE = 0,   /* rd_table_read, rd_words_read, rd_table_write, rd_start, rd_sheet_write: it was done */
     RD_FOUND = 1,  /* rd_next: a reading stands at the front of the output */
     RD_PAUSED = 2, /* rd_next: the allowance is used; call again to go on */
     RD_ENDED = 3,  /* rd_next: there are no more readings */
@@ -86,8 +91,9 @@ enum rd_task {
     RD_ANALYSIS = 3     /* reads the lower word; a reading is an upper word */
 };
 
-/* Why a call is refused. In what order: a text: its first bad line, in it the lowest number, then 24; rd_table_write: 20, 24;
- * rd_start: 20, 11, 10, 12; rd_next: 20, 11, 10, 21, then in a step 22, 23; rd_sheet_write: 33, 24. */
+/* Why a call is refused. In what order: a text: its first bad line, in it the lowest number, then 24; a word list: the first word that
+ * has 30, 31 or 32, of it the lowest number, then 24; rd_table_write: 20, 24; rd_start: 20, 11, 10, 12; rd_next: 20, 11, 10, 21, then
+ * in a step 22, 23; rd_sheet_write: 33, 24. */
 enum rd_refusal {
     RD_REFUSAL_MALFORMED = 1,          /* a line is empty, has an odd count of digits, another character than 0-9, A-F,
                                           or lacks its line feed */
@@ -110,6 +116,9 @@ enum rd_refusal {
     RD_REFUSAL_STACK_FULL = 22,        /* the stack is full; rd_next says how to go on */
     RD_REFUSAL_OUTPUT_FULL = 23,       /* the output is too short for the reading; rd_next says how to go on */
     RD_REFUSAL_DESTINATION_SHORT = 24, /* a destination is too short for what is to be written to it */
+    RD_REFUSAL_LISTED_WORD = 30,       /* a listed word has no letter or over 64, has a letter 0 or over 62, or is cut short */
+    RD_REFUSAL_WORD_ORDER = 31,        /* a listed word is not after the one before it in dictionary order */
+    RD_REFUSAL_STATE_LIMIT = 32,       /* with this word the list's table has over 256 states */
     RD_REFUSAL_SHEET_FAULT = 33        /* two faces are equal or one is not 33 to 126; or there are over 1,000 readings, one is
                                           cut short, or one has a letter 0 or over 63 */
 };
@@ -143,6 +152,20 @@ typedef struct {
  * terminal states and arcs; from RD_INITIALS_AT on the initial states, then the terminal states; then RD_ARC_CELLS cells an arc. length:
  * cells of the table. Refusals: 1 to 9, 24. */
 rd_answer rd_table_read(const uint8_t *text, size_t n, uint16_t *table, size_t m);
+
+/* Reads a list of words of n bytes into the cells of its letter tree's table, which are as rd_table_read has them. A word stands as its
+ * length, one byte, and its letters: 1 to RD_MOST_WORD letters of 1 to RD_MOST_LISTED_LETTER. The words rise in dictionary order: they
+ * are compared letter by letter, and a word is before those that go on from it.
+ *
+ * The table has one state for each beginning of a listed word, numbered in dictionary order. State 0, the root, is the empty beginning and
+ * the initial state; listed words are terminal. An arc to a beginning that is one letter longer reads and writes that letter, and these
+ * arcs rise by it; a terminal state has a last arc that reads nothing, writes RD_CUT and goes back to the root. A list of no bytes gives
+ * the root alone.
+ *
+ * In RD_SYNTHESIS over this table, the readings of a word of one or more letters are all the ways to cut it into listed words, with
+ * RD_CUT between two of them, each way once; where two ways part, the one with the longer word is first. A word of no letters has no
+ * reading. RD_TREE_CELLS cells are enough for every list. length: cells of the table. Refusals: 30, 31, 32, 24. */
+rd_answer rd_words_read(const uint8_t *words, size_t n, uint16_t *table, size_t m);
 
 /* Writes the text of a loaded table of n cells; here and in the calls below, cells beyond the table's own are not looked at. length:
  * bytes of the text. Refusals: 20, 24. */
@@ -194,6 +217,10 @@ rd_answer rd_sheet_write(const uint8_t *readings, size_t n, const uint8_t *faces
  *         if (a.kind == RD_REFUSED) return a.number;
  *         if (a.kind == RD_FOUND) show(output, a.length);
  *     } while (a.kind != RD_ENDED);
+ *
+ * The same with the table of a word list of n bytes, where the readings are the cuts of the word (examples/cuts.c is this as a program):
+ *
+ *     rd_answer t = rd_words_read(words, n, table, RD_TABLE_CELLS);
  *
  * A sheet of the readings found, where a list of n bytes has them and a is the last answer (examples/sheet.c is this as a program):
  *

@@ -1,4 +1,4 @@
-//! The five calls of the C interface on memory that the caller lends: plain slices and plain integers in, numbers out.
+//! The six calls of the C interface on memory that the caller lends: plain slices and plain integers in, numbers out.
 //! `include/readings.h` says what each does, and what to do after refusals 22 and 23.
 //!
 //! ```
@@ -89,8 +89,8 @@ impl Reply {
         is_refused.then(|| Refusal::of(self.number).expect("a refusal's number"))
     }
 
-    /// The answer of [`table_read`], [`table_write`] or [`sheet_write`]: how many cells or bytes were written. Panics on a reply of
-    /// [`next`] that was not refused.
+    /// The answer of [`table_read`], [`words_read`], [`table_write`] or [`sheet_write`]: how many cells or bytes were written. Panics
+    /// on a reply of [`next`] that was not refused.
     pub fn done(self) -> Result<usize, Refusal> {
         match self.kind {
             kind::DONE => Ok(self.length as usize),
@@ -137,6 +137,8 @@ mod raw {
     unsafe extern "C" {
         pub fn rd_table_read(text: *const u8, n: usize, table: *mut u16, m: usize) -> Reply;
 
+        pub fn rd_words_read(words: *const u8, n: usize, table: *mut u16, m: usize) -> Reply;
+
         pub fn rd_table_write(table: *const u16, n: usize, text: *mut u8, m: usize) -> Reply;
 
         pub fn rd_start(
@@ -180,6 +182,25 @@ mod raw {
 pub fn table_read(text: &[u8], table: &mut [u16]) -> Reply {
     // SAFETY: each pointer is of a slice that lives through the call, with its length; what is written is borrowed alone.
     unsafe { raw::rd_table_read(text.as_ptr(), text.len(), table.as_mut_ptr(), table.len()) }
+}
+
+/// Reads a list of words, each as a length byte and its letters, into the cells of its letter tree's table.
+/// [`TREE_CELLS`](crate::limits::TREE_CELLS) cells are enough for every list. The first word that is refused decides (30, 31, 32), then
+/// the destination (24).
+///
+/// ```
+/// use readings::{Refusal, lending, limits};
+///
+/// let mut table = [0; limits::TREE_CELLS];
+/// let cells = lending::words_read(&[1, 5, 2, 5, 9], &mut table).done()?; // the words 05 and 05 09
+/// assert_eq!(cells, limits::table_cells(1, 2, 4));
+/// let refused = lending::words_read(&[2, 5, 9, 1, 5], &mut table).done();
+/// assert_eq!(refused, Err(Refusal::WordOrder));
+/// # Ok::<(), Refusal>(())
+/// ```
+pub fn words_read(words: &[u8], table: &mut [u16]) -> Reply {
+    // SAFETY: as in `table_read`.
+    unsafe { raw::rd_words_read(words.as_ptr(), words.len(), table.as_mut_ptr(), table.len()) }
 }
 
 /// Writes the text of a loaded table.

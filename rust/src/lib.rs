@@ -23,7 +23,7 @@
 //! # Ok::<(), Box<dyn std::error::Error>>(())
 //! ```
 //!
-//! [`sheet`] lays readings out for a person to read.
+//! [`Table::from_words`] makes the table that cuts words into listed words; [`sheet`] lays readings out for a person to read.
 //!
 //! [`Table`] and [`Search`] own their memory; the calls of [`lending`] work on memory that the caller lends, and allocate nothing.
 //! No call keeps anything, so searches may run on several threads and share a table.

@@ -22,6 +22,12 @@ pub const TEXT_BYTES: usize = 18_970;
 pub const FRAME_CELLS: usize = 4;
 /// States of the longest cycle that is told.
 pub const CYCLE_STATES: usize = 256;
+/// The highest letter of a listed word; the lowest is 1.
+pub const MOST_LISTED_LETTER: u8 = 62;
+/// The letter that a reading over the table of a word list has between two words.
+pub const CUT: u8 = 63;
+/// Cells that hold the table of every word list: every state but the root is a word's end and has an arc to it and one back.
+pub const TREE_CELLS: usize = table_cells(1, MOST_STATES - 1, 2 * (MOST_STATES - 1));
 /// Faces of a sheet: characters for letters 1 to 63.
 pub const FACES: usize = 63;
 /// Readings of a sheet.

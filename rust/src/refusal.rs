@@ -53,6 +53,9 @@ refusals! {
     StackFull = 22: "the stack is full; the same run goes on with a longer one that begins with the same used frames"
     OutputFull = 23: "the output is too short for the reading; the same run goes on with a longer one"
     DestinationShort = 24: "a destination is too short for what is to be written to it"
+    ListedWord = 30: "a listed word has no letter or over 64, has a letter 0 or over 62, or is cut short"
+    WordOrder = 31: "a listed word is not after the one before it in dictionary order"
+    StateLimit = 32: "with this word the list's table has over 256 states"
     SheetFault = 33: "two faces are equal or one is not 33 to 126; or there are over 1,000 readings, one is cut short, or one has a letter 0 or over 63"
 }
 

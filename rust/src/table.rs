@@ -1,6 +1,6 @@
 //! Tables that keep the rules.
 use crate::lending;
-use crate::limits::{TABLE_CELLS, TEXT_BYTES, table_cells};
+use crate::limits::{MOST_STATES, TABLE_CELLS, TEXT_BYTES, TREE_CELLS, table_cells};
 use crate::{Refusal, Search, StartRefused, Task};
 
 /// A loaded table, which keeps the rules.
@@ -14,6 +14,47 @@ impl Table {
     pub fn read(text: impl AsRef<[u8]>) -> Result<Table, Refusal> {
         let mut cells = vec![0; TABLE_CELLS];
         let length = lending::table_read(text.as_ref(), &mut cells).done()?;
+        cells.truncate(length);
+        Ok(Table { cells })
+    }
+
+    /// The table of the letter tree of some words. Its synthesis cuts a word of one or more letters into listed words in all ways, each
+    /// once, with [`CUT`](crate::limits::CUT) between two words; where two ways part, the one with the longer word comes first.
+    ///
+    /// ```
+    /// use readings::Table;
+    ///
+    /// let letters = |word: &str| word.bytes().map(|c| c - b'a' + 1).collect::<Vec<u8>>();
+    /// let shown = |letter: &u8| match letter {
+    ///     63 => '|',
+    ///     _ => char::from(b'a' - 1 + letter),
+    /// };
+    ///
+    /// let words = ["becken", "ecken", "stau", "staub", "stube", "tube", "wach", "wachs"];
+    /// let table = Table::from_words(words.map(letters))?;
+    /// let staubecken = table.synthesis(&letters("staubecken"))?;
+    /// let cuts: Vec<String> = staubecken.map(|cut| cut.iter().map(shown).collect()).collect();
+    /// assert_eq!(cuts, ["staub|ecken", "stau|becken"]);
+    /// # Ok::<(), Box<dyn std::error::Error>>(())
+    /// ```
+    ///
+    /// The words stand in rising dictionary order, else they are refused with [`Refusal::WordOrder`]. A word has 1 to
+    /// [`MOST_WORD`](crate::limits::MOST_WORD) letters of 1 to [`MOST_LISTED_LETTER`](crate::limits::MOST_LISTED_LETTER), else it is
+    /// refused with [`Refusal::ListedWord`]. [`Refusal::StateLimit`] says that they have over [`MOST_STATES`] beginnings together, the
+    /// empty one among them. The first word that is refused decides. No words make a table of one state that accepts nothing.
+    ///
+    /// One word more than a table can hold is taken at most, since the refusal is then sure.
+    pub fn from_words(words: impl IntoIterator<Item = impl AsRef<[u8]>>) -> Result<Table, Refusal> {
+        let mut lent = Vec::new();
+        for word in words.into_iter().take(MOST_STATES) {
+            let letters = word.as_ref();
+            // A word that is too long for a length byte is still too long when it is cut to 255 letters.
+            let length = u8::try_from(letters.len()).unwrap_or(u8::MAX);
+            lent.push(length);
+            lent.extend(&letters[..length.into()]);
+        }
+        let mut cells = vec![0; TREE_CELLS];
+        let length = lending::words_read(&lent, &mut cells).done()?;
         cells.truncate(length);
         Ok(Table { cells })
     }

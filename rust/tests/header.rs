@@ -135,6 +135,20 @@ fn limits_and_sizes() {
 }
 
 #[test]
+fn limits_of_a_word_list() {
+    let ends = limits::MOST_STATES - 1; // every state but the root
+    let limits = [
+        ("RD_MOST_LISTED_LETTER", limits::MOST_LISTED_LETTER.into()),
+        ("RD_CUT", limits::CUT.into()),
+        ("RD_CUT", usize::from(limits::MOST_LISTED_LETTER) + 1),
+        ("RD_CUT", limits::MOST_LETTER.into()),
+        ("RD_TREE_CELLS", limits::TREE_CELLS),
+        ("RD_TREE_CELLS", 4 + 1 + ends + 4 * (ends + ends)),
+    ];
+    check("list.c", &named(&limits)).unwrap();
+}
+
+#[test]
 fn limits_and_sizes_of_a_sheet() {
     let most = limits::MOST_READINGS * limits::reading_lines(limits::MOST_READING);
     assert_eq!(limits::SHEET_BYTES, limits::sheet_size(most));
@@ -193,6 +207,7 @@ fn calls() {
     let table_write = "rd_answer (*w)(const uint16_t *, size_t, uint8_t *, size_t)";
     let types = format!(
         "rd_answer (*r)(const uint8_t *, size_t, uint16_t *, size_t) = rd_table_read;
+         rd_answer (*l)(const uint8_t *, size_t, uint16_t *, size_t) = rd_words_read;
          {table_write} = rd_table_write;
          rd_started (*s)(const uint16_t *, size_t, uint32_t, const uint8_t *, size_t, const uint8_t *, size_t,
                          rd_run *) = rd_start;

@@ -128,7 +128,36 @@ fn a_sheet_has_the_bytes_that_it_needs() {
     }
 }
 
-/// All five calls, on the largest chain and the longest reading of a sheet.
+/// The list with the largest table: words of one and of two letters, as many as there are states but the root.
+fn most_words() -> Vec<u8> {
+    let words = (1..=5).flat_map(|first| {
+        let longer = (1..=limits::MOST_LISTED_LETTER).map(move |next| vec![2, first, next]);
+        std::iter::once(vec![1, first]).chain(longer)
+    });
+    words.take(limits::MOST_STATES - 1).flatten().collect()
+}
+
+#[test]
+fn a_list_has_the_cells_that_it_needs() {
+    let list = most_words();
+    for (words, size) in [
+        (&[][..], limits::table_cells(1, 0, 0)),
+        (&[1, 9], limits::table_cells(1, 1, 2)),
+        (&[1, 9, 3, 9, 9, 9], limits::table_cells(1, 2, 5)),
+        (&list, limits::TREE_CELLS),
+    ] {
+        let mut table = vec![0; size];
+        assert_eq!(lending::words_read(words, &mut table).done(), Ok(size));
+        assert_eq!(table[0], table[3] - table[2] + 1); // a tree
+        let reply = lending::words_read(words, &mut table[1..]);
+        assert_eq!(reply.done(), Err(Refusal::DestinationShort));
+        let bad = [words, &[0]].concat(); // a word of no letters
+        let reply = lending::words_read(&bad, &mut table[1..]);
+        assert_eq!(reply.done(), Err(Refusal::ListedWord));
+    }
+}
+
+/// All six calls, on the largest chain, the list with the largest table and the longest reading of a sheet.
 fn all_calls() {
     let (table, word) = (chain(256), [1; 64]);
     let mut text = vec![0; limits::TEXT_BYTES];
@@ -139,6 +168,8 @@ fn all_calls() {
     assert_eq!(cells[..length.expect("a text's table")], table);
     let (answer, _) = first_call(&cells, &word, limits::stack_frames(64, 256), 16_639);
     assert!(matches!(answer, Answer::Found { length: 16_639, .. }));
+    let length = lending::words_read(&most_words(), &mut cells).done();
+    assert_eq!(length, Ok(limits::TREE_CELLS));
     let mut sheet = vec![0; limits::sheet_size(993)];
     let written = lending::sheet_write(&one_reading(u16::MAX), &faces(), 0, &mut sheet).done();
     assert_eq!(written, Ok(sheet.len()));

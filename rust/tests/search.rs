@@ -134,7 +134,7 @@ fn a_text_is_refused_by_name() {
 #[test]
 fn refusals_have_numbers_and_meanings() {
     let numbers: Vec<u32> = Refusal::ALL.iter().map(|r| *r as u32).collect();
-    let expected: Vec<u32> = (1..=12).chain(20..=24).chain([33]).collect();
+    let expected: Vec<u32> = (1..=12).chain(20..=24).chain(30..=33).collect();
     assert_eq!(numbers, expected);
     for number in 0..100 {
         let named = Refusal::of(number).map(|refusal| refusal as u32);

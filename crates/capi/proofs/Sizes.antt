@@ -10,6 +10,10 @@ use Rattle.table_format.proofs.Loaded.{length-cells, cells-loaded}
 use Rattle.table_format.proofs.Text.{length-text}
 use Rattle.table_format.proofs.Determine.{read-text}
 use Rattle.table.proofs.Calls.{read-done, write-done}
+use Rattle.trie.specs.Calls.{buildAnswer}
+use Rattle.lexicon.proofs.Headlines.{taken}
+use Rattle.trie_format.proofs.Headlines.{trie-cells}
+use Rattle.trie.proofs.Calls.{build-is}
 
 pub read-small : (text destination : List ℕ) (n : ℕ) → readAnswer text destination ≡ Done n → n < 2 ^ 32
 read-small text destination n e =
@@ -22,3 +26,8 @@ write-small cells destination n e =
     let s = write-done cells destination n e in
     let b = table-bounded (s .0) (cells-loaded cells (s .0) (s .1) .0) in
     omega (arith, s .2 .size, length-text (s .0), b .states, b .initials, b .terminals, b .arcs)
+
+pub build-small : (words destination : List ℕ) (n : ℕ) → buildAnswer words destination ≡ Done n → n < 2 ^ 32
+build-small words destination n e =
+    let s = build-is words destination n .0 e in
+    omega (arith, s .2, trie-cells (s .0) (taken words (s .0) .0 (s .1) .0))

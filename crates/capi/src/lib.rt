@@ -1,8 +1,9 @@
-// The C interface of include/readings.h: the calls of `table`, `engine` and `sheet`, each answer as a struct of numbers.
+// The C interface of include/readings.h: the calls of `table`, `trie`, `engine` and `sheet`, each answer as a struct of numbers.
 pub mod calls;
 pub mod sheets;
 pub mod starts;
 pub mod tables;
+pub mod words;
 
 // A start's answer in numbers, with the cycle of refusal 12 beside it by value: its states, then zeros; without 12 all zeros.
 #[repr(C)]

@@ -1,6 +1,7 @@
 -- Laws of the definitions.
 pub mod Lists
 pub mod Pigeon
+pub mod Sorted
 pub mod Walk
 pub mod Cycle
 pub mod Reached

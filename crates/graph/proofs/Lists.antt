@@ -114,6 +114,9 @@ pub before-never : (a : List ℕ) → Before a a → ⊥
 before-never [] h = h
 before-never (x ∷ a) h = ⊎-elim (λ u. omega arith) (λ u. before-never a (u .1)) h
 
+pub before-both : (a b : List ℕ) → Before a b → Before b a → ⊥
+before-both a b h k = before-never a (before-trans a b a h k)
+
 -- cells that are all 0
 pub zeros-all : (l : List ℕ) → ((i : ℕ) → getD l i 0 ≡ 0) → zeros l ≡ length l
 zeros-all [] f = refl

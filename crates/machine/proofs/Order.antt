@@ -10,7 +10,8 @@ use lib.ListN.{length}
 use lib.Dec.{eqb}
 use borrow.Author.Tests.{eqb-true, eqb-false}
 use Rattle.graph.specs.Lists.{keep, Before}
-use Rattle.graph.proofs.Lists.{keep-mem, mem-keep, before-same, before-trans, before-never}
+use Rattle.graph.proofs.Sorted.{sorted-unique}
+use Rattle.graph.proofs.Lists.{keep-mem, mem-keep, before-same, before-both}
 use Rattle.machine.specs.Machine.{Machine, Path, start, more, size, numbers, final, datum, accepts, output, Allowed, Bounded}
 use Rattle.machine.specs.Tour.{Entry, branch, trail, following, after, tourFrom, tour, readingIf, readings, pathsIn, nodesIf, longer, pathsFrom, pathsOf, allowedPaths}
 use Rattle.machine.specs.Order.{Rising, accepting, outputs, ListsAllowed, Lists}
@@ -36,26 +37,7 @@ rising-keep test (p ∷ ps) R = go (test p) (rising-keep test ps (R .1))
 
 -- a rising list is told by its members
 pub rising-unique : (a b : List Path) → Rising a → Rising b → ((p : Path) → List·Memᴰ p a ↔ List·Memᴰ p b) → a ≡ b
-rising-unique [] [] A B h = refl
-rising-unique [] (r ∷ b) A B h = absurd (List·Memᴰ·not-nil (h r .1 (List·Memᴰ·head refl)))
-rising-unique (p ∷ a) [] A B h = absurd (List·Memᴰ·not-nil (h p .0 (List·Memᴰ·head refl)))
-rising-unique (p ∷ a) (r ∷ b) A B h = ap₂ (λ (x : Path) (l : List Path). x ∷ l) same (rising-unique a b (A .1) (B .1) (λ x. (to x, from x)))
-  where
-    same : p ≡ r
-    same =
-        ⊎-elim (λ u. u)
-        (λ u. ⊎-elim (λ v. sym v) (λ v. absurd (before-never (numbers p) (before-trans (numbers p) (numbers r) (numbers p) (A .0 r v) (B .0 p u)))) (List·Memᴰ·cases-cons (h r .1 (List·Memᴰ·head refl))))
-        (List·Memᴰ·cases-cons (h p .0 (List·Memᴰ·head refl)))
-
-    to : (x : Path) → List·Memᴰ x a → List·Memᴰ x b
-    to x m =
-        ⊎-elim (λ u. absurd (before-never (numbers p) (subst (λ (z : Path). Before (numbers p) (numbers z)) (u ∙ sym same) (A .0 x m)))) (λ u. u)
-        (List·Memᴰ·cases-cons (h x .0 (List·Memᴰ·tail m)))
-
-    from : (x : Path) → List·Memᴰ x b → List·Memᴰ x a
-    from x m =
-        ⊎-elim (λ u. absurd (before-never (numbers r) (subst (λ (z : Path). Before (numbers r) (numbers z)) (u ∙ same) (B .0 x m)))) (λ u. u)
-        (List·Memᴰ·cases-cons (h x .1 (List·Memᴰ·tail m)))
+rising-unique = sorted-unique (λ p r. Before (numbers p) (numbers r)) (λ p r. before-both (numbers p) (numbers r)) Rising (λ p ps R. R)
 
 paths-append : (a b : List Entry) → pathsIn (a ++ b) ≡ pathsIn a ++ pathsIn b
 paths-append [] b = refl

@@ -3,7 +3,7 @@ use Prim.Native.Nat.{ℕ}
 use mathlib.Core.Path.{_≡_, refl, sym, ap, _∙_}
 use mathlib.Core.Bool.{cond}
 use lib.Dec.{eqb}
-use Rattle.refusal.specs.declared.InputCause.the-variants.{Malformed, Misplaced, CountLimit, StateNumber, LetterLimit, StateOrder, SourceOrder, ArcRepeated, LineCount, WordFault, TaskFault, IdleCycle, SheetFault}
+use Rattle.refusal.specs.declared.InputCause.the-variants.{Malformed, Misplaced, CountLimit, StateNumber, LetterLimit, StateOrder, SourceOrder, ArcRepeated, LineCount, WordFault, TaskFault, IdleCycle, ListedWord, WordOrder, StateLimit, SheetFault}
 use Rattle.refusal.specs.declared.StateCause.the-variants.{LoadedTable, Place, StackFull, OutputFull, DestinationShort}
 use Rattle.refusal.specs.declared.Refusal.{Refusal}
 use Rattle.refusal.specs.declared.Refusal.the-variants.{Input, State}
@@ -28,7 +28,10 @@ refusalAt n =
     (cond (eqb n 21) (State Place)
     (cond (eqb n 22) (State StackFull)
     (cond (eqb n 23) (State OutputFull)
-    (cond (eqb n 24) (State DestinationShort) (Input SheetFault)))))))))))))))))
+    (cond (eqb n 24) (State DestinationShort)
+    (cond (eqb n 30) (Input ListedWord)
+    (cond (eqb n 31) (Input WordOrder)
+    (cond (eqb n 32) (Input StateLimit) (Input SheetFault))))))))))))))))))))
 
 number-at : (r : Refusal) → refusalAt (numberOf r) ≡ r
 unfolding refusalAt
@@ -44,6 +47,9 @@ number-at (Input LineCount) = refl
 number-at (Input WordFault) = refl
 number-at (Input TaskFault) = refl
 number-at (Input IdleCycle) = refl
+number-at (Input ListedWord) = refl
+number-at (Input WordOrder) = refl
+number-at (Input StateLimit) = refl
 number-at (Input SheetFault) = refl
 number-at (State LoadedTable) = refl
 number-at (State Place) = refl

@@ -2,7 +2,7 @@
 ghost use mathlib.Core.Path.{_≡_};
 ghost use Rattle.refusal.specs.Refusal.{inputNumber, stateNumber, numberOf};
 
-// Why an input is turned down: document 01's 1 to 12, and document 02's 33.
+// Why an input is turned down: document 01's 1 to 12, and document 02's 30 to 33.
 pub enum InputCause {
     Malformed,
     Misplaced,
@@ -16,6 +16,9 @@ pub enum InputCause {
     WordFault,
     TaskFault,
     IdleCycle,
+    ListedWord,
+    WordOrder,
+    StateLimit,
     SheetFault,
 }
 
@@ -49,6 +52,9 @@ fn input_number(cause: InputCause) -> u8
         InputCause::WordFault => 10,
         InputCause::TaskFault => 11,
         InputCause::IdleCycle => 12,
+        InputCause::ListedWord => 30,
+        InputCause::WordOrder => 31,
+        InputCause::StateLimit => 32,
         InputCause::SheetFault => 33,
     }
 }

@@ -1,4 +1,6 @@
 //! Random tables and words. Alphabets are small, so that words have many readings. And random lists of readings with faces for a sheet.
+pub mod lists;
+
 use crate::query;
 use crate::random::Random;
 use crate::sheet::Faces;

@@ -1,4 +1,5 @@
-//! What is compared: anything that starts searches and calls for readings, that reads and writes tables, or that writes sheets.
+//! What is compared: anything that starts searches and calls for readings, that reads and writes tables, that makes tables of word lists,
+//! or that writes sheets.
 use crate::answer::{Answer, Run, Started};
 use readings::limits::FACES;
 
@@ -58,6 +59,11 @@ pub trait Engine {
 pub trait Texts {
     fn read(&self, text: &[u8], table: &mut [u16]) -> Answer;
     fn write(&self, table: &[u16], text: &mut [u8]) -> Answer;
+}
+
+/// The letter tree's table of lent words, each as a length byte and its letters.
+pub trait Trees {
+    fn tree(&self, words: &[u8], table: &mut [u16]) -> Answer;
 }
 
 /// What a sheet is written from.

@@ -1,6 +1,6 @@
 //! The proved library, called through the package `readings`.
 use crate::answer::{Answer, Run, Started};
-use crate::engine::{Engine, Next, Sheet, Sheets, Start, Texts};
+use crate::engine::{Engine, Next, Sheet, Sheets, Start, Texts, Trees};
 use readings::lending;
 
 /// The proved library. It keeps nothing: all memory is lent by the caller.
@@ -14,6 +14,12 @@ impl Texts for Library {
 
     fn write(&self, table: &[u16], text: &mut [u8]) -> Answer {
         lending::table_write(table, text).into()
+    }
+}
+
+impl Trees for Library {
+    fn tree(&self, words: &[u8], table: &mut [u16]) -> Answer {
+        lending::words_read(words, table).into()
     }
 }
 

@@ -1,8 +1,8 @@
 //! The benchmark: the proved library against its twin in Rust, over two lists of 50 words of 64 letters, each word run as a session
-//! runs it, and over two answer sheets. Times mean something on a quiet machine only.
+//! runs it, over the tables of three word lists, and over two answer sheets. Times mean something on a quiet machine only.
 mod benchmark;
 
-use benchmark::{figures, lists, runs, sheets};
+use benchmark::{figures, lists, runs, sheets, words};
 use readings_check::library::Library;
 use readings_check::twin::{PLAIN, SOUND};
 use std::env;
@@ -22,6 +22,10 @@ fn main() {
         figures::show("Rust", &work, &times);
         let times = runs::measure(&Library, &PLAIN, &list, &work, repetitions);
         figures::show("plain Rust", &work, &times);
+    }
+    for list in words::vocabularies() {
+        let times = words::measure(&Library, &SOUND, &list, repetitions);
+        figures::show_words(&list, &times);
     }
     for load in sheets::loads() {
         let times = sheets::measure(&Library, &SOUND, &load, repetitions);

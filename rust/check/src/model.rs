@@ -1,12 +1,13 @@
 //! What a start and a call must answer on anything that they are handed: the refusals in order, then the rule for one step.
 //! Plain and slow, on structs and vectors, after the specification's list of refusals and its rule for one step.
 use crate::answer::{Answer, Run, Started};
-use crate::engine::{Engine, Next, Sheet, Sheets, Start, Texts};
+use crate::engine::{Engine, Next, Sheet, Sheets, Start, Texts, Trees};
 use crate::idle;
 use crate::query;
 use crate::sheet;
 use crate::table::{Arc, Table};
 use crate::text;
+use crate::words;
 use readings::limits::FRAME_CELLS;
 use std::ops::Range;
 
@@ -287,6 +288,12 @@ impl Texts for Model {
 
     fn write(&self, table: &[u16], text: &mut [u8]) -> Answer {
         text::write(table, text)
+    }
+}
+
+impl Trees for Model {
+    fn tree(&self, words: &[u8], table: &mut [u16]) -> Answer {
+        words::read(words, table)
     }
 }
 

@@ -2,6 +2,8 @@
 mod common;
 
 use common::{from_root, program};
+use readings::Table;
+use readings_check::german;
 use readings_check::model::Model;
 use readings_check::session::session;
 use readings_check::sheet;
@@ -35,22 +37,22 @@ fn the_program_prints_what_stands_beside() {
     }
 }
 
+/// The table is what the list of the eight words gives, in its text.
 #[test]
 fn the_german_tables_are_letter_trees() {
-    let list = [
-        "stau", "staub", "becken", "ecken", "wach", "wachs", "stube", "tube",
-    ];
-    let words = list.into_iter().map(tree::letters).collect();
-    let table = text::print(&tree::table(&words));
+    let words = german::letters(&german::EIGHT);
+    let table = Table::from_words(&words).expect("a table").text();
+    let drawn = tree::table(&words.into_iter().collect());
+    assert_eq!(table.as_bytes(), text::print(&drawn));
     for (name, word) in [("german", "staubecken"), ("wachstube", "wachstube")] {
         let path = from_root(&format!("examples/{name}.txt"));
         let text = fs::read(path).expect("an example");
-        let query = text.strip_prefix(&table[..]).expect("the tree's table");
+        let query = text.strip_prefix(table.as_bytes());
         let letters = tree::letters(word);
         let mut bytes = vec![0x10, 2, letters.len() as u8];
         bytes.extend(&letters);
         bytes.push(0);
-        assert_eq!(query, text::line(&bytes));
+        assert_eq!(query, Some(&text::line(&bytes)[..]), "{name}");
     }
 }
 
@@ -79,18 +81,34 @@ fn the_c_program_lists_the_readings() {
 }
 
 #[test]
-fn the_c_program_prints_the_sheet() {
-    let sheet = fs::read_to_string(from_root("examples/sheet.out")).expect("its output");
-    assert_eq!(c_program("sheet"), sheet);
+fn the_c_programs_print_what_stands_beside() {
+    for name in ["cuts", "sheet"] {
+        let output = from_root(&format!("examples/{name}.out"));
+        let expected = fs::read_to_string(output).expect("its output");
+        assert_eq!(c_program(name), expected, "{name}");
+    }
 }
 
-/// A reading's length and letters stand in a session's line as they are lent for a sheet, after kind and ordinal.
-#[test]
-fn the_sheet_has_the_readings_of_the_session() {
-    let printed = fs::read(from_root("examples/german.out")).expect("an output");
+/// The readings that a session printed, each as its length, two bytes, and its letters, which stand after kind and ordinal.
+fn printed(name: &str) -> Vec<Vec<u8>> {
+    let printed = fs::read(from_root(&format!("examples/{name}.out"))).expect("an output");
     let lines = text::lines(&printed).map(|line| text::line_bytes(line).expect("digits"));
     let readings = lines.filter(|bytes| bytes[0] == 0x20);
-    let lent: Vec<u8> = readings.flat_map(|bytes| bytes[3..].to_vec()).collect();
+    readings.map(|bytes| bytes[3..].to_vec()).collect()
+}
+
+#[test]
+fn the_cuts_are_the_readings_of_the_sessions() {
+    let readings = [printed("german"), printed("wachstube")].concat();
+    let shown = readings.iter().map(|reading| tree::shown(&reading[2..]));
+    let cuts = fs::read_to_string(from_root("examples/cuts.out")).expect("an output");
+    assert!(shown.eq(cuts.lines()), "{cuts}");
+}
+
+/// They are lent for a sheet as they stand in a session's lines.
+#[test]
+fn the_sheet_has_the_readings_of_the_session() {
+    let lent = printed("german").concat();
     let sheet = fs::read(from_root("examples/sheet.out")).expect("an output");
     let (list, ended) = sheet::read(&sheet, sheet::SMALL_LETTERS).expect("a sheet");
     assert_eq!((sheet::packed(&list), ended), (lent, true));

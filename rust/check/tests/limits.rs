@@ -1,16 +1,16 @@
-//! The largest tables, the deepest searches, stacks at the limit of 33,024 frames, and the largest sheet.
+//! The largest tables, the deepest searches, stacks at the limit of 33,024 frames, the largest tables of word lists, and the largest sheet.
 use readings::limits::{FRAME_CELLS, MOST_FRAMES as MOST, TABLE_CELLS, TEXT_BYTES};
-use readings::limits::{MOST_READING, MOST_READINGS, SHEET_BYTES};
+use readings::limits::{MOST_READING, MOST_READINGS, SHEET_BYTES, TREE_CELLS};
 use readings_check::answer::{Answer, FOUND, Run};
 use readings_check::compare::call::{self, Call};
 use readings_check::compare::page::Page;
-use readings_check::compare::sheets;
-use readings_check::compare::texts;
+use readings_check::compare::{listed, sheets, texts, words};
 use readings_check::library::Library;
 use readings_check::lister;
 use readings_check::table::{Arc, Table};
 use readings_check::text;
 use readings_check::twin::SOUND;
+use readings_check::words::packed;
 use std::thread;
 
 /// Steps to the first reading of the deepest search: a push for each frame, and the arc of the upper letter tried in vain 64 times.
@@ -152,6 +152,30 @@ fn no_more_frames_are_used() {
     assert_eq!(answer, Answer::refused(21, 0));
     let answer = call::compare(&Library, &mut looping(MOST, MOST - 1)).unwrap();
     assert_eq!(answer, Answer::refused(21, 0));
+}
+
+/// Both lists have 255 words: short ones, and as long ones as there can be.
+#[test]
+fn the_largest_tables_of_word_lists() {
+    for (list, bytes) in [(listed::short(255), 760), (listed::longest(), 14_556)] {
+        let lent = packed(&list);
+        assert_eq!((lent.len(), TREE_CELLS), (bytes, 2_300));
+        for cells in [TREE_CELLS - 1, TREE_CELLS, TREE_CELLS + 1] {
+            let answer = words::compare(&Library, &lent, cells).unwrap();
+            assert_eq!(answer.is_refused(), cells < TREE_CELLS);
+        }
+    }
+}
+
+#[test]
+fn a_word_too_many() {
+    for list in [listed::short(255), listed::longest()] {
+        for (word, number) in [(vec![62; 64], 32), (vec![62; 65], 30), (vec![1; 63], 31)] {
+            let lent = packed(&[&list[..], &[word]].concat());
+            let answer = words::compare(&Library, &lent, TREE_CELLS).unwrap();
+            assert_eq!(answer, Answer::refused(number, 0));
+        }
+    }
 }
 
 #[test]

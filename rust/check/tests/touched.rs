@@ -2,7 +2,7 @@
 use readings::limits::FRAME_CELLS;
 use readings_check::answer::{Answer, DONE, ENDED, FOUND, PAUSED, Run, Started};
 use readings_check::compare::fixed;
-use readings_check::engine::{Engine, Next, Sheet, Sheets, Start};
+use readings_check::engine::{Engine, Next, Sheet, Sheets, Start, Trees};
 use readings_check::twin::SOUND;
 
 /// What a call leaves.
@@ -141,6 +141,84 @@ fn a_cycle_told_twice_over() {
         }
     };
     noticed(meddle, "cycle is [");
+}
+
+/// Tables of word lists whose answer and destination are meddled with at the end of a call.
+struct Pruned(fn(&mut Answer, &mut [u16]));
+
+impl Trees for Pruned {
+    fn tree(&self, words: &[u8], table: &mut [u16]) -> Answer {
+        let mut answer = SOUND.tree(words, table);
+        self.0(&mut answer, table);
+        answer
+    }
+}
+
+fn noticed_in_lists(prune: fn(&mut Answer, &mut [u16]), said: &str) {
+    let difference = fixed::all_lists(&Pruned(prune)).expect_err("it is not noticed");
+    assert!(difference.contains(said), "noticed otherwise: {difference}");
+}
+
+#[test]
+fn the_last_cell_of_a_long_destination() {
+    let prune = |answer: &mut Answer, cells: &mut [u16]| {
+        if answer.kind == DONE && cells.len() > answer.length as usize {
+            cells[cells.len() - 1] = 0;
+        }
+    };
+    noticed_in_lists(prune, "destination: cell 104 is 0, expected 23130");
+}
+
+#[test]
+fn a_short_destination_for_a_table_cleared() {
+    let prune = |answer: &mut Answer, cells: &mut [u16]| {
+        if answer.number == 24 {
+            cells.fill(0);
+        }
+    };
+    noticed_in_lists(prune, "destination: cell 0 is 0, expected 23130");
+}
+
+#[test]
+fn the_last_cell_for_a_list_that_is_refused() {
+    for number in [30, 31, 32] {
+        let prune = match number {
+            30 => last_cell::<30>,
+            31 => last_cell::<31>,
+            _ => last_cell::<32>,
+        };
+        noticed_in_lists(prune, "destination: cell 2399 is 0, expected 23130");
+    }
+}
+
+/// Clears the last cell on a refusal.
+fn last_cell<const NUMBER: u32>(answer: &mut Answer, cells: &mut [u16]) {
+    if answer.number == NUMBER
+        && let Some(cell) = cells.last_mut()
+    {
+        *cell = 0;
+    }
+}
+
+#[test]
+fn a_length_told_for_a_table_that_is_too_long() {
+    noticed_in_lists(
+        |answer, _| answer.length += 5 * u32::from(answer.number == 24),
+        "answer is Answer { kind: 4, number: 24, steps: 0, length: 5 }",
+    );
+}
+
+#[test]
+fn words_told_as_steps() {
+    let prune = |answer: &mut Answer, cells: &mut [u16]| {
+        if answer.kind == DONE {
+            answer.steps = cells[2].into();
+        }
+    };
+    noticed_in_lists(
+        prune,
+        "answer is Answer { kind: 0, number: 0, steps: 1, length: 14 }",
+    );
 }
 
 /// Sheets whose answer and destination are meddled with at the end of a call.

@@ -1,11 +1,18 @@
 //! The comparison that the library is put to finds nothing in the benchmark's twin, and finds each planted fault.
+use readings_check::answer::Answer;
 use readings_check::compare::fixed;
-use readings_check::engine::{Engine, Sheets};
+use readings_check::engine::{Engine, Sheets, Trees};
 use readings_check::twin::{PLAIN, SOUND, Twin, fault};
 
 /// A fault is noticed, and so is said of it.
 fn found(engine: &impl Engine, said: &str) {
     let difference = fixed::all(engine).expect_err("the fault is not noticed");
+    assert!(difference.contains(said), "noticed otherwise: {difference}");
+}
+
+/// A fault in tables of word lists is noticed, and so is said of it.
+fn found_in_lists(trees: &impl Trees, said: &str) {
+    let difference = fixed::all_lists(trees).expect_err("the fault is not noticed");
     assert!(difference.contains(said), "noticed otherwise: {difference}");
 }
 
@@ -15,15 +22,35 @@ fn found_in_sheets(sheets: &impl Sheets, said: &str) {
     assert!(difference.contains(said), "noticed otherwise: {difference}");
 }
 
+fn agreed<T>(result: Result<T, String>) {
+    if let Err(difference) = result {
+        panic!("{difference}");
+    }
+}
+
 #[test]
 fn the_twin_agrees() {
-    fixed::all(&SOUND).unwrap_or_else(|difference| panic!("{difference}"));
-    fixed::all_sheets(&SOUND).unwrap_or_else(|difference| panic!("{difference}"));
+    agreed(fixed::all(&SOUND));
+}
+
+#[test]
+fn the_twin_agrees_on_lists() {
+    agreed(fixed::all_lists(&SOUND));
+}
+
+#[test]
+fn the_twin_agrees_on_cuts() {
+    agreed(fixed::cuts(&SOUND));
+}
+
+#[test]
+fn the_twin_agrees_on_sheets() {
+    agreed(fixed::all_sheets(&SOUND));
 }
 
 #[test]
 fn the_plain_twin_agrees() {
-    fixed::all(&PLAIN).unwrap_or_else(|difference| panic!("{difference}"));
+    agreed(fixed::all(&PLAIN));
 }
 
 #[test]
@@ -112,6 +139,161 @@ fn a_later_one_of_the_shortest_cycles_is_noticed() {
 #[test]
 fn the_right_cycle_from_another_state_is_noticed() {
     found(&Twin::<{ fault::BEGUN_ELSEWHERE }>, "rival Some(Turned)");
+}
+
+/// A difference in the answers: what is told where another refusal is due.
+fn refused(number: u32, due: u32) -> String {
+    let answer = |number| Answer::refused(number, 0);
+    format!("answer is {:?}, expected {:?}", answer(number), answer(due))
+}
+
+/// A difference in the answers: a table of so many cells where a refusal is due.
+fn passed(cells: usize, due: u32) -> String {
+    let (done, refused) = (Answer::done(cells), Answer::refused(due, 0));
+    format!("answer is {done:?}, expected {refused:?}")
+}
+
+#[test]
+fn a_cut_before_longer_words_is_noticed() {
+    found_in_lists(
+        &Twin::<{ fault::CUT_FIRST }>,
+        "destination: cell 12 is 0, expected 1",
+    );
+    let difference = fixed::cuts(&Twin::<{ fault::CUT_FIRST }>).map(drop);
+    assert!(difference.is_err_and(|said| said.contains("readings is")));
+}
+
+#[test]
+fn a_cut_that_is_read_is_noticed() {
+    found_in_lists(
+        &Twin::<{ fault::CUT_READ }>,
+        "destination: cell 11 is 63, expected 0",
+    );
+}
+
+#[test]
+fn the_root_as_an_end_is_noticed() {
+    found_in_lists(&Twin::<{ fault::ROOT_AN_END }>, "on 105 cells for []");
+}
+
+#[test]
+fn a_missed_beginning_of_another_word_is_noticed() {
+    found_in_lists(
+        &Twin::<{ fault::SHORTER_MISSED }>,
+        "on 123 cells for [1, 1, 2, 1, 1]",
+    );
+}
+
+#[test]
+fn a_repeated_word_is_noticed() {
+    found_in_lists(&Twin::<{ fault::REPEATED }>, &passed(579, 31));
+}
+
+#[test]
+fn a_fall_in_the_order_is_noticed() {
+    found_in_lists(&Twin::<{ fault::UNORDERED }>, &passed(840, 31));
+}
+
+#[test]
+fn a_word_after_one_that_goes_on_from_it_is_noticed() {
+    found_in_lists(&Twin::<{ fault::SHORTER_AFTER }>, &passed(584, 31));
+}
+
+#[test]
+fn a_state_too_many_is_noticed() {
+    found_in_lists(&Twin::<{ fault::STATES_257 }>, &passed(1_049, 32));
+}
+
+#[test]
+fn a_state_too_few_is_noticed() {
+    found_in_lists(
+        &Twin::<{ fault::STATES_255 }>,
+        "number: 32, steps: 0, length: 0 }, expected Answer { kind: 0, number: 0, steps: 0, length: 2300 }",
+    );
+}
+
+#[test]
+fn the_letter_of_a_cut_in_a_word_is_noticed() {
+    found_in_lists(&Twin::<{ fault::LETTER_63 }>, "cells for [1, 63]");
+}
+
+#[test]
+fn a_letter_that_is_none_is_noticed() {
+    found_in_lists(&Twin::<{ fault::LETTER_0 }>, "cells for [1, 0]");
+}
+
+#[test]
+fn a_word_of_65_letters_is_noticed() {
+    found_in_lists(&Twin::<{ fault::WORD_OF_65 }>, &passed(270, 30));
+}
+
+#[test]
+fn a_word_of_no_letters_is_noticed() {
+    found_in_lists(&Twin::<{ fault::WORD_OF_0 }>, "cells for [0]");
+}
+
+#[test]
+fn a_word_cut_short_and_taken_is_noticed() {
+    found_in_lists(&Twin::<{ fault::CUT_TAKEN }>, &passed(836, 30));
+}
+
+#[test]
+fn a_word_cut_short_and_left_out_is_noticed() {
+    found_in_lists(&Twin::<{ fault::CUT_DROPPED }>, "cells for [1]");
+}
+
+#[test]
+fn no_words_refused_is_noticed() {
+    found_in_lists(&Twin::<{ fault::NONE_REFUSED }>, "on 105 cells for []");
+}
+
+#[test]
+fn the_order_before_a_bad_word_is_noticed() {
+    found_in_lists(&Twin::<{ fault::ORDER_FIRST }>, &refused(31, 30));
+}
+
+#[test]
+fn the_states_before_the_order_are_noticed() {
+    found_in_lists(&Twin::<{ fault::STATES_FIRST }>, &refused(32, 31));
+}
+
+#[test]
+fn a_later_bad_word_before_a_fall_is_noticed() {
+    found_in_lists(&Twin::<{ fault::BAD_FIRST }>, &refused(30, 31));
+}
+
+#[test]
+fn the_states_after_all_words_are_noticed() {
+    found_in_lists(&Twin::<{ fault::STATES_LAST }>, &refused(30, 32));
+}
+
+#[test]
+fn a_short_destination_before_bad_words_is_noticed() {
+    found_in_lists(&Twin::<{ fault::LIST_SHORT_FIRST }>, &refused(24, 32));
+}
+
+#[test]
+fn a_cell_cleared_by_a_refusal_is_noticed() {
+    found_in_lists(
+        &Twin::<{ fault::REFUSED_TOUCHED }>,
+        "destination: cell 0 is 0, expected 23130, on 2400 cells",
+    );
+}
+
+#[test]
+fn cells_in_a_short_destination_are_noticed() {
+    found_in_lists(
+        &Twin::<{ fault::SHORT_FILLED }>,
+        "destination: cell 0 is 1, expected 23130, on 4 cells for []",
+    );
+}
+
+#[test]
+fn a_zero_after_the_table_is_noticed() {
+    found_in_lists(
+        &Twin::<{ fault::CELL_AFTER }>,
+        "destination: cell 5 is 0, expected 23130, on 105 cells for []",
+    );
 }
 
 /// A sheet that is written where 33 is due.

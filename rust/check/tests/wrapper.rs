@@ -1,14 +1,15 @@
-//! The package `readings` against the lister: whole searches, and outputs that are too short; the cycles that it shows; and its sheets
-//! against the layout.
+//! The package `readings` against the lister: whole searches, and outputs that are too short; the cycles that it shows; its tables of word
+//! lists against the tree; and its sheets against the layout.
 use readings::lending::{self, Run};
 use readings::{Answer, Faces, Refusal, Search, StartRefused, Table, Task, limits};
 use readings_check::compare::page::Page;
-use readings_check::draw;
+use readings_check::draw::{self, lists};
 use readings_check::engine::Sheets;
 use readings_check::idle;
 use readings_check::lister;
 use readings_check::model::Model;
 use readings_check::random::Random;
+use readings_check::words;
 
 const TASKS: [Task; 3] = [Task::Recognition, Task::Synthesis, Task::Analysis];
 
@@ -120,6 +121,32 @@ fn a_refused_start_shows_its_cycle() {
         assert_eq!(told, expected, "on {drawn:?}");
     }
     assert!(refused > 1_000, "only {refused} cycles");
+}
+
+/// Good lists, and with words of any length in any place.
+#[test]
+fn a_table_of_words_is_as_the_tree_has_it() {
+    let mut refused = [0; 33];
+    for case in 0..4_000 {
+        let random = &mut Random::of_case(0x3025, case);
+        let mut list = lists::any(random);
+        for _ in 0..random.below(3) {
+            let at = random.below(list.len() + 1);
+            let length = *random.pick(&[0, 1, 2, 64, 65, 255, 256, 257, 300]);
+            list.insert(at, vec![random.within(1, 3) as u8; length]);
+        }
+        let spelled: Vec<Vec<u8>> = list
+            .iter()
+            .map(|word| word[..word.len().min(255)].to_vec())
+            .collect();
+        let expected = words::parse(&words::packed(&spelled)).map(|table| table.cells());
+        let made = Table::from_words(&list).map(|table| table.cells().to_vec());
+        let made = made.map_err(|refusal| refusal as u32);
+        refused[*made.as_ref().err().unwrap_or(&0) as usize] += 1;
+        assert_eq!(made, expected, "on {list:?}");
+    }
+    let seen = [0, 30, 31, 32].map(|number| refused[number]);
+    assert!(seen.iter().all(|count| *count > 200), "only {seen:?}");
 }
 
 #[test]

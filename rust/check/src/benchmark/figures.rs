@@ -2,6 +2,7 @@
 use super::lists::List;
 use super::runs::{Pair, Times, Work};
 use super::sheets::Load;
+use super::words::Vocabulary;
 use std::time::Duration;
 
 /// The least, the middle and the most of some numbers.
@@ -63,6 +64,20 @@ pub fn show(other: &str, work: &Work, times: &Times) {
         sides(other, &times.starts, 1),
         ratio(&times.starts)
     );
+}
+
+/// The times of a word list's table against the twin.
+pub fn show_words(words: &Vocabulary, pairs: &[Pair]) {
+    println!();
+    println!(
+        "{}: a list of {} bytes, a table of {} states and {} cells",
+        words.name,
+        words.bytes(),
+        words.states(),
+        words.cells()
+    );
+    println!("  ours / Rust: {}", ratio(pairs));
+    println!("    a table:        {}", sides("Rust", pairs, 1));
 }
 
 /// The times of a sheet against the twin, and how many megabytes of it are written in a second.

@@ -1,4 +1,5 @@
 //! The two lists: a letter tree of over 200 states each, and words joined from its own words by a fixed seed.
+use readings_check::draw::lists as draw;
 use readings_check::random::Random;
 use readings_check::tree;
 use std::collections::BTreeSet;
@@ -23,28 +24,10 @@ fn listed(
     longest: usize,
 ) -> BTreeSet<Vec<u8>> {
     let mut words = BTreeSet::new();
-    while tree::size(&words) <= 200 {
-        let length = random.within(shortest, longest);
-        words.insert(
-            (0..length)
-                .map(|_| random.within(1, letters) as u8)
-                .collect(),
-        );
+    while tree::size(words.iter().map(Vec::as_slice)) <= 200 {
+        words.insert(draw::word(random, letters, shortest, longest));
     }
     words
-}
-
-/// Listed words one after another, with exactly 64 letters.
-fn joined(random: &mut Random, words: &[Vec<u8>]) -> Vec<u8> {
-    loop {
-        let mut word = Vec::new();
-        while word.len() < LETTERS {
-            word.extend(random.pick(words));
-        }
-        if word.len() == LETTERS {
-            return word;
-        }
-    }
 }
 
 fn list(name: &'static str, random: &mut Random, tree: BTreeSet<Vec<u8>>) -> List {
@@ -55,7 +38,9 @@ fn list(name: &'static str, random: &mut Random, tree: BTreeSet<Vec<u8>>) -> Lis
         listed: parts.len(),
         states: table.states.into(),
         table: table.cells(),
-        words: (0..WORDS).map(|_| joined(random, &parts)).collect(),
+        words: (0..WORDS)
+            .map(|_| draw::joined(random, &parts, LETTERS))
+            .collect(),
     }
 }
 

@@ -3,3 +3,4 @@ pub mod figures;
 pub mod lists;
 pub mod runs;
 pub mod sheets;
+pub mod words;

@@ -1,7 +1,7 @@
 //! The fixed series of cases that an engine is put to.
 use super::tally::Tally;
-use super::{damage, search, series, sheets, start};
-use crate::engine::{Engine, Sheets};
+use super::{cuts, damage, search, series, sheets, start, words};
+use crate::engine::{Engine, Sheets, Trees};
 
 /// Starts and lists of calls on one run.
 pub fn searches(engine: &impl Engine) -> Result<Tally, String> {
@@ -46,6 +46,32 @@ pub fn all(engine: &impl Engine) -> Result<(), String> {
     damaged(engine)?;
     arbitrary(engine)?;
     Ok(())
+}
+
+/// Tables of random word lists, with and without flaws.
+pub fn lists(trees: &impl Trees) -> Result<Tally, String> {
+    series("lists", 0x11575, 20_000, |random, tally| {
+        words::any(trees, random, tally)
+    })
+}
+
+/// All word lists; nothing, or the first difference.
+pub fn all_lists(trees: &impl Trees) -> Result<(), String> {
+    words::sizes(trees)?;
+    words::limits(trees)?;
+    words::bad_words(trees)?;
+    words::flaws(trees)?;
+    words::cut_short(trees)?;
+    words::places(trees)?;
+    lists(trees)?;
+    Ok(())
+}
+
+/// Words cut into those of random lists.
+pub fn cuts(engine: &(impl Trees + Engine)) -> Result<Tally, String> {
+    series("cuts", 0xC0755, 10_000, |random, tally| {
+        cuts::any(engine, random, tally)
+    })
 }
 
 /// Sheets of random lists, with and without faults.

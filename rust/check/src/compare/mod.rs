@@ -1,8 +1,12 @@
 //! The comparison of an engine with the model and the lister, case by case. It takes any engine: the proved library, the twin, and
-//! twins with a fault. Likewise for texts and for sheets.
+//! twins with a fault. Likewise for texts, for word lists and for sheets.
 pub mod call;
+pub mod cuts;
 pub mod damage;
+mod filled;
 pub mod fixed;
+mod flaws;
+pub mod listed;
 pub mod loops;
 pub mod page;
 pub mod rival;
@@ -11,8 +15,9 @@ pub mod sheets;
 pub mod start;
 pub mod tally;
 pub mod texts;
+pub mod words;
 
-use crate::answer::Run;
+use crate::answer::{Answer, Run};
 use crate::random::Random;
 use tally::Tally;
 
@@ -45,6 +50,18 @@ fn same<T: PartialEq + std::fmt::Debug>(name: &str, got: T, expected: T) -> Resu
     } else {
         Err(format!("{name} is {got:?}, expected {expected:?}"))
     }
+}
+
+/// A call gets this answer on destinations of each of these lengths.
+fn gets<const N: usize>(
+    lengths: [usize; N],
+    expected: Answer,
+    call: impl Fn(usize) -> Result<Answer, String>,
+) -> Result<(), String> {
+    for length in lengths {
+        same("answer", call(length)?, expected)?;
+    }
+    Ok(())
 }
 
 /// A length about the one that is needed.

@@ -1,7 +1,7 @@
 //! One sheet: the answer, and every byte that was lent; and the pages for which it is compared.
 use super::page::{Fault, Page};
 use super::tally::Tally;
-use super::{about, same};
+use super::{about, gets, same};
 use crate::answer::{Answer, DONE};
 use crate::draw;
 use crate::engine::{Sheet, Sheets};
@@ -50,33 +50,22 @@ pub fn compare(sheets: &impl Sheets, page: &Page, bytes: usize) -> Result<Answer
         .map_err(|difference| format!("{difference}, on {bytes} bytes for {page:?}"))
 }
 
-/// A page gets this answer on each of these destinations.
-fn gets<const N: usize>(
-    sheets: &impl Sheets,
-    page: &Page,
-    destinations: [usize; N],
-    expected: Answer,
-) -> Result<(), String> {
-    for bytes in destinations {
-        same("answer", compare(sheets, page, bytes)?, expected)?;
-    }
-    Ok(())
-}
-
 /// Written where the destination is as long as the sheet or longer, and refused with 24 where it is shorter.
 fn written(sheets: &impl Sheets, page: &Page) -> Result<(), String> {
     let size = page.size();
     let enough = [size + 100, size + 1, size];
     let short = [size - 1, size - 73, size / 2, 1, 0];
-    gets(sheets, page, enough, Answer::done(size))?;
-    gets(sheets, page, short, Answer::refused(24, 0))
+    let call = |bytes| compare(sheets, page, bytes);
+    gets(enough, Answer::done(size), call)?;
+    gets(short, Answer::refused(24, 0), call)
 }
 
 /// Refused with 33, whatever the destination.
 fn refused(sheets: &impl Sheets, page: &Page) -> Result<(), String> {
     let size = page.size();
     let destinations = [size + 100, size, size - 1, 146, 0];
-    gets(sheets, page, destinations, Answer::refused(33, 0))
+    let call = |bytes| compare(sheets, page, bytes);
+    gets(destinations, Answer::refused(33, 0), call)
 }
 
 /// Readings of lengths about a line's, and the longest; lists of none to 1,000 readings; what a run's end may be; and the last faces.

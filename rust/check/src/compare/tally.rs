@@ -1,5 +1,5 @@
-//! How often each answer was seen, each place of idle cycles and each rival of the shown one, so that a test can show that it tried them
-//! all.
+//! How often each answer was seen, each place of idle cycles, each rival of the shown one, and how many cuts words have, so that a test can
+//! show that it tried them all.
 use super::loops::{self, Loops};
 use super::rival::{self, Rival};
 use super::start::Start;
@@ -12,6 +12,17 @@ pub struct Tally {
     seen: BTreeMap<(u32, u32), u64>,
     loops: BTreeMap<Loops, u64>,
     rivals: BTreeMap<Rival, u64>,
+    cuts: BTreeMap<Cuts, u64>,
+}
+
+/// In how many ways a word is cut.
+#[derive(Clone, Copy, Debug, PartialEq, Eq, PartialOrd, Ord)]
+pub enum Cuts {
+    None,
+    One,
+    Few,
+    /// Ten or more.
+    Many,
 }
 
 /// Each of these was counted at least so often.
@@ -38,6 +49,17 @@ impl Tally {
                 *self.rivals.entry(rival).or_default() += 1;
             }
         }
+    }
+
+    /// A word, by the number of its cuts.
+    pub fn add_cuts(&mut self, count: usize) {
+        let cuts = match count {
+            0 => Cuts::None,
+            1 => Cuts::One,
+            2..10 => Cuts::Few,
+            _ => Cuts::Many,
+        };
+        *self.cuts.entry(cuts).or_default() += 1;
     }
 
     /// How often a kind of answer was seen.
@@ -70,6 +92,11 @@ impl Tally {
     /// Starts with idle cycles in each of these places were seen at least so often.
     pub fn demand_loops(&self, least: u64, places: &[Loops]) {
         demand_each(least, &self.loops, places);
+    }
+
+    /// Words with each of these were seen at least so often.
+    pub fn demand_cuts(&self, least: u64, cuts: &[Cuts]) {
+        demand_each(least, &self.cuts, cuts);
     }
 
     /// Starts whose table has each of these beside the shown cycle were seen at least so often.

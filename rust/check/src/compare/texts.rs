@@ -1,49 +1,29 @@
 //! A table's text read and written: the answer and every cell of the destination.
 use super::tally::Tally;
-use super::{about, same};
+use super::{about, filled, same};
 use crate::answer::{Answer, DONE};
 use crate::draw;
 use crate::engine::Texts;
-use crate::lent::Lent;
 use crate::model::Model;
 use crate::random::Random;
 use crate::text;
 
 /// Reads a text into a destination of so many cells.
 pub fn read(texts: &impl Texts, source: &[u8], cells: usize) -> Result<Answer, String> {
-    let stale = vec![0x5A5A; cells];
-    let mut expected_cells = stale.clone();
-    let expected = Model.read(source, &mut expected_cells);
-    let mut lent = Lent::new(source, 0xAB);
-    let mut destination = Lent::new(&stale, 0xABCD);
-    let answer = texts.read(lent.lend(), destination.lend());
-    let check = || {
-        same("answer", answer, expected)?;
-        destination.expect("destination", &expected_cells)?;
-        lent.expect("text", source)
-    };
-    check().map_err(|difference| {
+    let read = |text: &[u8], table: &mut [u16]| texts.read(text, table);
+    let model = |text: &[u8], table: &mut [u16]| Model.read(text, table);
+    filled::compare(source, cells, model, read).map_err(|difference| {
         let source = String::from_utf8_lossy(source);
         format!("{difference}, reading to {cells} cells {source:?}")
-    })?;
-    Ok(expected)
+    })
 }
 
 /// Writes a table into a destination of so many bytes.
 pub fn write(texts: &impl Texts, source: &[u16], bytes: usize) -> Result<Answer, String> {
-    let stale = vec![0x5A; bytes];
-    let mut expected_bytes = stale.clone();
-    let expected = Model.write(source, &mut expected_bytes);
-    let mut lent = Lent::new(source, 0xABCD);
-    let mut destination = Lent::new(&stale, 0xAB);
-    let answer = texts.write(lent.lend(), destination.lend());
-    let check = || {
-        same("answer", answer, expected)?;
-        destination.expect("destination", &expected_bytes)?;
-        lent.expect("table", source)
-    };
-    check().map_err(|difference| format!("{difference}, writing to {bytes} bytes {source:?}"))?;
-    Ok(expected)
+    let write = |table: &[u16], text: &mut [u8]| texts.write(table, text);
+    let model = |table: &[u16], text: &mut [u8]| Model.write(table, text);
+    filled::compare(source, bytes, model, write)
+        .map_err(|difference| format!("{difference}, writing to {bytes} bytes {source:?}"))
 }
 
 /// A random table written, and the text read back.

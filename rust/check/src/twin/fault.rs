@@ -62,3 +62,52 @@ pub const SHORT_FIRST: u8 = 28;
 pub const WRITTEN_EARLY: u8 = 29;
 /// A zero is put after the sheet, where the destination goes on.
 pub const ZERO_AFTER: u8 = 30;
+
+/// The arc that cuts stands before the other arcs of a word's end.
+pub const CUT_FIRST: u8 = 31;
+/// The arc that cuts reads the letter that it writes.
+pub const CUT_READ: u8 = 32;
+/// The root counts as a word's end.
+pub const ROOT_AN_END: u8 = 33;
+/// A word that the next one goes on from is not marked as a word.
+pub const SHORTER_MISSED: u8 = 34;
+/// A word is listed twice.
+pub const REPEATED: u8 = 35;
+/// A word may be before the one before it.
+pub const UNORDERED: u8 = 36;
+/// A word may stand after one that goes on from it.
+pub const SHORTER_AFTER: u8 = 37;
+/// A table may have 257 states.
+pub const STATES_257: u8 = 38;
+/// A table may have no more than 255 states.
+pub const STATES_255: u8 = 39;
+/// A listed word may have the letter 63.
+pub const LETTER_63: u8 = 40;
+/// A listed word may have a letter 0.
+pub const LETTER_0: u8 = 41;
+/// A listed word may have 65 letters.
+pub const WORD_OF_65: u8 = 42;
+/// A listed word may have no letters.
+pub const WORD_OF_0: u8 = 43;
+/// Of a word that is cut short what is there is taken.
+pub const CUT_TAKEN: u8 = 44;
+/// A word that is cut short is left out.
+pub const CUT_DROPPED: u8 = 45;
+/// An empty list is refused.
+pub const NONE_REFUSED: u8 = 46;
+/// At one word 31 comes before 30.
+pub const ORDER_FIRST: u8 = 47;
+/// At one word 32 comes before 31.
+pub const STATES_FIRST: u8 = 48;
+/// All words are looked at for 30 before any for 31 and 32.
+pub const BAD_FIRST: u8 = 49;
+/// All words are looked at for 30 and 31 before any for 32.
+pub const STATES_LAST: u8 = 50;
+/// A list's destination is looked at before its faults.
+pub const LIST_SHORT_FIRST: u8 = 51;
+/// A cell is cleared where the list is refused.
+pub const REFUSED_TOUCHED: u8 = 52;
+/// Cells are written to a short destination as far as they go.
+pub const SHORT_FILLED: u8 = 53;
+/// A zero is put after the table, where the destination goes on.
+pub const CELL_AFTER: u8 = 54;

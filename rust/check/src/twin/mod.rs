@@ -9,9 +9,11 @@ mod scan;
 mod search;
 mod sheet;
 mod shown;
+mod spelled;
+mod words;
 
 use crate::answer::{Answer, Run, Started};
-use crate::engine::{Engine, Next, Sheet, Sheets, Start};
+use crate::engine::{Engine, Next, Sheet, Sheets, Start, Trees};
 use check::View;
 use search::Search;
 
@@ -87,6 +89,13 @@ impl<const FAULT: u8, const VECTOR: bool> Engine for Twin<FAULT, VECTOR> {
             2 => Search::<true, false, FAULT>::new(&view, &call).call(call),
             _ => Search::<false, true, FAULT>::new(&view, &call).call(call),
         }
+    }
+}
+
+impl<const FAULT: u8, const VECTOR: bool> Trees for Twin<FAULT, VECTOR> {
+    #[inline(never)]
+    fn tree(&self, words: &[u8], table: &mut [u16]) -> Answer {
+        words::read::<FAULT>(words, table)
     }
 }
 

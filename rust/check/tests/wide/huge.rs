@@ -6,7 +6,7 @@ use crate::narrow::Part::*;
 use crate::{Checked, is, tells};
 use readings_check::answer::{Answer, Run};
 use readings_check::compare::page::Page;
-use readings_check::engine::{Engine, Next, Sheets, Start, Texts};
+use readings_check::engine::{Engine, Next, Sheets, Start, Texts, Trees};
 use readings_check::text::K;
 use reserved::Reserved;
 
@@ -97,6 +97,21 @@ fn texts(boundary: &Boundary) -> Checked {
 fn huge_texts() {
     for part in [ReadText, ReadTable, WriteTable, WriteText] {
         tells(texts, part, CUTS);
+    }
+}
+
+/// A list here is a word of one letter, then words of none.
+fn lists(boundary: &Boundary) -> Checked {
+    let words = Reserved::new(&[1, 1], HUGE);
+    is(boundary.tree(&words, &mut [0; 14]), Answer::refused(30, 0))?;
+    let mut cells = Reserved::new(&[], HUGE);
+    is(boundary.tree(&[1, 1], &mut cells), Answer::done(14))
+}
+
+#[test]
+fn huge_lists() {
+    for part in [ListWords, ListTable] {
+        tells(lists, part, CUTS);
     }
 }
 

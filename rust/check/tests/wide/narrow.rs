@@ -1,6 +1,6 @@
 //! The library behind a boundary that cuts one value of its calls: the faults that wide values are to show.
 use readings_check::answer::{Answer, Run, Started};
-use readings_check::engine::{Engine, Next, Sheet, Sheets, Start, Texts};
+use readings_check::engine::{Engine, Next, Sheet, Sheets, Start, Texts, Trees};
 use readings_check::library::Library;
 use std::borrow::Cow;
 
@@ -16,6 +16,11 @@ pub enum Part {
     WriteCells,
     WriteText,
     WriteLength,
+
+    ListWords,
+    ListTable,
+    ListCells,
+    ListLength,
 
     StartTable,
     StartCells,
@@ -123,6 +128,13 @@ impl Boundary {
         }
     }
 
+    /// The same in their place.
+    fn cut_cells(&self, part: Part, cells: &mut [u16]) {
+        if let Cow::Owned(narrow) = self.cells(part, cells) {
+            cells.copy_from_slice(&narrow);
+        }
+    }
+
     fn frames(&self, part: Part, stack: &mut [u32]) {
         if self.fault.is_some_and(|(faulty, _)| faulty == part) {
             for cell in stack {
@@ -141,9 +153,7 @@ impl Texts for Boundary {
         }
         let table = self.front_mut(Part::ReadTable, table);
         let mut answer = Library.read(self.front(Part::ReadText, text), table);
-        if let Cow::Owned(narrow) = self.cells(Part::ReadCells, table) {
-            table.copy_from_slice(&narrow);
-        }
+        self.cut_cells(Part::ReadCells, table);
         answer.length = self.number(Part::ReadLength, answer.length);
         answer
     }
@@ -152,6 +162,16 @@ impl Texts for Boundary {
         let table = self.cells(Part::WriteCells, self.front(Part::WriteTable, table));
         let mut answer = Library.write(&table, self.front_mut(Part::WriteText, text));
         answer.length = self.number(Part::WriteLength, answer.length);
+        answer
+    }
+}
+
+impl Trees for Boundary {
+    fn tree(&self, words: &[u8], table: &mut [u16]) -> Answer {
+        let table = self.front_mut(Part::ListTable, table);
+        let mut answer = Library.tree(self.front(Part::ListWords, words), table);
+        self.cut_cells(Part::ListCells, table);
+        answer.length = self.number(Part::ListLength, answer.length);
         answer
     }
 }
