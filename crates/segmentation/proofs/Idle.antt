@@ -13,7 +13,8 @@ use Rattle.machine.specs.Idle.{sideIdle, idle, IdleArc, NoIdleCycle}
 use Rattle.lexicon.specs.Words.{Word}
 use Rattle.trie_format.specs.Trie.{tableOn}
 use Rattle.trie_format.proofs.Names.{Names}
-use Rattle.trie_format.proofs.Shapes.{Shape, arcs-shape}
+use Rattle.trie_format.specs.Facts.{TreeArc}
+use Rattle.trie_format.proofs.Shapes.{end-above, arcs-shape}
 
 -- an arc with two letters is idle for no task
 not-idle : (k : Task) (u l : ℕ) → 1 ≤ u → 1 ≤ l → (sideIdle (reads k upperSide) u && sideIdle (reads k lowerSide) l) ≡ true → ⊥
@@ -24,13 +25,13 @@ not-idle synthesis (suc u) (suc l) h i e = false≢true e
 not-idle analysis (suc u) (suc l) h i e = false≢true e
 
 module _ (ws bs : List Word) (N : Names ws bs) (k : Task) where
-  idle-arc : (a : Arc) → Shape bs a → idle k a ≡ true → (0 < a .source) × (a .target ≡ 0)
+  idle-arc : (a : Arc) → TreeArc ws bs a → idle k a ≡ true → (0 < a .source) × (a .target ≡ 0)
   idle-arc a (inl S) e = absurd (not-idle k (a .upper) (a .lower) (omega (arith, S .same, S .low)) (S .low) e)
-  idle-arc a (inr S) e = (S .above, S .to-root)
+  idle-arc a (inr S) e = (end-above ws bs N a S, S .to-root)
 
   idle-leads : (s r : ℕ) → IdleArc (tableOn ws bs) k s r → (0 < s) × (r ≡ 0)
   idle-leads s r A =
-      let I = idle-arc (A .arc) (all-mem (Shape bs) (tableOn ws bs .arcs) (arcs-shape ws bs N) (A .arc) (A .listed)) (A .passes) in
+      let I = idle-arc (A .arc) (all-mem (TreeArc ws bs) (tableOn ws bs .arcs) (arcs-shape ws bs) (A .arc) (A .listed)) (A .passes) in
       (omega (arith, I .0, A .from), sym (A .to) ∙ I .1)
 
   idle-walk : (l : List ℕ) (s r : ℕ) → Through (IdleArc (tableOn ws bs) k) s l r → (0 < s) × (r ≡ 0)

@@ -1,7 +1,7 @@
 -- The theorems about the letter tree's table, stated together. What each one means is in specs/; how it is shown is in the files that it names.
 use Prim.Native.Nat.{ℕ, _*_, _≤_, _<_}
 use mathlib.Core.Path.{_≡_, refl}
-use mathlib.Core.Logic.{_↔_, _⊎_}
+use mathlib.Core.Logic.{_↔_}
 use mathlib.Core.Bool.{true}
 use mathlib.Core.Option.{some}
 use mathlib.Core.List.{List, [], _∷_, _++_, List·Memᴰ}
@@ -17,11 +17,10 @@ use Rattle.lexicon.specs.Lexicon.{mostStates}
 use Rattle.lexicon.specs.FirstBad.{Kept}
 use Rattle.lexicon.proofs.Beginnings.{beginnings-rise, rising-distinct}
 use Rattle.trie_format.specs.Trie.{letterArcs, trieTable}
+use Rattle.trie_format.specs.Facts.{TreeArc, rank, Ranked}
 use Rattle.trie_format.proofs.Names.{names}
-use Rattle.trie_format.proofs.Ranks.{Ranked}
-use Rattle.trie_format.proofs.Shapes.{ByLetter, rank, arcs-between}
+use Rattle.trie_format.proofs.Shapes.{arcs-between}
 use Rattle.trie_format.proofs.Rules as rules
-use Rattle.trie_format.proofs.Arcs.{FromEnd}
 use Rattle.trie_format.proofs.Arcs as arcs
 
 module _ (ws : List Word) (K : Kept ws) where
@@ -49,16 +48,15 @@ module _ (ws : List Word) (holds : listHolds ws ≡ true) where
   pub terminals-are : (s : ℕ) → List·Memᴰ s (trieTable ws .terminals) ↔ ((s < length (beginnings ws)) × List·Memᴰ (getD (beginnings ws) s []) ws)
   terminals-are = arcs.terminals-are ws holds
 
-  -- "Every word end has a last arc that reads nothing, writes letter 63 and goes back to the root; other arcs read and write one letter": from a
-  -- state to that of its beginning and the letter,
-  pub arcs-are : (a : Arc) → List·Memᴰ a (trieTable ws .arcs) ↔ (ByLetter (beginnings ws) a ⊎ FromEnd ws (beginnings ws) a)
+  -- "Every word end has a last arc that reads nothing, writes letter 63 and goes back to the root; other arcs read and write one letter"
+  pub arcs-are : (a : Arc) → List·Memᴰ a (trieTable ws .arcs) ↔ TreeArc ws (beginnings ws) a
   arcs-are = arcs.arcs-are ws holds
 
-  -- "and stand by rising letter": they rise by their source, and then by what they write, of which 63 is the last; no other list is so.
+  -- "and stand by rising letter"; no other list is so.
   pub arcs-rise : Ranked rank (trieTable ws .arcs)
   arcs-rise = (0, length (beginnings ws) * 64, arcs-between ws (beginnings ws))
 
-  pub arcs-only : (l : List Arc) → Ranked rank l → ((a : Arc) → List·Memᴰ a l ↔ (ByLetter (beginnings ws) a ⊎ FromEnd ws (beginnings ws) a)) → l ≡ trieTable ws .arcs
+  pub arcs-only : (l : List Arc) → Ranked rank l → ((a : Arc) → List·Memᴰ a l ↔ TreeArc ws (beginnings ws) a) → l ≡ trieTable ws .arcs
   arcs-only = arcs.arcs-only ws holds
 
 -- An empty list gives the table of one state.

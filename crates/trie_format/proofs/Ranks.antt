@@ -10,6 +10,7 @@ use Rattle.table_format.proofs.All.{All, all-append, at-mem}
 use Rattle.graph.specs.Lists.{Distinct}
 use Rattle.graph.proofs.Sorted.{sorted-distinct, sorted-unique}
 use Rattle.lexicon.specs.Words.{Word}
+use Rattle.trie_format.specs.Facts.{Between, Ranked}
 use Rattle.trie_format.specs.Trie.{byState}
 
 -- of a list that has none twice, equal elements have one place
@@ -39,46 +40,38 @@ module _ {A : Type 0} (P : A → Type 0) (f : ℕ → Word → List A) where
   all-by bs h = all-from bs 0 (λ s k e l. let E : k ≡ s = omega arith in subst (λ (z : ℕ). All P (f z (getD bs k []))) E (h k l))
 
 module _ {A : Type 0} (rank : A → ℕ) where
-  -- the ranks rise, from r on and below m
-  abbrev pub Between : ℕ → ℕ → List A → Type 0
-  Between r m [] = r ≤ m
-  Between r m (a ∷ l) = (r ≤ rank a) × Between (suc (rank a)) m l
-
-  pub between-from : (l : List A) (q r m : ℕ) → q ≤ r → Between r m l → Between q m l
+  pub between-from : (l : List A) (q r m : ℕ) → q ≤ r → Between rank r m l → Between rank q m l
   between-from [] q r m h B = omega arith
   between-from (a ∷ l) q r m h B = (omega (arith, B .0), B .1)
 
-  pub between-append : (l k : List A) (r m n : ℕ) → Between r m l → Between m n k → Between r n (l ++ k)
+  pub between-append : (l k : List A) (r m n : ℕ) → Between rank r m l → Between rank m n k → Between rank r n (l ++ k)
   between-append [] k r m n B C = between-from k r m n B C
   between-append (a ∷ l) k r m n B C = (B .0, between-append l k (suc (rank a)) m n (B .1) C)
 
   -- state by state, where those of state s stand from (width s) on
-  pub between-by : (f : ℕ → Word → List A) (width : ℕ → ℕ) → ((s : ℕ) (b : Word) → Between (width s) (width (suc s)) (f s b)) → (bs : List Word) (i : ℕ)
-      → Between (width i) (width (i + length bs)) (byState f i bs)
+  pub between-by : (f : ℕ → Word → List A) (width : ℕ → ℕ) → ((s : ℕ) (b : Word) → Between rank (width s) (width (suc s)) (f s b)) → (bs : List Word) (i : ℕ)
+      → Between rank (width i) (width (i + length bs)) (byState f i bs)
   between-by f width h [] i = let e : i ≡ i + 0 = omega arith in subst (λ (z : ℕ). width i ≤ width z) e (omega arith)
   between-by f width h (b ∷ bs) i =
       let e : suc i + length bs ≡ i + suc (length bs) = omega arith in
       between-append (f i b) (byState f (suc i) bs) (width i) (width (suc i)) (width (i + suc (length bs))) (h i b)
-      (subst (λ (z : ℕ). Between (width (suc i)) (width z) (byState f (suc i) bs)) e (between-by f width h bs (suc i)))
+      (subst (λ (z : ℕ). Between rank (width (suc i)) (width z) (byState f (suc i) bs)) e (between-by f width h bs (suc i)))
 
-  between-above : (l : List A) (r m : ℕ) → Between r m l → (a : A) → List·Memᴰ a l → r ≤ rank a
+  between-above : (l : List A) (r m : ℕ) → Between rank r m l → (a : A) → List·Memᴰ a l → r ≤ rank a
   between-above [] r m B a h = absurd (List·Memᴰ·not-nil h)
   between-above (b ∷ l) r m B a h =
       ⊎-elim (λ e. subst (λ (c : A). r ≤ rank c) (sym e) (B .0)) (λ k. omega (arith, B .0, between-above l (suc (rank b)) m (B .1) a k)) (List·Memᴰ·cases-cons h)
 
   -- So they are in order.
 
-  abbrev pub Ranked : List A → Type 0
-  Ranked l = (r : ℕ) × (m : ℕ) × Between r m l
-
-  ranked-parts : (a : A) (l : List A) → Ranked (a ∷ l) → ((b : A) → List·Memᴰ b l → rank a < rank b) × Ranked l
+  ranked-parts : (a : A) (l : List A) → Ranked rank (a ∷ l) → ((b : A) → List·Memᴰ b l → rank a < rank b) × Ranked rank l
   ranked-parts a l R = (between-above l (suc (rank a)) (R .1) (R .2 .1), (suc (rank a), R .1, R .2 .1))
 
-  pub ranked-distinct : (l : List A) → Ranked l → Distinct l
-  ranked-distinct = sorted-distinct (λ a b. rank a < rank b) (λ a b h k. omega arith) Ranked ranked-parts
+  pub ranked-distinct : (l : List A) → Ranked rank l → Distinct l
+  ranked-distinct = sorted-distinct (λ a b. rank a < rank b) (λ a b h k. omega arith) (Ranked rank) ranked-parts
 
-  pub ranked-unique : (l k : List A) → Ranked l → Ranked k → ((a : A) → List·Memᴰ a l ↔ List·Memᴰ a k) → l ≡ k
-  ranked-unique = sorted-unique (λ a b. rank a < rank b) (λ a b h k. omega arith) Ranked ranked-parts
+  pub ranked-unique : (l k : List A) → Ranked rank l → Ranked rank k → ((a : A) → List·Memᴰ a l ↔ List·Memᴰ a k) → l ≡ k
+  ranked-unique = sorted-unique (λ a b. rank a < rank b) (λ a b h k. omega arith) (Ranked rank) ranked-parts
 
 -- numbers that rise
 pub between-rise : (l : List ℕ) (r m : ℕ) → Between (λ s. s) r m l → Rise l

@@ -16,10 +16,11 @@ use Rattle.table_format.proofs.Loaded.{length-cells}
 use Rattle.graph.specs.Lists.{Distinct}
 use Rattle.graph.proofs.Pigeon.{pigeon}
 use Rattle.lexicon.specs.Words.{Word, listed}
+use Rattle.trie_format.specs.Facts.{ByLetter, TreeArc, rank, Between}
 use Rattle.trie_format.specs.Trie.{byState, letterArcs, cutArc, arcsOf, tableOn}
 use Rattle.trie_format.proofs.Names.{ends, snoc-parts, Names}
-use Rattle.trie_format.proofs.Ranks.{distinct-differ, distinct-map, all-by, Between, between-by, between-rise, ranked-distinct}
-use Rattle.trie_format.proofs.Shapes.{ByLetter, Shape, letter-above, letters-shape, arcs-shape, rank, state-between, arcs-between}
+use Rattle.trie_format.proofs.Ranks.{distinct-differ, distinct-map, all-by, between-by, between-rise, ranked-distinct}
+use Rattle.trie_format.proofs.Shapes.{letter-above, letters-shape, arcs-shape, ends-shape, state-between, arcs-between}
 
 -- sources do not fall where ranks rise
 at-least : (l : List Arc) (s r m : ℕ) → s * 64 ≤ r → Between rank r m l → All (λ a. a .lower ≤ 63) l → AtLeast s l
@@ -120,20 +121,13 @@ module _ (ws bs : List Word) where
         go i true = (omega arith, omega arith)
         go i false = omega arith
 
-    ends-in : All (λ s. s < length bs) (ends (listed ws) 0 bs)
-    ends-in = all-by (λ s. s < length bs) (λ i b. cond (listed ws b) (i ∷ []) []) bs (λ s h. go s (listed ws (getD bs s [])) h)
-      where
-        go : (s : ℕ) (x : Bool) → s < length bs → All (λ s. s < length bs) (cond x (s ∷ []) [])
-        go s true h = (h, tt)
-        go s false h = tt
-
     -- an arc between states, with letters up to 63
-    inside : (a : Arc) → Shape bs a → (a .source < length bs) × (a .target < length bs) × (a .upper ≤ 63) × (a .lower ≤ 63)
+    inside : (a : Arc) → TreeArc ws bs a → (a .source < length bs) × (a .target < length bs) × (a .upper ≤ 63) × (a .lower ≤ 63)
     inside a (inl S) = (S .source-in, S .target-in, omega (arith, S .same, S .high), omega (arith, S .high))
     inside a (inr S) = (S .source-in, omega (arith, S .to-root, N .some-state), omega (arith, S .reads-none), omega (arith, S .writes-cut))
 
     arc-inside : (a : Arc) → List·Memᴰ a (tableOn ws bs .arcs) → (a .source < length bs) × (a .target < length bs) × (a .upper ≤ 63) × (a .lower ≤ 63)
-    arc-inside a m = inside a (all-mem (Shape bs) (tableOn ws bs .arcs) (arcs-shape ws bs N) a m)
+    arc-inside a m = inside a (all-mem (TreeArc ws bs) (tableOn ws bs .arcs) (arcs-shape ws bs) a m)
 
     pub rules : length bs ≤ 256 → keepsRules (tableOn ws bs) ≡ true
     rules few =
@@ -146,10 +140,10 @@ module _ (ws bs : List Word) where
           initial-in = λ s m. ⊎-elim (λ e. omega (arith, N .some-state)) (λ k. absurd (List·Memᴰ·not-nil k)) (List·Memᴰ·cases-cons m);
           initials-differ = λ d i j h k e. omega arith;
           few-terminals = omega (arith, few-ends);
-          terminal-in = all-mem (λ s. s < length bs) (ends (listed ws) 0 bs) ends-in;
+          terminal-in = λ s m. all-mem (λ s. (s < length bs) × List·Memᴰ (getD bs s []) ws) (tableOn ws bs .terminals) (ends-shape ws bs) s m .0;
           terminals-rise = between-rise (ends (listed ws) 0 bs) 0 (0 + length bs) ends-rise;
           few-arcs = omega (arith, few-arcs);
-          rising = at-least (tableOn ws bs .arcs) 0 0 (length bs * 64) (omega arith) (arcs-between ws bs) (low (tableOn ws bs .arcs) (arcs-shape ws bs N));
+          rising = at-least (tableOn ws bs .arcs) 0 0 (length bs * 64) (omega arith) (arcs-between ws bs) (low (tableOn ws bs .arcs) (arcs-shape ws bs));
           source-in = λ a m. arc-inside a m .0;
           target-in = λ a m. arc-inside a m .1;
           upper-in = λ a m. arc-inside a m .2;
@@ -157,7 +151,7 @@ module _ (ws bs : List Word) where
           arcs-differ = distinct-differ (tableOn ws bs .arcs) (ranked-distinct rank (tableOn ws bs .arcs) (0, length bs * 64, arcs-between ws bs));
         })
       where
-        low : (l : List Arc) → All (Shape bs) l → All (λ a. a .lower ≤ 63) l
+        low : (l : List Arc) → All (TreeArc ws bs) l → All (λ a. a .lower ≤ 63) l
         low [] p = tt
         low (a ∷ l) p = (inside a (p .0) .3, low l (p .1))
 

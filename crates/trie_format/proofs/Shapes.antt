@@ -2,18 +2,20 @@
 use Prim.Native.Nat.{ℕ, zero, suc, _+_, _*_, _≤_, _<_}
 use native.Mathlib.Omega.{arith}
 use mathlib.Core.Path.{_≡_, refl, sym, ap, subst, _∙_}
-use mathlib.Core.Logic.{_⊎_, inl, inr}
+use mathlib.Core.Logic.{inl, inr}
 use mathlib.Core.Bool.{Bool, true, false, cond, true≢false}
 use mathlib.Core.Option.{Option, none, some}
-use mathlib.Core.List.{List, [], _∷_, _++_}
+use mathlib.Core.List.{List, [], _∷_, _++_, List·Memᴰ}
 use lib.ListN.{length, getD}
 use Rattle.table_format.specs.Table.{Arc}
 use Rattle.table_format.specs.Cells.{arcAs}
 use Rattle.table_format.proofs.All.{All, all-append}
 use Rattle.lexicon.specs.Words.{Word, listed}
-use Rattle.trie_format.specs.Trie.{cutLetter, placeFrom, letterArc, letterArcs, cutArc, arcsOf, tableOn}
+use Rattle.lexicon.proofs.Words.{listed-mem, mem-listed}
+use Rattle.trie_format.specs.Facts.{ByLetter, FromEnd, TreeArc, rank, Between}
+use Rattle.trie_format.specs.Trie.{placeFrom, letterArc, letterArcs, cutArc, arcsOf, tableOn}
 use Rattle.trie_format.proofs.Names.{place-found, above-root, Names}
-use Rattle.trie_format.proofs.Ranks.{all-by, Between, between-from, between-append, between-by}
+use Rattle.trie_format.proofs.Ranks.{all-by, between-from, between-append, between-by}
 
 -- what holds of every arc by a letter
 pub letters-all : (P : Arc → Type 0) (bs : List Word) (i : ℕ) (b : Word) (k x : ℕ)
@@ -41,29 +43,17 @@ arcs-from ws bs i b = search (all-append (λ (a : Arc). a .source ≡ i), letter
 
 -- Their forms.
 
--- an arc by a letter
-pub record ByLetter (bs : List Word) (a : Arc) : Type 0 where
-  pub source-in : a .source < length bs
-  pub target-in : a .target < length bs
-  pub low : 1 ≤ a .lower
-  pub high : a .lower ≤ 62
-  pub same : a .upper ≡ a .lower
-  pub step : getD bs (a .target) [] ≡ getD bs (a .source) [] ++ (a .lower ∷ [])
-
 -- it does not lead to the root
 pub letter-above : (bs : List Word) → getD bs 0 [] ≡ [] → (a : Arc) → ByLetter bs a → 0 < a .target
 letter-above bs r a S = above-root bs r (a .target) (getD bs (a .source) []) (a .lower) (S .step)
 
--- an arc back to the root
-pub record ByCut (bs : List Word) (a : Arc) : Type 0 where
-  pub source-in : a .source < length bs
-  pub above : 0 < a .source
-  pub reads-none : a .upper ≡ 0
-  pub writes-cut : a .lower ≡ cutLetter
-  pub to-root : a .target ≡ 0
-
-abbrev pub Shape : List Word → Arc → Type 0
-Shape bs a = ByLetter bs a ⊎ ByCut bs a
+-- a word's end is not the root
+pub end-above : (ws bs : List Word) → Names ws bs → (a : Arc) → FromEnd ws bs a → 0 < a .source
+end-above ws bs N a S = go (a .source) (S .word-end)
+  where
+    go : (s : ℕ) → List·Memᴰ (getD bs s []) ws → 0 < s
+    go zero m = absurd (true≢false (sym (mem-listed ws (getD bs 0 []) m) ∙ ap (listed ws) (N .root) ∙ N .no-empty))
+    go (suc s) m = omega arith
 
 pub letters-shape : (bs : List Word) (s : ℕ) → s < length bs → All (ByLetter bs) (letterArcs bs s (getD bs s []) 1 62)
 letters-shape bs s h =
@@ -73,31 +63,32 @@ letters-shape bs s h =
     let J : R .0 ≡ j = omega (arith, R .1) in
     record { source-in = h; target-in = omega (arith, R .2); low = l; high = omega arith; same = refl; step = ap (λ (z : ℕ). getD bs z []) (sym J) ∙ R .3 })
 
-pub arcs-shape : (ws bs : List Word) → Names ws bs → All (Shape bs) (tableOn ws bs .arcs)
-arcs-shape ws bs N = all-by (Shape bs) (arcsOf ws bs) bs both
+pub arcs-shape : (ws bs : List Word) → All (TreeArc ws bs) (tableOn ws bs .arcs)
+arcs-shape ws bs = all-by (TreeArc ws bs) (arcsOf ws bs) bs both
   where
-    all-inl : (l : List Arc) → All (ByLetter bs) l → All (Shape bs) l
+    all-inl : (l : List Arc) → All (ByLetter bs) l → All (TreeArc ws bs) l
     all-inl [] p = tt
     all-inl (a ∷ l) p = (inl (p .0), all-inl l (p .1))
 
-    above : (s : ℕ) → listed ws (getD bs s []) ≡ true → 0 < s
-    above zero e = absurd (true≢false (sym e ∙ ap (listed ws) (N .root) ∙ N .no-empty))
-    above (suc s) e = omega arith
-
-    cut : (s : ℕ) → s < length bs → (x : Bool) → listed ws (getD bs s []) ≡ x → All (Shape bs) (cond x (cutArc s ∷ []) [])
-    cut s h true e = (inr (record { source-in = h; above = above s e; reads-none = refl; writes-cut = refl; to-root = refl }), tt)
+    cut : (s : ℕ) → s < length bs → (x : Bool) → listed ws (getD bs s []) ≡ x → All (TreeArc ws bs) (cond x (cutArc s ∷ []) [])
+    cut s h true e = (inr (record { source-in = h; word-end = listed-mem ws (getD bs s []) e; reads-none = refl; writes-cut = refl; to-root = refl }), tt)
     cut s h false e = tt
 
-    both : (s : ℕ) → s < length bs → All (Shape bs) (arcsOf ws bs s (getD bs s []))
+    both : (s : ℕ) → s < length bs → All (TreeArc ws bs) (arcsOf ws bs s (getD bs s []))
     both s h =
         let letters = all-inl (letterArcs bs s (getD bs s []) 1 62) (letters-shape bs s h) in
         let back = cut s h (listed ws (getD bs s [])) refl in
-        search (all-append (Shape bs), letters, back)
+        search (all-append (TreeArc ws bs), letters, back)
+
+-- the terminal states
+pub ends-shape : (ws bs : List Word) → All (λ s. (s < length bs) × List·Memᴰ (getD bs s []) ws) (tableOn ws bs .terminals)
+ends-shape ws bs = all-by (λ s. (s < length bs) × List·Memᴰ (getD bs s []) ws) (λ i b. cond (listed ws b) (i ∷ []) []) bs (λ s h. go s h (listed ws (getD bs s [])) refl)
+  where
+    go : (s : ℕ) → s < length bs → (x : Bool) → listed ws (getD bs s []) ≡ x → All (λ s. (s < length bs) × List·Memᴰ (getD bs s []) ws) (cond x (s ∷ []) [])
+    go s h true e = ((h, listed-mem ws (getD bs s []) e), tt)
+    go s h false e = tt
 
 -- Their order.
-
-abbrev pub rank : Arc → ℕ
-rank a = a .source * 64 + a .lower
 
 pub letters-between : (bs : List Word) (i : ℕ) (b : Word) (k x : ℕ) → Between rank (i * 64 + x) (i * 64 + (x + k)) (letterArcs bs i b x k)
 unfolding letterArcs

@@ -15,12 +15,13 @@ use Rattle.graph.proofs.Lists.{same?}
 use Rattle.lexicon.specs.Words.{Word}
 use Rattle.lexicon.specs.Beginnings.{RisingWords}
 use Rattle.lexicon.proofs.Beginnings.{rising-distinct}
+use Rattle.trie_format.specs.Facts.{ByLetter, rank, Between}
 use Rattle.trie_format.specs.Trie.{letterArcs}
 use Rattle.trie_states.specs.Tree.{children, childArc, Rows}
 use Rattle.trie_format.proofs.Names.{snoc-parts}
-use Rattle.trie_format.proofs.Ranks.{distinct-differ, Between, ranked-unique}
+use Rattle.trie_format.proofs.Ranks.{distinct-differ, ranked-unique}
 use Rattle.trie_format.proofs.Arcs.{place-here, letters-have}
-use Rattle.trie_format.proofs.Shapes.{letters-from, ByLetter, letter-above, letters-shape, rank, letters-between}
+use Rattle.trie_format.proofs.Shapes.{letters-from, letter-above, letters-shape, letters-between}
 
 -- Children.
 
