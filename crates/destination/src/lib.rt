@@ -3,8 +3,9 @@ use refusal::Refusal;
 use refusal::StateCause;
 ghost use mathlib.Core.Path.{_≡_};
 ghost use mathlib.Core.List.{_++_};
-ghost use Prim.Native.Nat.{_≤_};
+ghost use Prim.Native.Nat.{_+_, _≤_};
 ghost use lib.ListN.{length, drop};
+ghost use lib.Seq.{sets};
 ghost use Rattle.destination.specs.Stored.{storedAnswer, storedCells};
 
 // What a call with a destination answers: how many cells or bytes were written, or a refusal.
@@ -35,4 +36,16 @@ pub fn store_cells(cells: &[u16], destination: &mut [u16]) -> Answer
     }
     copy_cells(cells, destination);
     Answer::Done(cells.len())
+}
+
+// Bytes from a place of a destination on that has room for them.
+pub fn put(destination: &mut [u8], at: usize, bytes: &[u8])
+    requires { ⌜ at + length (now bytes) ≤ length (now destination) ⌝ }
+    ensures { λ _. ⌜ now (destination .exit) ≡ sets (now (destination .entry)) at (now (bytes .entry)) ⌝ }
+{
+    let mut k = 0;
+    while k < bytes.len() {
+        destination[at + k] = bytes[k];
+        k += 1;
+    }
 }

@@ -65,7 +65,7 @@ pub fn common(before: &[u8], word: &[u8]) -> usize
 }
 
 // Whether a word is above the one before it, with which it has the first letters in common.
-fn rises(before: &[u8], word: &[u8], shared: usize) -> bool
+pub fn rises(before: &[u8], word: &[u8], shared: usize) -> bool
     requires { ⌜ shared ≡ common (now before) (now word) ⌝ }
     ensures { λ r. ⌜ r ≡ rises (now (before .entry)) (now (word .entry)) ⌝ }
 {

@@ -6,6 +6,7 @@
 //     2E number                    a refusal
 //
 // Where standard input cannot be read or standard output not be written, it says so on standard error and stops.
+use input::Got;
 use session::LineResult;
 use session::STACK_CELLS;
 use session_opening::Opening;
@@ -13,43 +14,6 @@ use session_opening::SessionState;
 use session_replies::LINE_CHARACTERS;
 use session_replies::OUTPUT_LETTERS;
 use table_format::MOST_CELLS;
-ghost use lib.ListN.{length};
-ghost use Rattle.readings.specs.Read.{Within};
-
-// What reading comes to: so many bytes, or that it failed.
-pub enum Got {
-    Bytes(usize),
-    Failed,
-}
-
-// One read, into a part of the input.
-fn read_some(part: &mut [u8]) -> Got
-    ensures { λ r. ⌜ Within r (length (now (part .exit))) ⌝ }
-{
-    let got = libc::read(0, part);
-    if got < 0 {
-        return Got::Failed;
-    }
-    Got::Bytes(io::count(got, part))
-}
-
-// Standard input, to its end or until there is no room left.
-fn read_input(input: &mut [u8]) -> Got
-    ensures { λ r. ⌜ Within r (length (now (input .exit))) ⌝ }
-{
-    let mut at = 0;
-    while at < input.len() {
-        let got = read_some(&mut input[at..]);
-        let Got::Bytes(more) = got else {
-            return Got::Failed;
-        };
-        if more == 0 {
-            return Got::Bytes(at);
-        }
-        at += more;
-    }
-    Got::Bytes(at)
-}
 
 // Whether a line was written.
 fn write_line(line: &[u8]) -> bool {
@@ -91,8 +55,8 @@ fn write_lines(
 }
 
 fn main() {
-    let mut input = [0u8; session_opening::MOST_INPUT + 1];
-    let got = read_input(&mut input);
+    let mut text = [0u8; session_opening::MOST_INPUT + 1];
+    let got = input::read_all(0, &mut text);
     let Got::Bytes(count) = got else {
         io::write_all(2, b"readings: standard input cannot be read\n");
         return;
@@ -100,7 +64,7 @@ fn main() {
     let mut table = [0u16; MOST_CELLS];
     let mut query = [0u8; session_query::QUERY_BYTES];
     let mut line = [0u8; LINE_CHARACTERS];
-    let opening = session_opening::begin(&input[..count], &mut table, &mut query);
+    let opening = session_opening::begin(&text[..count], &mut table, &mut query);
     match opening {
         Opening::Refused(refusal) => {
             let length = session::refused_line(refusal, &mut line);

@@ -1,5 +1,5 @@
 -- One line of a session at a time. The headline theorem says that these lines, one after another, are those of Session.
-use Prim.Native.Nat.{ℕ, _+_, _≤_}
+use Prim.Native.Nat.{ℕ, _+_}
 use mathlib.Core.Path.{_≡_}
 use mathlib.Core.Bool.{cond}
 use mathlib.Core.Option.{Option, none, some}
@@ -32,13 +32,6 @@ resultLine (C.Reading n run calls) count output = readingLine (count + 1) (take 
 resultLine C.Ended count output = endLine count
 resultLine (C.Refused r) count output = refusalLine r
 resultLine C.Spent count output = limitLine count
-
--- a reading's letters are in the output buffer
-abbrev pub Fits : CallResult → List ℕ → Type 0
-Fits (C.Reading n run calls) output = n ≤ length output
-Fits C.Ended output = Unit {0}
-Fits (C.Refused r) output = Unit {0}
-Fits C.Spent output = Unit {0}
 
 -- only after a reading does another line follow
 abbrev pub stateAfter : CallResult → ℕ → Option SessionState

@@ -9,9 +9,10 @@ use session_replies::LINE_CHARACTERS;
 use session_replies::OUTPUT_LETTERS;
 ghost use mathlib.Core.Path.{_≡_};
 ghost use Prim.Native.Nat.{_<_};
+ghost use Rattle.session_calls.specs.Calls.{Fits};
 ghost use Rattle.session_replies.specs.Lines.{refusalLine, LineStored};
 ghost use Rattle.session.specs.Session.{mostReadings, firstStack, firstOutput};
-ghost use Rattle.session.specs.Next.{Fits, lineTold, ResultLineIs, lineOutcome, LineOutcomeIs};
+ghost use Rattle.session.specs.Next.{lineTold, ResultLineIs, lineOutcome, LineOutcomeIs};
 
 // The readings of a session.
 pub const MOST_READINGS: u16 = 1000;

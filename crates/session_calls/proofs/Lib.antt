@@ -1,2 +1,3 @@
 -- Laws of the loop.
 pub mod Turns
+pub mod Fitting

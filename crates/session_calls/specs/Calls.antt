@@ -1,7 +1,8 @@
 -- Calls until one is not Paused or none is left.
-use Prim.Native.Nat.{ℕ, zero, suc}
+use Prim.Native.Nat.{ℕ, zero, suc, _≤_}
 use mathlib.Core.Path.{_≡_}
 use mathlib.Core.List.{List}
+use lib.ListN.{length}
 use Rattle.machine.specs.declared.Run.{Run}
 use Rattle.machine.specs.declared.Answer.{Answer}
 use Rattle.machine.specs.declared.Answer.the-variants.{Found, Paused, Ended, Refused}
@@ -39,3 +40,10 @@ callsOutcome cells upper lower (suc calls) run stack output =
 -- what calls come to, and the stack and the output buffer at exit
 abbrev pub CallsOutcomeIs : CallsOutcome → CallResult → List ℕ → List ℕ → Type 0
 CallsOutcomeIs x r s o = (r ≡ x .result) × (s ≡ x .stack) × (o ≡ x .output)
+
+-- a reading's letters are in the output buffer
+abbrev pub Fits : CallResult → List ℕ → Type 0
+Fits (C.Reading n run calls) output = n ≤ length output
+Fits C.Ended output = Unit {0}
+Fits (C.Refused r) output = Unit {0}
+Fits C.Spent output = Unit {0}

@@ -2,6 +2,7 @@
 use crate::ends::last_line;
 use crate::ends::opening_line;
 use destination::Answer;
+use destination::put;
 use faces::FACES;
 use faces::faces_hold;
 use faces::list::letters_at;
@@ -10,7 +11,6 @@ use refusal::InputCause;
 use refusal::Refusal;
 use refusal::StateCause;
 use sheet_lines::LINE;
-use sheet_lines::put;
 use sheet_lines::reading::lines_for;
 use sheet_lines::reading::put_reading;
 ghost use mathlib.Core.Path.{_≡_};

@@ -10,18 +10,6 @@ ghost use lib.Seq.{sets};
 // Characters of a line, with its line feed.
 pub const LINE: usize = 73;
 
-// Characters as they are.
-pub fn put(sheet: &mut [u8], at: usize, characters: &[u8])
-    requires { ⌜ at + length (now characters) ≤ length (now sheet) ⌝ }
-    ensures { λ _. ⌜ now (sheet .exit) ≡ sets (now (sheet .entry)) at (now (characters .entry)) ⌝ }
-{
-    let mut k = 0;
-    while k < characters.len() {
-        sheet[at + k] = characters[k];
-        k += 1;
-    }
-}
-
 // Blanks up to the end of a line, and the line feed.
 pub fn put_end(sheet: &mut [u8], at: usize, end: usize)
     requires { ⌜ (at ≤ end) × (end < length (now sheet)) ⌝ }

@@ -1,7 +1,7 @@
 // A reading's lines: its ordinal, rows of 66 letters as their faces, and the lines on which it goes on.
 use crate::LINE;
-use crate::put;
 use crate::put_end;
+use destination::put;
 use faces::FACES;
 ghost use mathlib.Core.Path.{_≡_};
 ghost use mathlib.Core.Bool.{true};

@@ -6,6 +6,7 @@ pub mod draw;
 pub mod engine;
 pub mod german;
 pub mod idle;
+pub mod keys;
 pub mod lent;
 pub mod library;
 pub mod lister;

@@ -1,7 +1,7 @@
 //! The inputs under examples/ print what stands beside them.
 mod common;
 
-use common::{from_root, program};
+use common::{built, from_root, program, run};
 use readings::Table;
 use readings_check::german;
 use readings_check::model::Model;
@@ -13,11 +13,12 @@ use std::fs;
 use std::path::{Path, PathBuf};
 use std::process::Command;
 
-/// Every input with its output.
+/// Every input of a session with its output. It begins with a table's header; a word list does not.
 fn examples() -> Vec<(PathBuf, PathBuf)> {
     let folder = fs::read_dir(from_root("examples")).expect("the folder examples/");
     let mut inputs: Vec<PathBuf> = folder.map(|entry| entry.expect("a file").path()).collect();
     inputs.retain(|path| path.extension().is_some_and(|end| end == "txt"));
+    inputs.retain(|path| fs::read(path).expect("an example").starts_with(b"01"));
     inputs.sort();
     let with_output = |path: PathBuf| (path.clone(), path.with_extension("out"));
     inputs.into_iter().map(with_output).collect()
@@ -35,6 +36,15 @@ fn the_program_prints_what_stands_beside() {
         assert_eq!(said, expected, "{input:?}");
         assert_eq!(printed, expected, "{input:?}");
     }
+}
+
+#[test]
+fn the_answer_keys_are_what_stands_beside() {
+    let exam = fs::read(from_root("examples/exam.txt")).expect("an exam");
+    let expected = fs::read_to_string(from_root("examples/exam.out")).expect("its output");
+    let output = run(built("keys").arg(from_root("examples/words.txt")), &exam);
+    assert_eq!(String::from_utf8_lossy(&output.stdout), expected);
+    assert!(output.status.success(), "it ends with {}", output.status);
 }
 
 /// The table is what the list of the eight words gives, in its text.

@@ -5,16 +5,16 @@ use lib.ListN.{length, replicate}
 use lib.Seq.{length-take-le}
 use Rattle.session_replies.specs.Lines.{lineCharacters}
 use Rattle.session.proofs.Next.{refusal-inside}
-use Rattle.readings.specs.declared.Got.{Got}
-use Rattle.readings.specs.Read.{Within}
+use Rattle.input.specs.declared.Got.{Got}
+use Rattle.input.specs.Read.{Within}
 use Rattle.readings.proofs.main.Statement.{statement}
 use Rattle.readings.proofs.main.Tie as tie
 
-slice-aggregate-read-input : tie.Need-slice-aggregate-read-input
-slice-aggregate-read-input c = search needs
+slice-aggregate-read-all : tie.Need-slice-aggregate-read-all
+slice-aggregate-read-all c = search needs
 
-read-input-requires : tie.Need-read-input-requires
-read-input-requires c κs = search needs
+read-all-requires : tie.Need-read-all-requires
+read-all-requires c κs = search needs
 
 enum-known-got : tie.Need-enum-known-got
 enum-known-got c = search needs
@@ -31,11 +31,11 @@ write-all-requires c κs = search needs
 returns : tie.Need-returns
 returns c = search needs
 
-array-share-prefix-input : tie.Need-array-share-prefix-input
-array-share-prefix-input c = subst (λ (g : Got). Within g (length (c .before .before .before .before .read-input .last .0))) (c .before .got .given .1) (c .before .before .before .before .read-input .ensures)
+array-share-prefix-text : tie.Need-array-share-prefix-text
+array-share-prefix-text c = subst (λ (g : Got). Within g (length (c .before .before .before .before .read-all .last .1 .0))) (c .before .got .given .1) (c .before .before .before .before .read-all .ensures)
 
 slice-aggregate-begin : tie.Need-slice-aggregate-begin
-slice-aggregate-begin c = sym (length-take-le _ _ (subst (λ (g : Got). Within g (length (c .before .before .before .before .before .read-input .last .0))) (c .before .before .got .given .1) (c .before .before .before .before .before .read-input .ensures)))
+slice-aggregate-begin c = sym (length-take-le _ _ (subst (λ (g : Got). Within g (length (c .before .before .before .before .before .read-all .last .1 .0))) (c .before .before .got .given .1) (c .before .before .before .before .before .read-all .ensures)))
 
 begin-requires : tie.Need-begin-requires
 begin-requires c κs = search needs
@@ -77,14 +77,14 @@ pub main-spec : {M : Type 1} → statement M
 main-spec =
     tie.close
     (tie.spec
-    slice-aggregate-read-input
-    read-input-requires
+    slice-aggregate-read-all
+    read-all-requires
     enum-known-got
     enum-told
     slice-aggregate-write-all
     write-all-requires
     returns
-    array-share-prefix-input
+    array-share-prefix-text
     slice-aggregate-begin
     begin-requires
     enum-known-opening

@@ -1,7 +1,8 @@
 -- The limit of readings, or what the calls come to.
 use borrow.Author.Needs.{needs}
 use denote.Ref.{now}
-use Rattle.session.proofs.Next.{result-fits, outcome-limit, outcome-result}
+use Rattle.session_calls.proofs.Fitting.{result-fits}
+use Rattle.session.proofs.Next.{outcome-limit, outcome-result}
 use Rattle.session.proofs.next_line.Statement.{statement}
 use Rattle.session.proofs.next_line.Tie as tie
 

@@ -4,7 +4,8 @@ use mathlib.Core.Path.{refl, sym}
 use lib.Seq.{length-take-le}
 use native.Mathlib.Omega.{arith}
 use denote.Ref.{now}
-use Rattle.session.proofs.Next.{fits-reading, line-reading, line-last}
+use Rattle.session_calls.proofs.Fitting.{fits-reading}
+use Rattle.session.proofs.Next.{line-reading, line-last}
 use Rattle.session.proofs.result_line.Statement.{statement}
 use Rattle.session.proofs.result_line.Tie as tie
 

@@ -1,7 +1,8 @@
-//! The session program, run as a user runs it.
+//! The programs, run as a user runs them.
+#![allow(dead_code)] // no file of tests uses all of this
 use std::io::Write;
 use std::path::{Path, PathBuf};
-use std::process::{Command, Stdio};
+use std::process::{Command, Output, Stdio};
 use std::thread;
 
 /// A path from the repository's root.
@@ -11,18 +12,24 @@ pub fn from_root(path: &str) -> PathBuf {
         .join(path)
 }
 
-/// What the session program prints for an input. It always ends well.
-pub fn program(input: &[u8]) -> Vec<u8> {
-    let path = from_root("target/bin/readings");
+/// A program of this name, which was proved and built before.
+pub fn built(name: &str) -> Command {
+    let path = from_root("target/bin").join(name);
     assert!(
         path.exists(),
-        "target/bin/readings is missing: make it with `rt check readings` at the root of the repository"
+        "target/bin/{name} is missing: make it with `rt check {name}` at the root of the repository"
     );
-    let mut child = Command::new(path)
+    Command::new(path)
+}
+
+/// What a program says to an input.
+pub fn run(program: &mut Command, input: &[u8]) -> Output {
+    let mut child = program
         .stdin(Stdio::piped())
         .stdout(Stdio::piped())
+        .stderr(Stdio::piped())
         .spawn()
-        .expect("the session program runs");
+        .expect("the program runs");
     let mut pipe = child.stdin.take().expect("its standard input");
     let input = input.to_vec();
     let feeder = thread::spawn(move || {
@@ -30,6 +37,12 @@ pub fn program(input: &[u8]) -> Vec<u8> {
     });
     let output = child.wait_with_output().expect("its output");
     feeder.join().expect("the input is handed over");
+    output
+}
+
+/// What the session program prints for an input. It always ends well.
+pub fn program(input: &[u8]) -> Vec<u8> {
+    let output = run(&mut built("readings"), input);
     assert!(output.status.success(), "it ends with {}", output.status);
     output.stdout
 }

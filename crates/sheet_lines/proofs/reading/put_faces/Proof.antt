@@ -9,7 +9,8 @@ use lib.Seq.{sets}
 use borrow.Author.Needs.{needs}
 use Rattle.faces.specs.Faces.{faceOf}
 use Rattle.sheet_lines.proofs.Lists.{map-at}
-use Rattle.sheet_lines.proofs.Stores.{none-stored, next-stored, all-stored, letter-at}
+use Rattle.destination.proofs.Putting.{none-stored, next-stored, all-stored}
+use Rattle.sheet_lines.proofs.Stores.{letter-at}
 use Rattle.sheet_lines.proofs.reading.put_faces.Statement.{statement}
 use Rattle.sheet_lines.proofs.reading.put_faces.Tie as tie
 

@@ -1,0 +1,2 @@
+-- What is said of what was read.
+pub mod Read

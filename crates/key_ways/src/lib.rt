@@ -1,0 +1,1 @@
+// Theory only: what is proved of a key. There is no code here.

@@ -1,0 +1,2 @@
+-- What is said of printing a word's key.
+pub mod Printed
