@@ -4,7 +4,7 @@ use native.Mathlib.Omega.{arith}
 use mathlib.Core.Path.{_≡_, sym, subst, _∙_}
 use mathlib.Core.Bool.{Bool, true, false, cond}
 use mathlib.Core.List.{List, [], _∷_}
-use lib.ListN.{length, take, replicate, length-replicate}
+use lib.ListN.{length, take}
 use lib.Seq.{length-take-le}
 use Rattle.destination.specs.declared.Answer.{Answer}
 use Rattle.destination.specs.declared.Answer.the-variants.{Done}
@@ -38,6 +38,7 @@ read-within g size n w e = subst (λ (x : Got). Within x size) e w
 pub found-within : (r : NextLine) (text : List ℕ) (at from end passed next : ℕ) → NextIs r text at → r ≡ Found from end passed next → FoundIs text at from end passed next
 found-within r text at from end passed next n e = subst (λ (x : NextLine). NextIs x text at) e n
 
+-- up to the last character that passes a test
 last-within : (p : ℕ → Bool) (l : List ℕ) → length (upToLast p l) ≤ length l
 last-within p [] = omega arith
 last-within p (c ∷ l) = go (upToLast p l) (last-within p l)

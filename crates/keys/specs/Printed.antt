@@ -7,6 +7,7 @@ use Rattle.keys.specs.declared.print.Printed.the-variants.{Key, Refused,
 abbrev pub sheetLines : ℕ
 sheetLines = 2002
 
+-- no more readings than these
 abbrev pub Few : Printed → Type 0
 Few (Key count) = count ≤ sheetLines
 Few Refused = Unit {0}

@@ -12,8 +12,7 @@ ghost use lib.ListN.{length};
 fn place(path: &[u8], line: usize) {
     io::write_all(2, b"keys: ");
     io::write_all(2, path);
-    io::write_all(2, b", line ");
-    tell::number(2, line);
+    tell::number(2, b", line ", line);
 }
 
 // The same with the line's word.
@@ -27,8 +26,7 @@ fn place_of_word(path: &[u8], line: usize, word: &[u8]) {
 // What there is too much of, and how many words fit.
 fn too_long(what: &[u8], count: usize) {
     io::write_all(2, what);
-    io::write_all(2, b"; words before it that fit: ");
-    tell::number(2, count);
+    tell::number(2, b"; words before it that fit: ", count);
     io::write_all(2, b"\n");
 }
 
@@ -42,7 +40,7 @@ fn looked_at(text: &[u8]) -> usize
     wordlist_lines::whole_lines(&text[..MOST_INPUT])
 }
 
-// The table of a list that was gathered whole. Whether it is made.
+// The table of a list that was gathered whole. Whether it is made, as it always is: the list holds, and every table has room.
 fn build(words: &[u8], table: &mut [u16; MOST_CELLS]) -> bool {
     let answer = trie::builder::build(words, table);
     if let Answer::Done(_) = answer {

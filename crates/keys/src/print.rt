@@ -44,20 +44,21 @@ fn readings_on(sheet: &[u8]) -> usize
     count
 }
 
-// Room for the longest key, and for what is shown of it: a character is shown in at most two bytes.
+// Room for the longest key.
 fn sheet_room() -> [u8; SHEET]
     ensures { λ r. ⌜ 146146 ≡ length r ⌝ }
 {
     [0; SHEET]
 }
 
+// Room for what is shown of it: a character is shown in at most two bytes.
 fn text_room() -> [u8; 2 * SHEET]
     ensures { λ r. ⌜ 292292 ≡ length r ⌝ }
 {
     [0; 2 * SHEET]
 }
 
-// The key of a word, as it is shown, and an empty line.
+// The key of a word, as it is shown, and an empty line. There is room, and no key over a list's table is refused.
 fn key(table: &[u16], word: &[u8]) -> Printed
     ensures { λ r. ⌜ Few r ⌝ }
 {
@@ -83,8 +84,7 @@ fn key(table: &[u16], word: &[u8]) -> Printed
 fn refuse(line: &[u8], number: usize) -> Printed
     ensures { λ r. ⌜ Few r ⌝ }
 {
-    io::write_all(2, b"keys: line ");
-    tell::number(2, number);
+    tell::number(2, b"keys: line ", number);
     io::write_all(2, b": ");
     tell::fault(2, line);
     io::write_all(1, b"no key: ");
@@ -141,12 +141,9 @@ fn counted(tally: Tally, printed: Printed) -> Tally
 
 // The last line on standard error.
 fn sum_up(tally: Tally) {
-    io::write_all(2, b"keys: words ");
-    tell::number(2, tally.words);
-    io::write_all(2, b", readings ");
-    tell::number(2, tally.readings);
-    io::write_all(2, b", refused ");
-    tell::number(2, tally.refused);
+    tell::number(2, b"keys: words ", tally.words);
+    tell::number(2, b", readings ", tally.readings);
+    tell::number(2, b", refused ", tally.refused);
     io::write_all(2, b"\n");
 }
 

@@ -3,8 +3,9 @@ use utf8::Character;
 use wordlist_spelling::Ending;
 use wordlist_spelling::WORD_LETTERS;
 
-// A number, as the digits of its decimal form.
-pub fn number(fd: i32, n: usize) {
+// A text, and behind it a number as the digits of its decimal form.
+pub fn number(fd: i32, text: &[u8], n: usize) {
+    io::write_all(fd, text);
     io::print_decimal(fd, n as u64);
 }
 
@@ -44,8 +45,7 @@ pub fn fault(fd: i32, line: &[u8]) {
     let spelling = wordlist_spelling::spell(line, &mut word);
     let from = spelling.at;
     let end = from + spelling.size;
-    io::write_all(fd, b"character ");
-    number(fd, spelling.letters + 1);
+    number(fd, b"character ", spelling.letters + 1);
     io::write_all(fd, b", ");
     character(fd, &line[from..end]);
     let ending = spelling.ending;

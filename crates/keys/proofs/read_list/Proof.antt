@@ -1,65 +1,47 @@
 -- What was read is within the room for it.
-use native.Mathlib.Omega.{arith}
 use borrow.Author.Needs.{needs}
-use Prim.Native.Nat.{_+_, _-_, _*_, _<_, _≤_}
-use mathlib.Core.Path.{refl, sym, subst}
-use mathlib.Core.Logic.{⊎-elim}
-use denote.Ref.{now}
-use lib.ListN.{length, take}
+use mathlib.Core.Path.{sym}
 use lib.Seq.{length-take-le}
 use Rattle.keys.proofs.Bounds.{read-within}
 use Rattle.keys.proofs.read_list.Statement.{statement}
 use Rattle.keys.proofs.read_list.Tie as tie
 
--- src/main.rt:44:20
 text-room-requires : tie.Need-text-room-requires
 text-room-requires c κs = search needs
 
--- src/main.rt:45:31
 slice-aggregate-read-file : tie.Need-slice-aggregate-read-file
 slice-aggregate-read-file c = search needs
 
--- src/main.rt:45:9
 read-file-requires : tie.Need-read-file-requires
 read-file-requires c κs = search needs
 
--- src/main.rt:46:20
 enum-known-got : tie.Need-enum-known-got
 enum-known-got c = search needs
 
--- src/main.rt:47:26
 enum-told : tie.Need-enum-told
 enum-told c = search needs
 
--- src/main.rt:47:26
 slice-aggregate-write-all : tie.Need-slice-aggregate-write-all
 slice-aggregate-write-all c = search needs
 
--- src/main.rt:47:9
 write-all-requires : tie.Need-write-all-requires
 write-all-requires c κs = search needs
 
--- src/main.rt:48:9
 fail-requires : tie.Need-fail-requires
 fail-requires c κs = search needs
 
--- src/main.rt:49:9
 returns : tie.Need-returns
 returns c = search needs
 
--- src/main.rt:51:22
 array-share-prefix-text : tie.Need-array-share-prefix-text
 array-share-prefix-text c = read-within _ _ _ (c .before .before .before .before .read-file .ensures) (c .before .got .given .1)
 
--- src/main.rt:51:22
 slice-aggregate-load : tie.Need-slice-aggregate-load
 slice-aggregate-load c = sym (length-take-le _ _ (read-within _ _ _ (c .before .before .before .before .before .read-file .ensures) (c .before .before .got .given .1)))
 
--- src/main.rt:51:5
 load-requires : tie.Need-load-requires
 load-requires c κs = search needs
 
--- src/main.rt:43:1
 returns-2 : tie.Need-returns-2
 returns-2 c = search needs
 

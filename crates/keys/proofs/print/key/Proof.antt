@@ -1,11 +1,8 @@
 -- What is written is within its destination.
 use native.Mathlib.Omega.{arith}
 use borrow.Author.Needs.{needs}
-use Prim.Native.Nat.{_+_, _-_, _*_, _<_, _≤_}
-use mathlib.Core.Path.{refl, sym, subst}
-use mathlib.Core.Logic.{⊎-elim}
-use denote.Ref.{now}
-use lib.ListN.{length, take}
+use mathlib.Core.Path.{sym}
+use lib.ListN.{take}
 use lib.Seq.{length-take-le}
 use Rattle.keys.proofs.Bounds.{key-within, shown-within, lines-within}
 use Rattle.alphabet.specs.Shown.{shown}
@@ -13,95 +10,72 @@ use Rattle.keys.specs.Printed.{sheetLines}
 use Rattle.keys.proofs.print.key.Statement.{statement}
 use Rattle.keys.proofs.print.key.Tie as tie
 
--- src/print.rt:64:17
 face-table-requires : tie.Need-face-table-requires
 face-table-requires c κs = search needs
 
--- src/print.rt:65:21
 sheet-room-requires : tie.Need-sheet-room-requires
 sheet-room-requires c κs = search needs
 
--- src/print.rt:66:57
 slice-aggregate-write : tie.Need-slice-aggregate-write
 slice-aggregate-write c = search needs
 
--- src/print.rt:66:9
 write-requires : tie.Need-write-requires
 write-requires c κs = search needs
 
--- src/print.rt:67:22
 enum-known-written : tie.Need-enum-known-written
 enum-known-written c = search needs
 
--- src/print.rt:68:9
 enum-told : tie.Need-enum-told
 enum-told c = search needs
 
--- src/print.rt:68:9
 returns : tie.Need-returns
 returns c = search needs
 
--- src/print.rt:70:17
 array-share-prefix-sheet : tie.Need-array-share-prefix-sheet
 array-share-prefix-sheet c = key-within (c .before .before .before .before .before .before .before .sheet-room .result) (c .before .before .before .before .write .last .1 .1 .1 .0) (c .before .before .before .before .write .kept .1 .1 .1 .0) _ _ (c .before .written .given .1) _ _ _ (c .before .before .before .before .write .ensures .0)
 
--- src/print.rt:70:9
 slice-aggregate-lines : tie.Need-slice-aggregate-lines
 slice-aggregate-lines c = sym (length-take-le _ _ (key-within (c .before .before .before .before .before .before .before .before .sheet-room .result) (c .before .before .before .before .before .write .last .1 .1 .1 .0) (c .before .before .before .before .before .write .kept .1 .1 .1 .0) _ _ (c .before .before .written .given .1) _ _ _ (c .before .before .before .before .before .write .ensures .0)))
 
--- src/print.rt:71:20
 text-room-requires : tie.Need-text-room-requires
 text-room-requires c κs = search needs
 
--- src/print.rt:72:45
 slice-aggregate-show : tie.Need-slice-aggregate-show
 slice-aggregate-show c = search needs
 
--- src/print.rt:72:9
 show-requires : tie.Need-show-requires
 show-requires c κs = search needs
 
--- src/print.rt:73:22
 enum-known-shown : tie.Need-enum-known-shown
 enum-known-shown c = search needs
 
--- src/print.rt:74:9
 enum-told-2 : tie.Need-enum-told-2
 enum-told-2 c = search needs
 
--- src/print.rt:74:9
 returns-2 : tie.Need-returns-2
 returns-2 c = search needs
 
--- src/print.rt:76:25
 array-share-prefix-text : tie.Need-array-share-prefix-text
 array-share-prefix-text c = shown-within (c .before .before .before .before .before .before .text-room .result) (c .before .before .before .before .show .last .1 .0) (c .before .before .before .before .show .kept .1 .0) _ _ (c .before .shown .given .1) (shown (take (c .before .before .before .before .before .before .before .before .before .written .given .0 .0) (c .before .before .before .before .before .before .before .before .before .before .before .before .write .last .1 .1 .1 .0))) (c .before .before .before .before .show .ensures .0)
 
--- src/print.rt:76:25
 slice-aggregate-write-all : tie.Need-slice-aggregate-write-all
 slice-aggregate-write-all c = sym (length-take-le _ _ (shown-within (c .before .before .before .before .before .before .before .text-room .result) (c .before .before .before .before .before .show .last .1 .0) (c .before .before .before .before .before .show .kept .1 .0) _ _ (c .before .before .shown .given .1) (shown (take (c .before .before .before .before .before .before .before .before .before .before .written .given .0 .0) (c .before .before .before .before .before .before .before .before .before .before .before .before .before .write .last .1 .1 .1 .0))) (c .before .before .before .before .before .show .ensures .0)))
 
--- src/print.rt:76:8
 write-all-requires : tie.Need-write-all-requires
 write-all-requires c κs = search needs
 
--- src/print.rt:76:61
 slice-aggregate-write-all-2 : tie.Need-slice-aggregate-write-all-2
 slice-aggregate-write-all-2 c = search needs
 
--- src/print.rt:76:44
 write-all-requires-2 : tie.Need-write-all-requires-2
 write-all-requires-2 c κs = search needs
 
--- src/print.rt:77:29
 readings-on-requires : tie.Need-readings-on-requires
 readings-on-requires c κs = search needs
 
--- src/print.rt:77:9
 returns-3 : tie.Need-returns-3
 returns-3 c = lines-within sheetLines _ _ (c .before .before .before .before .before .before .before .before .before .before .before .before .before .before .before .before .before .before .before .write .last .1 .1 .1 .0) (omega (arith, c .before .before .before .before .before .before .before .before .before .before .before .before .before .before .before .before .before .before .before .write .kept .1 .1 .1 .0, c .before .before .before .before .before .before .before .before .before .before .before .before .before .before .before .before .before .before .before .before .before .before .sheet-room .ensures)) (key-within (c .before .before .before .before .before .before .before .before .before .before .before .before .before .before .before .before .before .before .before .before .before .before .sheet-room .result) (c .before .before .before .before .before .before .before .before .before .before .before .before .before .before .before .before .before .before .before .write .last .1 .1 .1 .0) (c .before .before .before .before .before .before .before .before .before .before .before .before .before .before .before .before .before .before .before .write .kept .1 .1 .1 .0) _ _ (c .before .before .before .before .before .before .before .before .before .before .before .before .before .before .before .before .written .given .1) _ _ _ (c .before .before .before .before .before .before .before .before .before .before .before .before .before .before .before .before .before .before .before .write .ensures .0)) (c .readings-on .ensures)
 
--- src/print.rt:61:1
 returns-4 : tie.Need-returns-4
 returns-4 c = search needs
 

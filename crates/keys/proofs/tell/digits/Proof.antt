@@ -61,5 +61,3 @@ digits-spec =
     loop-less
     loop-again
     returns)
-
--- x
