@@ -1,39 +1,40 @@
--- Letters and code points tell each other; faces hold; what is shown tells the characters.
+-- The theorems about letters and what is shown, stated together. What each one means is in specs/; how it is shown is in the files that it names.
 use Prim.Native.Nat.{ℕ, _+_, _*_, _-_, _<_, _≤_}
 use native.Mathlib.Omega.{arith}
 use mathlib.Core.Path.{_≡_, refl, sym, ap, ap₂, _∙_}
-use mathlib.Core.Logic.{_⊎_, inl, inr, ⊎-elim}
+use mathlib.Core.Logic.{_⊎_, inl, inr, ⊎-elim, _↔_}
 use mathlib.Core.Bool.{true, not}
 use mathlib.Core.List.{List, [], _∷_, _++_, append-assoc}
-use lib.Dec.{eqb}
+use lib.Dec.{eqb, ltb}
 use lib.ListN.{length, getD, length-append}
-use borrow.Author.Tests.{eqb-true, eq-eqb, not-true}
-use Rattle.utf8.specs.Utf8.{encoded}
+use borrow.Author.Tests.{eqb-true, eq-eqb, not-true, ltb-true}
+use Rattle.utf8.specs.Utf8.{isScalar, encoded}
 use Rattle.faces.specs.Faces.{facesHold, faceOf}
 use Rattle.faces.proofs.Lent.{all-every}
 use Rattle.table_format.specs.Rules.{any, each}
 use Rattle.table_format.specs.Ruled.{Differ}
 use Rattle.table_format.proofs.Ruled.{each-differ}
 use Rattle.table_format.proofs.All.{All}
+use Rattle.table_format.proofs.Tests.{or-cases, or-left, or-right}
 use Rattle.alphabet.specs.Letters.{smalls, capitals, placeIn, letterOf, smallOf, capitalOf}
-use Rattle.alphabet.specs.Shown.{faceTable, codeShown, shownAs, shown}
+use Rattle.alphabet.specs.Shown.{Ascii, faceTable, codeShown, shownAs, shown}
 use Rattle.alphabet.proofs.Places.{values, same-from, place-is}
-use Rattle.alphabet.proofs.LetterOf.{small-count, capital-count, small-own, letter-cases}
-use Rattle.alphabet.proofs.Shown.{shown-itself, size-range, first-tells}
+use Rattle.alphabet.proofs.LetterOf.{small-count, capital-count, small-own, latin-none, letter-cases}
+use Rattle.alphabet.proofs.Shown.{shown-itself, shown-scalar, size-range, first-tells}
 
 -- Letters.
 
--- there are 61 small letters and as many capitals
+-- There are 61 small letters and as many capitals,
 pub sizes : (length smalls ≡ 61) × (length capitals ≡ 61)
 sizes = (small-count, capital-count)
 
--- no two of their code points are the same
+-- and no two of their code points are the same.
 pub code-points-differ : Differ (smalls ++ capitals)
 unfolding smalls capitals each
 code-points-differ =
     each-differ eqb (λ before x. not (any (λ y. eqb y x) before)) (λ x. eq-eqb x x refl) (λ before x e. not-true _ e) (smalls ++ capitals) refl
 
--- the code points of a letter, small and capital, are its own
+-- The code points of a letter, small and capital, are its own,
 pub letter-of-small : (l : ℕ) → 1 ≤ l → l ≤ 61 → letterOf (smallOf l) ≡ l
 letter-of-small = small-own
 
@@ -41,7 +42,7 @@ pub letter-of-capital : (l : ℕ) → 1 ≤ l → l ≤ 61 → letterOf (capital
 unfolding letterOf capitalOf smalls capitals
 letter-of-capital l h k = same-from (λ i. letterOf (capitalOf i)) (λ i. i) 1 61 refl l h (omega arith)
 
--- a code point that has a letter is the letter's small one or its capital
+-- and a code point that has a letter is the letter's small one or its capital.
 pub letter-is : (c : ℕ) → 0 < letterOf c → (c ≡ smallOf (letterOf c)) ⊎ (c ≡ capitalOf (letterOf c))
 unfolding smallOf capitalOf
 letter-is c some =
@@ -54,11 +55,11 @@ letter-is c some =
         let here : placeIn l c ≡ letterOf c - 1 = omega arith in
         sym (place-is c l h) ∙ ap (λ (i : ℕ). getD l i 0) here
 
--- there is no letter above 61
+-- There is no letter above 61.
 pub letter-most : (c : ℕ) → letterOf c ≤ 61
 letter-most c = ⊎-elim (λ s. omega (arith, s .0, s .1)) (λ r. ⊎-elim (λ s. omega (arith, s .0, s .1)) (λ e. omega arith) r) (letter-cases c)
 
--- letters 1 to 26 are a to z
+-- Letters 1 to 26 are a to z,
 pub a-to-z : (i : ℕ) → i < 26 → (smallOf (1 + i) ≡ 97 + i) × (capitalOf (1 + i) ≡ 65 + i)
 unfolding smallOf capitalOf smalls capitals
 a-to-z i h = (
@@ -66,7 +67,7 @@ a-to-z i h = (
   same-from (λ k. capitalOf (1 + k)) (λ k. 65 + k) 0 26 refl i (omega arith) (omega arith),
 )
 
--- letters 27 to 30 are ä ö ü ß, and their capitals Ä Ö Ü ẞ
+-- letters 27 to 30 are ä ö ü ß, and their capitals Ä Ö Ü ẞ,
 pub umlauts : values (λ i. smallOf (27 + i)) 4 ≡ 228 ∷ 246 ∷ 252 ∷ 223 ∷ []
 unfolding smallOf smalls
 umlauts = refl
@@ -75,19 +76,46 @@ pub umlaut-capitals : values (λ i. capitalOf (27 + i)) 4 ≡ 196 ∷ 214 ∷ 22
 unfolding capitalOf capitals
 umlaut-capitals = refl
 
+-- and letters 58 to 61 are ÿ œ š ž, and their capitals Ÿ Œ Š Ž.
+pub last-letters : values (λ i. smallOf (58 + i)) 4 ≡ 255 ∷ 339 ∷ 353 ∷ 382 ∷ []
+unfolding smallOf smalls
+last-letters = refl
+
+pub last-capitals : values (λ i. capitalOf (58 + i)) 4 ≡ 376 ∷ 338 ∷ 352 ∷ 381 ∷ []
+unfolding capitalOf capitals
+last-capitals = refl
+
+-- The letters from à on stand as in Unicode.
+pub rising : (l : ℕ) → 31 ≤ l → l < 61 → smallOf l < smallOf (1 + l)
+unfolding smallOf smalls
+rising l h k = ltb-true _ _ (same-from (λ i. ltb (smallOf i) (smallOf (1 + i))) (λ i. true) 31 30 refl l h (omega arith))
+
+-- From à to þ, letters 31 to 57, a capital stands 32 below its small letter.
+pub latin-capitals : (l : ℕ) → 31 ≤ l → l ≤ 57 → capitalOf l + 32 ≡ smallOf l
+unfolding smallOf capitalOf smalls capitals
+latin-capitals l h k = same-from (λ i. capitalOf i + 32) smallOf 31 27 refl l h (omega arith)
+
+-- Of the code points from À to ÿ, 192 to 255, only × and ÷ are no letters.
+pub latin-1 : (c : ℕ) → 192 ≤ c → c ≤ 255 → (letterOf c ≡ 0) ↔ ((c ≡ 215) ⊎ (c ≡ 247))
+latin-1 c h k =
+    let none = latin-none c h k in (
+      λ e. ⊎-elim (λ t. inl (eqb-true _ _ t)) (λ t. inr (eqb-true _ _ t)) (or-cases (eqb c 215) (eqb c 247) (sym none ∙ eq-eqb _ _ e)),
+      λ s. eqb-true _ _ (none ∙ ⊎-elim (λ e. or-left (eqb c 215) (eqb c 247) (eq-eqb _ _ e)) (λ e. or-right (eqb c 215) (eqb c 247) (eq-eqb _ _ e)) s),
+    )
+
 -- Faces.
 
--- the faces are 63, printable and different
+-- The faces are 63, printable and different.
 pub faces-hold : facesHold faceTable ≡ true
 unfolding facesHold faceTable each
 faces-hold = refl
 
--- a to z are their own faces
+-- Letters a to z are their own faces,
 pub own-faces : (l : ℕ) → 1 ≤ l → l ≤ 26 → faceOf faceTable l ≡ smallOf l
 unfolding faceTable smallOf smalls
 own-faces l h k = same-from (λ i. faceOf faceTable i) smallOf 1 26 refl l h (omega arith)
 
--- the face of the cut is `|`
+-- and the face of the cut is `|`.
 pub cut-face : faceOf faceTable 63 ≡ 124
 unfolding faceTable
 cut-face = refl
@@ -99,30 +127,34 @@ abbrev pub plain : List ℕ
 plain =
     10 ∷ 32 ∷ values (λ i. 48 + i) 10 ++ (65 ∷ 68 ∷ 69 ∷ 71 ∷ 73 ∷ 77 ∷ 78 ∷ 79 ∷ 82 ∷ 83 ∷ values (λ i. 97 + i) 26 ++ (124 ∷ []))
 
--- they are shown as themselves
+-- They are shown as themselves.
 pub shown-plain : All (λ c. shownAs c ≡ c ∷ []) plain
 unfolding codeShown faceTable smallOf smalls
 shown-plain = all-every (λ c. shownAs c ≡ c ∷ []) (λ c. eqb (codeShown c) 0) (λ c e. shown-itself c (eqb-true _ _ e)) plain refl
 
--- the mark of a letter above z is shown as the letter in UTF-8
+-- The mark of a letter above z is shown as the letter in UTF-8.
 pub shown-letter : (l : ℕ) → 27 ≤ l → l ≤ 61 → shownAs (faceOf faceTable l) ≡ encoded (smallOf l)
 unfolding shownAs codeShown faceTable encoded smallOf smalls
 shown-letter l h k = same-from (λ i. shownAs (faceOf faceTable i)) (λ i. encoded (smallOf i)) 27 35 refl l h (omega arith)
 
--- text is shown character by character
+-- A character of a sheet is shown as one character, so that columns stay columns.
+pub shown-one : (c : ℕ) → Ascii c → (p : ℕ) × (isScalar p ≡ true) × (shownAs c ≡ encoded p)
+shown-one = shown-scalar
+
+-- Text is shown character by character.
 pub shown-append : (s t : List ℕ) → shown (s ++ t) ≡ shown s ++ shown t
 unfolding shown
 shown-append [] t = refl
 shown-append (c ∷ s) t = ap (λ (l : List ℕ). shownAs c ++ l) (shown-append s t) ∙ sym (append-assoc (shownAs c) (shown s) (shown t))
 
--- text takes at most twice its bytes
+-- Text takes at most twice its bytes.
 pub shown-most : (s : List ℕ) → length (shown s) ≤ 2 * length s
 unfolding shown
 shown-most [] = omega arith
 shown-most (c ∷ s) = omega (arith, length-append (shownAs c) (shown s), size-range c .1, shown-most s)
 
--- what is shown tells the characters
-pub shown-injective : (s t : List ℕ) → All (λ c. c < 128) s → All (λ c. c < 128) t → shown s ≡ shown t → s ≡ t
+-- What is shown tells the characters.
+pub shown-injective : (s t : List ℕ) → All Ascii s → All Ascii t → shown s ≡ shown t → s ≡ t
 unfolding shown
 shown-injective [] [] h k e = refl
 shown-injective [] (d ∷ t) h k e = absurd (omega (arith, ap length e, length-append (shownAs d) (shown t), size-range d .0))

@@ -3,8 +3,8 @@ use Prim.Native.Nat.{ℕ, _+_, _<_, _≤_}
 use native.Mathlib.Omega.{arith}
 use mathlib.Core.Path.{_≡_, refl, sym}
 use mathlib.Core.Logic.{_⊎_, inl, inr}
-use mathlib.Core.Bool.{Bool, true, false}
-use lib.Dec.{ltb}
+use mathlib.Core.Bool.{Bool, true, false, _||_}
+use lib.Dec.{eqb, ltb}
 use lib.ListN.{length}
 use borrow.Author.Tests.{ltb-true, ltb-false, lt-ltb, le-ltb}
 use Rattle.alphabet.specs.Letters.{letterCount, smalls, capitals, placeIn, letterOf, smallOf}
@@ -22,6 +22,11 @@ capital-count = refl
 pub small-own : (l : ℕ) → 1 ≤ l → l ≤ letterCount → letterOf (smallOf l) ≡ l
 unfolding letterOf smallOf smalls capitals
 small-own l h k = same-from (λ i. letterOf (smallOf i)) (λ i. i) 1 letterCount refl l h (omega arith)
+
+-- which code points from 192 to 255 are no letters
+pub latin-none : (c : ℕ) → 192 ≤ c → c ≤ 255 → eqb (letterOf c) 0 ≡ (eqb c 215 || eqb c 247)
+unfolding letterOf smalls capitals
+latin-none c h k = same-from (λ i. eqb (letterOf i) 0) (λ i. eqb i 215 || eqb i 247) 192 64 refl c h (omega arith)
 
 module _ (c : ℕ) where
   abbrev Small : Type 0

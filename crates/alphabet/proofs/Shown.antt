@@ -10,11 +10,11 @@ use lib.Dec.{leb, ltb}
 use lib.ListN.{length, getD, drop, set, length-append, drop-of-length-le}
 use lib.Seq.{drop-cons, sets}
 use borrow.Author.Tests.{leb-true, ltb-true, lt-ltb, le-ltb, eq-eqb, ne-eqb}
-use Rattle.utf8.specs.Utf8.{encoded}
+use Rattle.utf8.specs.Utf8.{isScalar, encoded}
 use Rattle.faces.specs.Faces.{faceCount, faceOf}
-use Rattle.table_format.proofs.Tests.{and-left, and-right}
+use Rattle.table_format.proofs.Tests.{and-left, and-right, or-left}
 use Rattle.alphabet.specs.Letters.{letterCount, smalls, placeIn, letterOf, smallOf}
-use Rattle.alphabet.specs.Shown.{faceTable, faceLetter, codeShown, shownAs, shown}
+use Rattle.alphabet.specs.Shown.{Ascii, faceTable, faceLetter, codeShown, shownAs, shown}
 use Rattle.alphabet.proofs.LetterOf.{small-own}
 use Rattle.alphabet.proofs.Places.{values, value-at, same-from, place-is}
 
@@ -23,7 +23,7 @@ unfolding faceTable
 face-count = refl
 
 -- a face is ASCII
-face-most : (l : ℕ) → l < faceCount → getD faceTable l 0 < 128
+face-most : (l : ℕ) → l < faceCount → Ascii (getD faceTable l 0)
 unfolding faceTable
 face-most l h = ltb-true _ _ (same-from (λ i. ltb (getD faceTable i 0) 128) (λ i. true) 0 faceCount refl l (omega arith) (omega arith))
 
@@ -37,6 +37,10 @@ small-two l h k = same-from (λ i. isTwo (smallOf i)) (λ i. true) 27 35 refl l 
 
 abbrev pub two : ℕ → List ℕ
 two code = (192 + code / 64) ∷ (128 + code % 64) ∷ []
+
+one-encoded : (code : ℕ) → code < 128 → encoded code ≡ code ∷ []
+unfolding encoded
+one-encoded code h = rw (lt-ltb code 128 h)
 
 two-encoded : (code : ℕ) → 128 ≤ code → code < 2048 → encoded code ≡ two code
 unfolding encoded
@@ -88,11 +92,22 @@ module _ (c : ℕ) where
   unfolding shownAs
   shown-itself e = ap (λ (b : Bool). cond b (c ∷ []) (encoded (codeShown c))) (eq-eqb _ _ e)
 
-  pub shown-two : 0 < codeShown c → shownAs c ≡ two (codeShown c)
+  shown-code : 0 < codeShown c → shownAs c ≡ encoded (codeShown c)
   unfolding shownAs
+  shown-code h = ap (λ (b : Bool). cond b (c ∷ []) (encoded (codeShown c))) (ne-eqb (codeShown c) 0 (λ e. omega arith))
+
+  pub shown-two : 0 < codeShown c → shownAs c ≡ two (codeShown c)
   shown-two h =
-      ap (λ (b : Bool). cond b (c ∷ []) (encoded (codeShown c))) (ne-eqb (codeShown c) 0 (λ e. omega arith))
+      shown-code h
       ∙ ⊎-elim (λ e. absurd (omega arith)) (λ M. two-encoded (codeShown c) (mark-two M .0) (mark-two M .1)) mark-cases
+
+  -- one character
+  pub shown-scalar : Ascii c → (p : ℕ) × (isScalar p ≡ true) × (shownAs c ≡ encoded p)
+  shown-scalar h =
+      ⊎-elim (λ e. (c, low c (omega arith), shown-itself e ∙ sym (one-encoded c h))) (λ M. (codeShown c, low (codeShown c) code-most, shown-code (mark-some M))) mark-cases
+    where
+      low : (p : ℕ) → p < 2048 → isScalar p ≡ true
+      low p k = or-left (ltb p 55296) _ (lt-ltb p 55296 (omega arith))
 
   pub size-one : codeShown c ≡ 0 → length (shownAs c) ≡ 1
   size-one e = ap length (shown-itself e)
@@ -115,7 +130,7 @@ mark-tells c d M N e =
     sym (M .face) ∙ ap (faceOf faceTable) same ∙ N .face
 
 -- what begins as a character is shown, begins with that character
-pub first-tells : (c d : ℕ) (s t : List ℕ) → c < 128 → d < 128 → shownAs c ++ s ≡ shownAs d ++ t → (c ≡ d) × (s ≡ t)
+pub first-tells : (c d : ℕ) (s t : List ℕ) → Ascii c → Ascii d → shownAs c ++ s ≡ shownAs d ++ t → (c ≡ d) × (s ≡ t)
 first-tells c d s t h k e = ⊎-elim (λ p. ⊎-elim (one-one p) (one-two p) (mark-cases d)) (λ M. ⊎-elim (two-one M) (two-two M) (mark-cases d)) (mark-cases c)
   where
     both : {x y : List ℕ} → shownAs c ≡ x → shownAs d ≡ y → x ++ s ≡ y ++ t

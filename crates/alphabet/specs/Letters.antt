@@ -1,6 +1,6 @@
 -- The alphabet: letters 1 to 61 are the small letters of ISO 8859-15, which has those of the western European languages, a to z first, then
 -- ä ö ü ß, then the others as they stand in Unicode. A capital is the letter of its small one.
-use Prim.Native.Nat.{ℕ, suc, _+_, _-_}
+use Prim.Native.Nat.{ℕ, suc, _+_, _-_, _≤_}
 use mathlib.Core.Bool.{cond}
 use mathlib.Core.List.{List, [], _∷_}
 use lib.Dec.{eqb, ltb}
@@ -9,6 +9,10 @@ use lib.ListN.{getD}
 -- how many letters have a code point
 abbrev pub letterCount : ℕ
 letterCount = 61
+
+-- a letter of the alphabet
+abbrev pub Known : ℕ → Type 0
+Known l = (1 ≤ l) × (l ≤ letterCount)
 
 -- the code points of the small letters, by letter:
 -- a b c d e f g h i j k l m n o p q r s t u v w x y z ä ö ü ß à á â ã å æ ç è é ê ë ì í î ï ð ñ ò ó ô õ ø ù ú û ý þ ÿ œ š ž

@@ -1,11 +1,15 @@
 -- How a sheet's characters are shown. A sheet's faces are ASCII: a to z are themselves, `|` is the cut, and each other letter has a mark that no
 -- line of a sheet has otherwise. In print the letter stands where its mark does, one character for one, so that columns stay columns.
-use Prim.Native.Nat.{ℕ, _+_}
+use Prim.Native.Nat.{ℕ, _+_, _<_}
 use mathlib.Core.Bool.{cond, _&&_}
 use mathlib.Core.List.{List, [], _∷_, _++_}
 use lib.Dec.{eqb, leb}
 use Rattle.utf8.specs.Utf8.{encoded}
 use Rattle.alphabet.specs.Letters.{letterCount, placeIn, smallOf}
+
+-- a character of ASCII
+abbrev pub Ascii : ℕ → Type 0
+Ascii c = c < 128
 
 -- the faces of letters 1 to 63:
 -- a b c d e f g h i j k l m n o p q r s t u v w x y z ! " # $ % & ' ( ) * + , - . / : ; < = > ? @ [ \ ] ^ _ ` { } ~ B C F H J |

@@ -136,7 +136,7 @@ const CAPITALS: [u16; LETTERS] = [
 ];
 
 // The first place of a code point in a row of them, or the row's length.
-pub fn place(row: &[u16], code: u32) -> usize
+fn place(row: &[u16], code: u32) -> usize
     ensures { λ r. ⌜ r ≡ placeIn (now (row .entry)) code ⌝ }
 {
     let mut k = 0;

@@ -19,7 +19,7 @@ fn read_some(fd: i32, part: &mut [u8]) -> Got
     Got::Bytes(io::count(got, part))
 }
 
-// Everything up to the end, or until there is no room left.
+// Everything up to the end, or until there is no room left. What is read is not modelled, only that the count is within the room.
 pub fn read_all(fd: i32, room: &mut [u8]) -> Got
     ensures { λ r. ⌜ Within r (length (now (room .exit))) ⌝ }
 {

@@ -1,5 +1,5 @@
--- The key of a word over a loaded table: the readings that calls in synthesis give, one after another, and whether they came to the end, "as the
--- session's limits have it (1,000 readings, 65,536 calls of 1,000 steps)".
+-- The key of a word over a loaded table: the readings that calls in synthesis give, one after another, and whether they came to the end, within the
+-- session's limits: 1,000 readings, 65,536 calls of 1,000 steps.
 use Prim.Native.Nat.{ℕ, zero, suc, _*_}
 use mathlib.Core.Bool.{Bool, true, false}
 use mathlib.Core.List.{List, [], _∷_}

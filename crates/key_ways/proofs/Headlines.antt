@@ -22,7 +22,6 @@ use Rattle.alphabet.specs.Letters.{smallOf}
 use Rattle.alphabet.specs.Shown.{faceTable, shownAs, shown}
 use Rattle.alphabet.proofs.Headlines.{faces-hold, shown-injective}
 use Rattle.faces.specs.Faces.{facesHold, faceOf}
-use Rattle.faces.specs.Lent.{mostReadings}
 use Rattle.sheet.specs.declared.LastWord.the-variants.{End, More}
 use Rattle.sheet.specs.Sheet.{sheetOf}
 use Rattle.sheet.specs.Read.{lastWordIn}
@@ -39,22 +38,21 @@ use Rattle.segmentation.specs.Ways.{waysToCut, joined, Way}
 use Rattle.segmentation.specs.Readings.{treeMachine}
 use Rattle.segmentation.proofs.Headlines as cutting
 use Rattle.wordlist_lines.specs.Facts.{Unfed}
-use Rattle.wordlist_spelling.specs.Spelled.{mostLetters}
 use Rattle.wordlist_spelling.specs.Facts.{Spells}
 use Rattle.wordlist.specs.Gathered.{taken, fate}
 use Rattle.wordlist.proofs.Headlines as wordlists
 use Rattle.key_sheet.specs.Key.{refused, keyOf}
 use Rattle.key_sheet.specs.Calls.{keyAnswer, keySheet}
-use Rattle.key_ways.specs.Shows.{KeyCalls, spentSteps, KeyShows}
+use Rattle.key_ways.specs.Shows.{KeyCalls, treeCells, KeyShows}
 use Rattle.key_ways.specs.Told.{KeyWritten, KeyTold}
 use Rattle.key_ways.specs.Printed.{printedFor, KeyPrinted, wordText, wayText, PrintTold, LineWay}
 use Rattle.key_ways.proofs.KeyCalls as calls
 use Rattle.key_ways.proofs.Shows as showing
 use Rattle.key_ways.proofs.Sheets as writing
 use Rattle.key_ways.proofs.Told as telling
-use Rattle.key_ways.proofs.InPrint.{Known}
+use Rattle.alphabet.specs.Letters.{Known}
 use Rattle.key_ways.proofs.InPrint as in-print
-use Rattle.key_ways.proofs.ShownLines.{Ascii}
+use Rattle.alphabet.specs.Shown.{Ascii}
 use Rattle.key_ways.proofs.ShownLines as in-lines
 use Rattle.key_ways.proofs.Printing as printing
 
@@ -62,10 +60,6 @@ use Rattle.key_ways.proofs.Printing as printing
 -- end or its refusal.
 pub key-calls : (cells w : List ℕ) (s : Started) → StartedIs (started cells 2 w []) s → s .answer ≡ Ready → KeyCalls cells w (s .run) (keyOf cells w)
 key-calls = calls.key-calls
-
--- cells that begin with those of a list's table
-abbrev pub treeCells : List Word → List ℕ → List ℕ
-treeCells ws rest = cellsOf (trieTable ws) ++ rest
 
 -- OVER A WORD LIST: bytes that are taken for a list, cells that begin with its table's, and a word of 1 to 64 letters from 1 to 63.
 module _ (bytes : List ℕ) (ws : List Word) (taken : TakenAs bytes ws) where
@@ -88,7 +82,7 @@ module _ (bytes : List ℕ) (ws : List Word) (taken : TakenAs bytes ws) where
     key-shows = showing.key-shows ws kept rest x v good
 
     -- A word of fewer than 1,000 ways, whose search tree's size is below 64,537,000, has a key that ends.
-    pub end-comes : length (waysToCut ws w) < mostReadings → treeSize (treeMachine ws w) < spentSteps → key-shows .ended ≡ true
+    pub end-comes : length (waysToCut ws w) < 1000 → treeSize (treeMachine ws w) < 64537000 → key-shows .ended ≡ true
     end-comes few small = showing.end-comes ws w (keyOf cells w) key-shows few small
 
     sheet-room : (faces : List ℕ) → length (sheetOf faces (key-shows .readings) (key-shows .ended)) ≤ 146146
@@ -117,7 +111,8 @@ module _ (bytes : List ℕ) (ws : List Word) (taken : TakenAs bytes ws) where
     key-done faces d n e =
         let D = writing.answer-done ws (kept .holds) w (keyOf cells w) key-shows faces d n .0 e in (
           D .0,
-          ap (λ (m : ℕ). take m (keySheet cells w faces d)) (D .1) ∙ writing.sheet-first ws (kept .holds) w (keyOf cells w) key-shows faces d (D .0) (subst (λ (m : ℕ). m ≤ length d) (D .1) (D .2)),
+          ap (λ (m : ℕ). take m (keySheet cells w faces d)) (D .1)
+              ∙ writing.sheet-first ws (kept .holds) w (keyOf cells w) key-shows faces d (D .0) (subst (λ (m : ℕ). m ≤ length d) (D .1) (D .2)),
         )
 
     -- A KEY THAT ENDS with END shows exactly the ways to cut the word into listed words, each once, in order, each on its lines.
@@ -138,12 +133,16 @@ module _ (bytes : List ℕ) (ws : List Word) (taken : TakenAs bytes ws) where
       pub print-is : text ≡ shown (sheetOf faceTable (key-shows .readings) (key-shows .ended))
       print-is = printing.text-of cells w d t text P ∙ ap shown (key-done faceTable d (P .size) (P .written) .1)
 
+      -- so that with the word before it and a line feed after it, it is what is to be printed,
+      pub print-for : (line : List ℕ) → line ++ (10 ∷ (text ++ (10 ∷ []))) ≡ printedFor line (sheetOf faceTable (key-shows .readings) (key-shows .ended))
+      print-for line = ap (λ (l : List ℕ). line ++ (10 ∷ (l ++ (10 ∷ [])))) print-is
+
       -- its last line is the sheet's,
       pub print-last : lastWordIn text ≡ lastWordIn (take (P .size) (keySheet cells w faceTable d))
       print-last = ap lastWordIn print-is ∙ in-lines.last-in-print faceTable (key-shows .readings) (key-shows .ended) ∙ sym (ap lastWordIn (key-done faceTable d (P .size) (P .written) .1))
 
       -- it ends with END for a word of fewer than 1,000 ways, whose search tree's size is below 64,537,000,
-      pub print-comes : length (waysToCut ws w) < mostReadings → treeSize (treeMachine ws w) < spentSteps → lastWordIn text ≡ End
+      pub print-comes : length (waysToCut ws w) < 1000 → treeSize (treeMachine ws w) < 64537000 → lastWordIn text ≡ End
       print-comes ways small =
           ap lastWordIn print-is
           ∙ in-lines.last-in-print faceTable (key-shows .readings) (key-shows .ended)
@@ -258,7 +257,7 @@ module _ (list : List ℕ) (ws : List Word) (gathered : fate list ≡ taken ws) 
   line-ways = printing.ways-same list ws (wordlists.list-words list ws gathered)
 
   -- A LINE of an exam, whose characters spell a word of 1 to 64 letters:
-  module _ (line : List ℕ) (x : ℕ) (v : Word) (spells : Spells (x ∷ v) line) (few : length (x ∷ v) ≤ mostLetters) where
+  module _ (line : List ℕ) (x : ℕ) (v : Word) (spells : Spells (x ∷ v) line) (few : length (x ∷ v) ≤ 64) where
     -- its key is printed,
     pub printed-done : (d t : List ℕ) → 146146 ≤ length d → 292292 ≤ length t → (text : List ℕ) × KeyPrinted built (x ∷ v) d t text
     printed-done d t h k =
@@ -266,7 +265,7 @@ module _ (list : List ℕ) (ws : List Word) (gathered : fate list ≡ taken ws) 
         (_, print-done (spelled ws) ws bytes-taken behind x v (printing.line-good spells few) d t h k)
 
     -- the print ends with END where the word has fewer than 1,000 ways and the search tree's size is below 64,537,000,
-    pub printed-comes : (d t text : List ℕ) → KeyPrinted built (x ∷ v) d t text → length (waysToCut ws (x ∷ v)) < mostReadings → treeSize (treeMachine ws (x ∷ v)) < spentSteps
+    pub printed-comes : (d t text : List ℕ) → KeyPrinted built (x ∷ v) d t text → length (waysToCut ws (x ∷ v)) < 1000 → treeSize (treeMachine ws (x ∷ v)) < 64537000
         → lastWordIn text ≡ End
     printed-comes d t text P = print-comes (spelled ws) ws bytes-taken behind x v (printing.line-good spells few) d t text (over-tree (x ∷ v) d t text P)
 
@@ -278,8 +277,8 @@ module _ (list : List ℕ) (ws : List Word) (gathered : fate list ≡ taken ws) 
         (print-ends (spelled ws) ws bytes-taken behind x v (printing.line-good spells few) d t text (over-tree (x ∷ v) d t text P) (printing.line-known spells) l)
 
   -- TWO LINES of exams:
-  module _ (line other : List ℕ) (x y : ℕ) (v u : Word) (spells : Spells (x ∷ v) line) (few : length (x ∷ v) ≤ mostLetters) (also : Spells (y ∷ u) other)
-      (fewer : length (y ∷ u) ≤ mostLetters) (d t c s text against : List ℕ) (P : KeyPrinted built (x ∷ v) d t text) (Q : KeyPrinted built (y ∷ u) c s against) where
+  module _ (line other : List ℕ) (x y : ℕ) (v u : Word) (spells : Spells (x ∷ v) line) (few : length (x ∷ v) ≤ 64) (also : Spells (y ∷ u) other)
+      (fewer : length (y ∷ u) ≤ 64) (d t c s text against : List ℕ) (P : KeyPrinted built (x ∷ v) d t text) (Q : KeyPrinted built (y ∷ u) c s against) where
     -- their prints are equal only if the ways are, or both say MORE and show no reading,
     pub printed-differ : text ≡ against → (waysToCut ws (x ∷ v) ≡ waysToCut ws (y ∷ u)) ⊎ (text ≡ shown (sheetOf faceTable [] false))
     printed-differ =

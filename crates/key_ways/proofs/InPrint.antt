@@ -1,12 +1,12 @@
 -- The reading of a way, as it is shown: its words' letters in their small forms, with `|` between.
-use Prim.Native.Nat.{ℕ, _≤_}
+use Prim.Native.Nat.{ℕ}
 use native.Mathlib.Omega.{arith}
 use mathlib.Core.Path.{_≡_, refl, ap, ap₂, subst, _∙_}
 use mathlib.Core.Bool.{true}
 use mathlib.Core.List.{List, [], _∷_, _++_, map, map-append}
 use Rattle.table_format.proofs.All.{All}
 use Rattle.utf8.specs.Utf8.{isScalar, encoded}
-use Rattle.alphabet.specs.Letters.{letterCount, smalls, smallOf}
+use Rattle.alphabet.specs.Letters.{letterCount, smalls, smallOf, Known}
 use Rattle.alphabet.specs.Shown.{faceTable, codeShown, shownAs, shown}
 use Rattle.alphabet.proofs.Places.{same-from}
 use Rattle.alphabet.proofs.Headlines.{letter-of-small, shown-append}
@@ -16,10 +16,6 @@ use Rattle.segmentation.specs.Ways.{joined, together}
 use Rattle.trie_format.specs.Trie.{cutLetter}
 use Rattle.wordlist_spelling.specs.Facts.{Spells}
 use Rattle.key_ways.specs.Printed.{wordText, wayText}
-
--- a letter of the alphabet
-abbrev pub Known : ℕ → Type 0
-Known x = (1 ≤ x) × (x ≤ letterCount)
 
 -- its face is shown as its small form
 pub letter-shown : (l : ℕ) → Known l → shownAs (faceOf faceTable l) ≡ encoded (smallOf l)

@@ -48,7 +48,7 @@ module _ (ws : List Word) (K : Kept ws) (x : ℕ) (v : Word) (good : wordHolds (
   bounded : Bounded (treeMachine ws w)
   bounded = machines.bound (trieTable ws) (trie-rules ws K) (synthesisOf w) (cutting.trie-no-cycle ws (K .holds) synthesis)
 
-  -- "64, and 63 cuts"
+  -- a reading has at most 127 letters
   enough-letters : (p : Path) → Allowed (treeMachine ws w) p → accepts (treeMachine ws w) p ≡ true → length (output (treeMachine ws w) p) ≤ outputLetters
   enough-letters p A e =
       let m = outputs-mem (treeMachine ws w) (accepting (treeMachine ws w) (pathsIn (tour (treeMachine ws w)))) p (machines.listed (treeMachine ws w) bounded .members p .1 (A, e)) in
@@ -56,7 +56,7 @@ module _ (ws : List Word) (K : Kept ws) (x : ℕ) (v : Word) (good : wordHolds (
       let k = subst (λ (l : List Word). List·Memᴰ r l) (sym (machines.readings-are (treeMachine ws w)) ∙ cutting.cuts ws (K .holds) x v) m in
       omega (arith, short, reads-length ws (K .holds) w r (reads ws (K .holds) w r k))
 
-  -- "(64 letters + 1) × 256 states"
+  -- the stack has frames enough
   enough-frames : (lettersToRead (synthesisOf w) + 1) * trieTable ws .states ≤ stackFrames
   enough-frames =
       let h : lettersToRead (synthesisOf w) + 1 ≤ 65 = omega (arith, short) in

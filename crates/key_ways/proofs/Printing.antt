@@ -26,8 +26,10 @@ use Rattle.wordlist_spelling.proofs.Facts.{spells-each}
 use Rattle.key_sheet.specs.Calls.{keySheet}
 use Rattle.key_ways.specs.Told.{KeyWritten, KeyTold}
 use Rattle.key_ways.specs.Printed.{printedFor, KeyPrinted, WayPrinted, PrintTold, LineWord, LineWay}
-use Rattle.key_ways.proofs.InPrint.{Known, way-shown, words-letters}
-use Rattle.key_ways.proofs.ShownLines.{Ascii, line-shown, lead-same, letters-shown}
+use Rattle.alphabet.specs.Letters.{Known}
+use Rattle.key_ways.proofs.InPrint.{way-shown, words-letters}
+use Rattle.alphabet.specs.Shown.{Ascii}
+use Rattle.key_ways.proofs.ShownLines.{line-shown, lead-same, letters-shown}
 
 -- The calls.
 

@@ -1,5 +1,5 @@
 -- A sheet's lines as they are shown: the columns before the letters, line feeds and the last line stay as they are.
-use Prim.Native.Nat.{ℕ, _+_, _-_, _<_}
+use Prim.Native.Nat.{ℕ, _+_, _-_}
 use native.Mathlib.Omega.{arith}
 use mathlib.Core.Path.{_≡_, refl, sym, ap, ap₂, subst, _∙_}
 use mathlib.Core.Logic.{⊎-elim}
@@ -8,7 +8,7 @@ use mathlib.Core.List.{List, [], _∷_, _++_, map, append-assoc, append-nil, Lis
 use lib.ListN.{length, getD, take, replicate, length-append}
 use lib.Seq.{take-all, take-suc, take-add, drop-at}
 use Rattle.table_format.proofs.All.{All, all-append, all-mem}
-use Rattle.alphabet.specs.Shown.{faceTable, codeShown, shownAs, shown}
+use Rattle.alphabet.specs.Shown.{faceTable, codeShown, shownAs, shown, Ascii}
 use Rattle.alphabet.proofs.Places.{same-from}
 use Rattle.alphabet.proofs.Headlines.{shown-append}
 use Rattle.faces.specs.Faces.{facesHold}
@@ -34,9 +34,6 @@ each-shown part (l ∷ ls) = ap (λ (s : List ℕ). shown (part l) ++ s) (each-s
 
 abbrev Same : ℕ → Type 0
 Same c = shownAs c ≡ c ∷ []
-
-abbrev pub Ascii : ℕ → Type 0
-Ascii c = c < 128
 
 pub same-shown : (s : List ℕ) → All Same s → shown s ≡ s
 unfolding shown

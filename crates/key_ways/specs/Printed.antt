@@ -18,7 +18,7 @@ use Rattle.wordlist_spelling.specs.Facts.{Spells}
 use Rattle.key_sheet.specs.Calls.{keyAnswer, keySheet}
 use Rattle.key_ways.specs.Told.{OnLines, KeyTold}
 
--- "the word as it was given, then its answer sheet as request 4 lays it out, then an empty line"
+-- the word as it is given, its sheet as it is shown, and an empty line
 abbrev pub printedFor : (line sheet : List ℕ) → List ℕ
 printedFor line sheet = line ++ (10 ∷ (shown sheet ++ (10 ∷ [])))
 

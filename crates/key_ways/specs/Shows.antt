@@ -13,6 +13,8 @@ use Rattle.machine.specs.Tour.{treeSize}
 use Rattle.machine.specs.Demand.{Lent, callOn, runAfter, Handed, received, stepsTold, unended, LastEnds}
 use Rattle.session_calls.specs.Calls.{callSteps, mostCalls}
 use Rattle.lexicon.specs.Words.{Word}
+use Rattle.table_format.specs.Loaded.{cellsOf}
+use Rattle.trie_format.specs.Trie.{trieTable}
 use Rattle.segmentation.specs.Ways.{waysToCut, joined}
 use Rattle.segmentation.specs.Readings.{treeMachine}
 use Rattle.key_sheet.specs.Key.{Key, key, refused, firstStack, firstOutput}
@@ -63,7 +65,7 @@ module _ (cells w : List ℕ) where
     pub few : length calls ≤ c
     pub tell : CallsTell w n c run calls k
 
-  -- "1,000 readings, 65,536 calls of 1,000 steps": the calls after a start that left run
+  -- At most 1,000 readings and 65,536 calls of 1,000 steps: the calls after a start that left run
   abbrev pub KeyCalls : Run → Key → Type 0
   KeyCalls run k = CallsBehind mostReadings mostCalls run [] firstStack firstOutput k
 
@@ -72,6 +74,10 @@ module _ (cells w : List ℕ) where
 -- the steps at least of 65,536 calls that find fewer than 1,000 readings: (65,536 − 999) × 1,000
 abbrev pub spentSteps : ℕ
 spentSteps = 64537000
+
+-- cells that begin with those of a list's table
+abbrev pub treeCells : List Word → List ℕ → List ℕ
+treeCells ws rest = cellsOf (trieTable ws) ++ rest
 
 -- what a key shows of a word over the letter tree of the list ws: readings, and no refusal
 pub record KeyShows (ws : List Word) (w : Word) (k : Key) : Type 0 where

@@ -1,9 +1,8 @@
 -- What is told of a text, a line, a list or a sheet is within its bytes.
-use Prim.Native.Nat.{ℕ, suc, _+_, _*_, _≤_}
+use Prim.Native.Nat.{ℕ, _+_, _*_, _≤_}
 use native.Mathlib.Omega.{arith}
 use mathlib.Core.Path.{_≡_, sym, subst, _∙_}
-use mathlib.Core.Bool.{Bool, true, false, cond}
-use mathlib.Core.List.{List, [], _∷_}
+use mathlib.Core.List.{List}
 use lib.ListN.{length, take}
 use lib.Seq.{length-take-le}
 use Rattle.destination.specs.declared.Answer.{Answer}
@@ -17,11 +16,11 @@ use Rattle.input.specs.Read.{Within}
 use Rattle.wordlist_lines.specs.declared.NextLine.{NextLine}
 use Rattle.wordlist_lines.specs.declared.NextLine.the-variants.{Found}
 use Rattle.wordlist_lines.specs.Next.{FoundIs, NextIs}
-use Rattle.wordlist_lines.specs.Lines.{isFeed, inFront, upToLast, wholeLines, feeds}
 use Rattle.wordlist_spelling.specs.declared.Spelling.{Spelling}
 use Rattle.wordlist_spelling.specs.Spelled.{mostLetters, SpelledIs}
 use Rattle.wordlist_spelling.proofs.Headlines.{letters-few, fault-inside, word-front}
 use Rattle.wordlist_sorted.proofs.Storing.{used-within}
+use Rattle.wordlist.specs.declared.BadLine.{BadLine}
 use Rattle.wordlist.specs.declared.Gathered.{Gathered}
 use Rattle.wordlist.specs.declared.Gathered.the-variants.{Words, BadWord, TooMany}
 use Rattle.wordlist.specs.Gathered.{Fate, GatheredIs}
@@ -33,34 +32,10 @@ use Rattle.key_sheet.proofs.Headlines.{answer-one, key-done}
 pub read-within : (g : Got) (size n : ℕ) → Within g size → g ≡ Bytes n → n ≤ size
 read-within g size n w e = subst (λ (x : Got). Within x size) e w
 
--- A text's next line, its whole lines, and its line feeds.
+-- A text's next line.
 
 pub found-within : (r : NextLine) (text : List ℕ) (at from end passed next : ℕ) → NextIs r text at → r ≡ Found from end passed next → FoundIs text at from end passed next
 found-within r text at from end passed next n e = subst (λ (x : NextLine). NextIs x text at) e n
-
--- up to the last character that passes a test
-last-within : (p : ℕ → Bool) (l : List ℕ) → length (upToLast p l) ≤ length l
-last-within p [] = omega arith
-last-within p (c ∷ l) = go (upToLast p l) (last-within p l)
-  where
-    alone : (b : Bool) → length (cond b (c ∷ []) []) ≤ suc (length l)
-    alone true = omega arith
-    alone false = omega arith
-
-    go : (kept : List ℕ) → length kept ≤ length l → length (inFront p c kept) ≤ suc (length l)
-    go [] h = alone (p c)
-    go (d ∷ kept) h = omega arith
-
-pub whole-within : (text : List ℕ) → wholeLines text ≤ length text
-whole-within text = last-within isFeed text
-
-pub feeds-within : (text : List ℕ) → feeds text ≤ length text
-feeds-within [] = omega arith
-feeds-within (c ∷ text) = go (isFeed c) (feeds-within text)
-  where
-    go : (b : Bool) → feeds text ≤ length text → cond b (suc (feeds text)) (feeds text) ≤ suc (length text)
-    go true h = omega arith
-    go false h = omega arith
 
 -- The character at a line's fault, and the letters before it.
 
@@ -77,11 +52,11 @@ module _ (f : Fate) (text : List ℕ) (g : Gathered) (before after : List ℕ) (
   is : (x : Gathered) → g ≡ x → GatheredIs f text x before after
   is x e = subst (λ (y : Gathered). GatheredIs f text y before after) e G
 
-  pub bad-within : (n from end count : ℕ) → g ≡ BadWord n from end count → (from ≤ end) × (end ≤ length text)
-  bad-within n from end count e = let h = is (BadWord n from end count) e in (h .2, h .3)
+  pub bad-within : (bad : BadLine) → g ≡ BadWord bad → (bad .from ≤ bad .end) × (bad .end ≤ length text)
+  bad-within bad e = let h = is (BadWord bad) e .3 in (h .rises, h .inside)
 
-  pub many-within : (n from end count : ℕ) → g ≡ TooMany n from end count → (from ≤ end) × (end ≤ length text)
-  many-within n from end count e = let h = is (TooMany n from end count) e in (h .2, h .3)
+  pub many-within : (bad : BadLine) → g ≡ TooMany bad → (bad .from ≤ bad .end) × (bad .end ≤ length text)
+  many-within bad e = let h = is (TooMany bad) e .3 in (h .rises, h .inside)
 
   pub words-within : (count bytes : ℕ) → g ≡ Words count bytes → bytes ≤ length after
   words-within count bytes e = let h = is (Words count bytes) e in used-within (h .0) before after (h .4) bytes (h .3)

@@ -55,27 +55,21 @@ pub fn load(path: &[u8], text: &[u8], table: &mut [u16; MOST_CELLS]) -> bool {
     let mut list = [0u8; LIST_BYTES];
     let gathered = wordlist::gather(&text[..limit], &mut list);
     match gathered {
-        Gathered::BadWord {
-            line,
-            from,
-            end,
-            count: _,
-        } => {
+        Gathered::BadWord(bad) => {
+            let from = bad.from;
+            let end = bad.end;
             let word = &text[from..end];
-            place_of_word(path, line, word);
+            place_of_word(path, bad.number, word);
             tell::fault(2, word);
             false
         }
-        Gathered::TooMany {
-            line,
-            from,
-            end,
-            count,
-        } => {
-            place_of_word(path, line, &text[from..end]);
+        Gathered::TooMany(bad) => {
+            let from = bad.from;
+            let end = bad.end;
+            place_of_word(path, bad.number, &text[from..end]);
             too_long(
                 b"the list is too long with this word, over 256 states",
-                count,
+                bad.count,
             );
             false
         }

@@ -50,6 +50,19 @@ pub read-four : characterIn (0xF0 ∷ 0x9F ∷ 0x98 ∷ 0x80 ∷ []) ≡ Scalar 
 unfolding characterIn several
 read-four = refl
 
+-- The characters next to the surrogates, D7FF and E000, and the last one, 10FFFF.
+pub before-surrogates : characterIn (0xED ∷ 0x9F ∷ 0xBF ∷ []) ≡ Scalar 0xD7FF 3
+unfolding characterIn several
+before-surrogates = refl
+
+pub after-surrogates : characterIn (0xEE ∷ 0x80 ∷ 0x80 ∷ []) ≡ Scalar 0xE000 3
+unfolding characterIn several
+after-surrogates = refl
+
+pub last : characterIn (0xF4 ∷ 0x8F ∷ 0xBF ∷ 0xBF ∷ []) ≡ Scalar 0x10FFFF 4
+unfolding characterIn several
+last = refl
+
 -- No character stands in two or three bytes where one is enough,
 pub overlong-two : characterIn (0xC1 ∷ 0xA1 ∷ []) ≡ Malformed
 unfolding characterIn several

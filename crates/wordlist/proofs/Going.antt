@@ -29,8 +29,9 @@ use Rattle.wordlist_spelling.proofs.Headlines.{whole-good}
 use Rattle.wordlist_sorted.proofs.Headlines.{inserted-holds, inserted-grows, words-few}
 use Rattle.wordlist.specs.declared.Added.{Added}
 use Rattle.wordlist.specs.declared.Added.the-variants.{Grown, Bad, TooMany}
+use Rattle.wordlist.specs.declared.BadLine.{BadLine}
 use Rattle.wordlist.specs.declared.Gathered.the-variants as R
-use Rattle.wordlist.specs.Gathered.{taken, tooMany, fateBy, fateFrom, fate, AddedIs, lineAt, GatheredIs}
+use Rattle.wordlist.specs.Gathered.{taken, tooMany, fateBy, fateFrom, fate, AddedIs, lineAt, BadLineIs, GatheredIs}
 
 -- What the code is told, by the case that it has in hand.
 
@@ -111,13 +112,18 @@ module _ {text list₀ list : List ℕ} {at before count bytes : ℕ} (G : Going
     pub line-fits : before + passed + 1 ≤ length text
     line-fits = omega (arith, G .few-lines, F .moves, F .within)
 
-    pub bad-told : (list′ : List ℕ) → AddedIs Bad (part text from end) (G .words) list₀ list′ → GatheredIs (fate text) text (R.BadWord (before + passed + 1) from end count) list₀ list′
-    bad-told list′ A =
-        (G .words, ⊎-elim (by-ending NoLetter) (by-ending TooLong) (A .0), omega (arith, F .some), omega (arith, F .inside, F .within), G .counted, A .1)
+    -- the line as it is told where it cannot be used
+    abbrev bad : BadLine
+    bad = record { number = before + passed + 1; from = from; end = end; count = count }
 
-    pub many-told : (list′ : List ℕ) → AddedIs TooMany (part text from end) (G .words) list₀ list′ → GatheredIs (fate text) text (R.TooMany (before + passed + 1) from end count) list₀ list′
-    many-told list′ A =
-        (G .words, by-states false (A .0) (lt-leb _ _ (A .1)), omega (arith, F .some), omega (arith, F .inside, F .within), G .counted, A .2)
+    bad-is : BadLineIs text (G .words) bad found
+    bad-is = record { line-is = refl; rises = omega (arith, F .some); inside = omega (arith, F .inside, F .within); counted = G .counted }
+
+    pub bad-told : (list′ : List ℕ) → AddedIs Bad (part text from end) (G .words) list₀ list′ → GatheredIs (fate text) text (R.BadWord bad) list₀ list′
+    bad-told list′ A = (G .words, found, ⊎-elim (by-ending NoLetter) (by-ending TooLong) (A .0), bad-is, A .1)
+
+    pub many-told : (list′ : List ℕ) → AddedIs TooMany (part text from end) (G .words) list₀ list′ → GatheredIs (fate text) text (R.TooMany bad) list₀ list′
+    many-told list′ A = (G .words, found, by-states false (A .0) (lt-leb _ _ (A .1)), bad-is, A .2)
 
     goes-on : (list′ : List ℕ) (count′ bytes′ : ℕ) → AddedIs (Grown bytes′) (part text from end) (G .words) list₀ list′ → count′ ≡ length grown
         → Going text list₀ list′ next (before + passed + 1) count′ bytes′

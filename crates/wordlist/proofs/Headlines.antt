@@ -1,11 +1,12 @@
 -- The theorems about what a text of words comes to, stated together. What each one means is in specs/; how it is shown is in the files that it names.
-use Prim.Native.Nat.{ℕ}
+use Prim.Native.Nat.{ℕ, _≤_}
 use mathlib.Core.Path.{_≡_, refl, sym}
 use mathlib.Core.Logic.{_↔_}
 use mathlib.Core.List.{List, List·Memᴰ}
+use lib.ListN.{length}
 use Rattle.graph.specs.Lists.{Distinct}
 use Rattle.lexicon.specs.Words.{Word}
-use Rattle.lexicon.specs.Beginnings.{RisingWords}
+use Rattle.lexicon.specs.Beginnings.{beginnings, RisingWords}
 use Rattle.lexicon.specs.Lexicon.{spelled, TakenAs}
 use Rattle.lexicon.specs.FirstBad.{Kept}
 use Rattle.lexicon.proofs.Lexicon.{lexicon-complete}
@@ -47,9 +48,13 @@ module _ (text : List ℕ) (ws : List Word) (e : fate text ≡ taken ws) where
   pub list-rises : RisingWords ws
   list-rises = lists.list-rises text ws (taken-is text ws .0 e)
 
-  -- each once;
+  -- each once,
   pub list-once : Distinct ws
   list-once = lists.list-once text ws (taken-is text ws .0 e)
+
+  -- of at most 256 states;
+  pub list-few : length (beginnings ws) ≤ 256
+  list-few = taken-is text ws .0 e .few
 
   -- it earns none of 30, 31 and 32,
   pub list-kept : Kept ws

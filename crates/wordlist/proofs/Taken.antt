@@ -10,7 +10,7 @@ use Rattle.lexicon.specs.Beginnings.{RisingWords}
 use Rattle.lexicon.specs.FirstBad.{Kept}
 use Rattle.wordlist_lines.specs.Lines.{Line, heldLines}
 use Rattle.wordlist_spelling.specs.Facts.{Spells}
-use Rattle.wordlist_sorted.proofs.Sorted.{GoodWords}
+use Rattle.wordlist_sorted.specs.Sorted.{GoodWords}
 use Rattle.wordlist_sorted.proofs.Headlines.{sorted-rises, sorted-members, sorted-once, sorted-holds}
 use Rattle.wordlist.specs.Facts.{wordOf, TakenLines}
 use Rattle.wordlist.proofs.Words.{spells-one, held-good}

@@ -20,6 +20,7 @@ use Rattle.wordlist_sorted.specs.Sorted.{inserted}
 use Rattle.wordlist_sorted.specs.Placed.{Holds}
 use Rattle.wordlist.specs.declared.Added.{Added}
 use Rattle.wordlist.specs.declared.Added.the-variants.{Grown, Bad, TooMany}
+use Rattle.wordlist.specs.declared.BadLine.{BadLine}
 use Rattle.wordlist.specs.declared.Gathered.{Gathered}
 use Rattle.wordlist.specs.declared.Gathered.the-variants as G
 
@@ -61,11 +62,17 @@ AddedIs TooMany line ws before after =
 abbrev pub lineAt : List ℕ → ℕ → ℕ → ℕ → Line
 lineAt text number from end = record { number = number; text = part text from end }
 
+-- the same, of a line that cannot be used after some words
+pub record BadLineIs (text : List ℕ) (ws : List Word) (bad : BadLine) (l : Line) : Type 0 where
+  pub line-is : l ≡ lineAt text (bad .number) (bad .from) (bad .end)
+  pub rises : bad .from ≤ bad .end
+  pub inside : bad .end ≤ length text
+  pub counted : bad .count ≡ length ws
+
 abbrev pub GatheredIs : Fate → List ℕ → Gathered → List ℕ → List ℕ → Type 0
 GatheredIs f text (G.Words count bytes) before after =
     (ws : List Word) × (f ≡ taken ws) × (count ≡ length ws) × (bytes ≡ length (lexicon.spelled ws)) × Holds ws before after
-GatheredIs f text (G.BadWord number from end count) before after =
-    (ws : List Word) × (f ≡ badWord (lineAt text number from end) ws) × (from ≤ end) × (end ≤ length text) × (count ≡ length ws) × Holds ws before after
-GatheredIs f text (G.TooMany number from end count) before after =
-    (ws : List Word) × (f ≡ tooMany (lineAt text number from end) ws) × (from ≤ end) × (end ≤ length text) × (count ≡ length ws)
-    × Holds (inserted (spelled (part text from end) .letters) ws) before after
+GatheredIs f text (G.BadWord bad) before after =
+    (ws : List Word) × (l : Line) × (f ≡ badWord l ws) × BadLineIs text ws bad l × Holds ws before after
+GatheredIs f text (G.TooMany bad) before after =
+    (ws : List Word) × (l : Line) × (f ≡ tooMany l ws) × BadLineIs text ws bad l × Holds (inserted (spelled (l .text) .letters) ws) before after

@@ -17,25 +17,19 @@ ghost use Rattle.lexicon.specs.FirstBad.{Kept};
 ghost use Rattle.wordlist_sorted.specs.Placed.{Holds};
 ghost use Rattle.wordlist.specs.Gathered.{AddedIs, fate, GatheredIs};
 
-// What a text comes to: so many words in so many bytes of the list; or the line that cannot be used, from where to where its word stands in the
-// text, and how many words stand before it.
+// The line that cannot be used: its number, from where to where its word stands in the text, and how many words stand before it.
+pub struct BadLine {
+    pub number: usize,
+    pub from: usize,
+    pub end: usize,
+    pub count: usize,
+}
+
+// What a text comes to: so many words in so many bytes of the list; or a line whose word is bad, or with whose word there are too many states.
 pub enum Gathered {
-    Words {
-        count: usize,
-        bytes: usize,
-    },
-    BadWord {
-        line: usize,
-        from: usize,
-        end: usize,
-        count: usize,
-    },
-    TooMany {
-        line: usize,
-        from: usize,
-        end: usize,
-        count: usize,
-    },
+    Words { count: usize, bytes: usize },
+    BadWord(BadLine),
+    TooMany(BadLine),
 }
 
 // Whether the letter tree of a list in so many bytes has few enough states.
@@ -99,24 +93,16 @@ pub fn gather(text: &[u8], list: &mut [u8; LIST_BYTES]) -> Gathered
         else {
             return Gathered::Words { count, bytes };
         };
-        let line = before + passed + 1;
+        let number = before + passed + 1;
+        let bad = BadLine {
+            number,
+            from,
+            end,
+            count,
+        };
         match add(&text[from..end], list, bytes) {
-            Added::Bad => {
-                return Gathered::BadWord {
-                    line,
-                    from,
-                    end,
-                    count,
-                };
-            }
-            Added::TooMany => {
-                return Gathered::TooMany {
-                    line,
-                    from,
-                    end,
-                    count,
-                };
-            }
+            Added::Bad => return Gathered::BadWord(bad),
+            Added::TooMany => return Gathered::TooMany(bad),
             Added::Grown(grown) => {
                 if bytes < grown {
                     count += 1;
@@ -124,7 +110,7 @@ pub fn gather(text: &[u8], list: &mut [u8; LIST_BYTES]) -> Gathered
                 bytes = grown;
             }
         }
-        before = line;
+        before = number;
         at = next;
     }
     Gathered::Words { count, bytes }

@@ -3,12 +3,13 @@ use Prim.Native.Nat.{ℕ, zero, suc, min, _+_, _-_, _≤_, _<_}
 use native.Mathlib.Omega.{arith}
 use mathlib.Core.Path.{_≡_, refl, sym, ap, ap₂, _∙_}
 use mathlib.Core.Bool.{Bool, true, false, cond}
-use mathlib.Core.List.{List, [], _∷_}
+use mathlib.Core.List.{List, [], _∷_, _++_, append-assoc}
 use lib.Dec.{ltb}
-use lib.ListN.{length, take, drop, length-take, length-drop, drop-of-length-le}
+use lib.ListN.{length, take, drop, length-append, length-take, length-drop, drop-of-length-le}
 use lib.Seq.{take-all, take-nil, take-take, drop-drop}
 use borrow.Author.Tests.{ltb-true, ltb-false}
 use Rattle.wordlist_lines.specs.Lines.{linesIn, unled, untrailed, trimmed, passedOver, heldFrom}
+use Rattle.wordlist_lines.specs.Facts.{fed}
 use Rattle.wordlist_lines.specs.Next.{part, FoundIs}
 
 drop-take : (k n : ℕ) (l : List ℕ) → drop k (take n l) ≡ take (n - k) (drop k l)
@@ -34,6 +35,8 @@ pub record Turn (text : List ℕ) (from first last next : ℕ) : Type 0 where
   pub line : List ℕ
   pub lines : linesIn (drop from text) ≡ line ∷ linesIn (drop next text)
   pub word : trimmed line ≡ part text first last
+  pub last-is : last ≡ from + length (untrailed line)
+  pub next-is : next ≡ min (suc (from + length line)) (length text)
 
 -- so many characters before its line feed, so many without the blanks at the end, and of these so many blanks at the front
 module _ (text : List ℕ) (from size kept led next : ℕ) (h : from < length text) where
@@ -70,6 +73,9 @@ module _ (text : List ℕ) (from size kept led next : ℕ) (h : from < length te
             ∙ ap (drop led) (of kept)
             ∙ drop-take led kept rest
             ∙ ap₂ take (let e : kept - led ≡ from + kept - (from + led) = omega arith in e) (drop-drop led from text);
+        last-is =
+            omega (arith, ap length (ap (take kept) (sym (of size)) ∙ back ∙ ap untrailed (of size)), length-take kept (take size rest), length-take size rest);
+        next-is = omega (arith, length-take size rest);
       }
     where
       goes-on : from + size ≤ length text → drop (from + suc size) text ≡ drop next text
@@ -79,18 +85,39 @@ module _ (text : List ℕ) (from size kept led next : ℕ) (h : from < length te
           go true b = let l : from + size < length text = ltb-true _ _ b in let e : from + suc size ≡ next = omega arith in ap (λ (i : ℕ). drop i text) e
           go false b = let l : length text ≤ from + size = ltb-false _ _ b in drop-of-length-le text {i = from + suc size} (omega arith) ∙ sym (drop-of-length-le text {i = next} (omega arith))
 
--- lines passed over between two places at which lines begin
+fed-snoc : (ls : List (List ℕ)) (l : List ℕ) → length (fed (ls ++ (l ∷ []))) ≡ length (fed ls) + suc (length l)
+fed-snoc [] l = omega (arith, length-append l (10 ∷ []))
+fed-snoc (x ∷ ls) l = omega (arith, length-append x (10 ∷ fed (ls ++ (l ∷ []))), length-append x (10 ∷ fed ls), fed-snoc ls l)
+
+-- lines passed over between two places at which lines begin; the last of them may lack its line feed where the text ends
 pub record Passing (text : List ℕ) (at passed from : ℕ) : Type 0 where
   pub moves : at + passed ≤ from
   pub held : (n : ℕ) → heldFrom n (linesIn (drop at text)) ≡ heldFrom (n + passed) (linesIn (drop from text))
+  pub before : List (List ℕ)
+  pub lines : linesIn (drop at text) ≡ before ++ linesIn (drop from text)
+  pub passed-are : length before ≡ passed
+  pub starts : from < length text → at + length (fed before) ≡ from
 
 pub passing-none : (text : List ℕ) (at : ℕ) → Passing text at 0 at
-passing-none text at = record { moves = omega arith; held = λ n. (let e : n ≡ n + 0 = omega arith in ap (λ (m : ℕ). heldFrom m (linesIn (drop at text))) e) }
+passing-none text at = record {
+  moves = omega arith;
+  held = λ n. (let e : n ≡ n + 0 = omega arith in ap (λ (m : ℕ). heldFrom m (linesIn (drop at text))) e);
+  before = [];
+  lines = refl;
+  passed-are = refl;
+  starts = λ h. omega arith;
+}
 
 pub passing-done : (text : List ℕ) (at passed from : ℕ) → Passing text at passed from → length text ≤ from → (n : ℕ) → heldFrom n (linesIn (drop at text)) ≡ []
 passing-done text at passed from P h n = P .held n ∙ ap (λ (t : List ℕ). heldFrom (n + passed) (linesIn t)) (drop-of-length-le text h)
 
 module _ (text : List ℕ) (at passed from first last next : ℕ) (P : Passing text at passed from) (T : Turn text from first last next) where
+  starts-here : at + length (fed (P .before)) ≡ from
+  starts-here = P .starts (omega (arith, T .moves, T .within))
+
+  lines-on : linesIn (drop at text) ≡ P .before ++ (T .line ∷ linesIn (drop next text))
+  lines-on = P .lines ∙ ap (λ (ls : List (List ℕ)). P .before ++ ls) (T .lines)
+
   turn-held : (b : Bool) → passedOver (part text first last) ≡ b → (n : ℕ)
       → heldFrom n (linesIn (drop at text))
       ≡ cond b (heldFrom (suc (n + passed)) (linesIn (drop next text))) (record { number = n + passed; text = part text first last } ∷ heldFrom (suc (n + passed)) (linesIn (drop next text)))
@@ -103,6 +130,10 @@ module _ (text : List ℕ) (at passed from first last next : ℕ) (P : Passing t
   turn-passed e = record {
     moves = omega (arith, P .moves, T .moves);
     held = λ n. turn-held true e n ∙ (let m : suc (n + passed) ≡ n + (passed + 1) = omega arith in ap (λ (i : ℕ). heldFrom i (linesIn (drop next text))) m);
+    before = P .before ++ (T .line ∷ []);
+    lines = lines-on ∙ sym (append-assoc (P .before) (T .line ∷ []) (linesIn (drop next text)));
+    passed-are = omega (arith, length-append (P .before) (T .line ∷ []), P .passed-are);
+    starts = λ h. omega (arith, starts-here, T .next-is, fed-snoc (P .before) (T .line));
   }
 
   pub turn-found : passedOver (part text first last) ≡ false → FoundIs text at first last passed next
@@ -112,6 +143,13 @@ module _ (text : List ℕ) (at passed from first last next : ℕ) (P : Passing t
     within = T .within;
     moves = omega (arith, P .moves, T .moves);
     first = turn-held false e;
+    before = P .before;
+    line = T .line;
+    lines = lines-on;
+    passed-are = P .passed-are;
+    end-is = omega (arith, starts-here, T .last-is);
+    from-is = omega (arith, ap length (T .word), length-take (last - first) (drop first text), length-drop first text, T .ordered, T .inside, T .within);
+    next-is = omega (arith, starts-here, T .next-is);
   }
     where
       go : (b : Bool) → ltb first last ≡ b → first < last

@@ -1,4 +1,4 @@
--- The lines of a text by facts, for the theorems that say what Lines computes.
+-- The lines of a text by facts, for Next and for the theorems that say what Lines computes.
 use Prim.Native.Nat.{ℕ, _+_, _<_}
 use mathlib.Core.Path.{_≡_}
 use mathlib.Core.Logic.{_⊎_}

@@ -1,4 +1,5 @@
--- A text of words, "one word a line, UTF-8, LF or CRLF, blanks at the ends of a line passed over, empty lines and lines that begin with `#` too".
+-- A text of words: one word a line, in UTF-8, lines ending with LF or CRLF; blanks at a line's ends are passed over, and so are empty lines and those
+-- that begin with `#`.
 use Prim.Native.Nat.{ℕ, suc}
 use mathlib.Core.Bool.{Bool, true, cond, not, _&&_, _||_}
 use mathlib.Core.List.{List, [], _∷_}
@@ -38,7 +39,7 @@ abbrev pub feeds : List ℕ → ℕ
 feeds [] = 0
 feeds (c ∷ text) = cond (isFeed c) (suc (feeds text)) (feeds text)
 
--- a blank, a tabulator, or the carriage return of CRLF
+-- a blank, a tabulator or a carriage return, so that a line may end with CRLF (`blanks-are`)
 abbrev pub isBlank : ℕ → Bool
 isBlank c = eqb c 32 || (eqb c 9 || eqb c 13)
 
@@ -59,7 +60,7 @@ untrailed l = upToLast noBlank l
 abbrev pub trimmed : List ℕ → List ℕ
 trimmed l = unled (untrailed l)
 
--- a line that is passed over: empty, or it begins with `#`
+-- a line that is passed over: empty, or it begins with `#` (`passed-over-are`)
 abbrev pub passedOver : List ℕ → Bool
 passedOver [] = true
 passedOver (c ∷ l) = eqb c 35
@@ -74,7 +75,7 @@ abbrev pub heldFrom : ℕ → List (List ℕ) → List Line
 heldFrom n [] = []
 heldFrom n (l ∷ ls) = cond (passedOver (trimmed l)) (heldFrom (suc n) ls) (record { number = n; text = trimmed l } ∷ heldFrom (suc n) ls)
 
--- the mark EF BB BF with which some editors begin UTF-8
+-- the mark EF BB BF with which some editors begin UTF-8 (`mark-is`, `mark-only`)
 abbrev pub isMarked : List ℕ → Bool
 isMarked text = eqb (getD text 0 0) 239 && (eqb (getD text 1 0) 187 && eqb (getD text 2 0) 191)
 
@@ -82,6 +83,6 @@ isMarked text = eqb (getD text 0 0) 239 && (eqb (getD text 1 0) 187 && eqb (getD
 abbrev pub markSize : List ℕ → ℕ
 markSize text = cond (isMarked text) 3 0
 
--- the lines of a text that hold a word
+-- the lines of a text that hold a word (`lines-held`)
 unfoldable pub heldLines : List ℕ → List Line
 heldLines text = heldFrom 1 (linesIn (drop (markSize text) text))

@@ -11,8 +11,7 @@ use Rattle.lexicon.specs.Words.{Word, goodWord, listHolds}
 use Rattle.lexicon.specs.Beginnings.{beginnings, RisingWords}
 use Rattle.lexicon.specs.Lexicon.{spelled, mostStates, words, turnedDown, lexicon}
 use Rattle.lexicon.specs.FirstBad.{Kept}
-use Rattle.wordlist_sorted.specs.Sorted.{inserted, sorted}
-use Rattle.wordlist_sorted.proofs.Sorted.{GoodWords}
+use Rattle.wordlist_sorted.specs.Sorted.{inserted, sorted, GoodWords}
 use Rattle.wordlist_sorted.proofs.Sorted as laws
 use Rattle.wordlist_sorted.proofs.Growth as growth
 use Rattle.wordlist_sorted.proofs.Kept as lists

@@ -22,7 +22,7 @@ use Rattle.lexicon.proofs.Words.{wordTest}
 use Rattle.lexicon.proofs.Facts.{word-is, rises-is, list-is}
 use Rattle.lexicon.proofs.Lexicon.{kept-none, kept-more, lexicon-complete, turned-down}
 use Rattle.lexicon.proofs.Comparing.{rises-more}
-use Rattle.wordlist_sorted.proofs.Sorted.{GoodWords}
+use Rattle.wordlist_sorted.specs.Sorted.{GoodWords}
 use Rattle.wordlist_sorted.proofs.Growth.{fresh-length}
 
 pub spelled-append : (xs ys : List Word) → spelled (xs ++ ys) ≡ spelled xs ++ spelled ys

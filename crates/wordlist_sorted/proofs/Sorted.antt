@@ -14,7 +14,7 @@ use Rattle.lexicon.specs.Beginnings.{RisingWords}
 use Rattle.lexicon.specs.Lexicon.{spelled}
 use Rattle.lexicon.proofs.Facts.{rises-is, not-above, list-is}
 use Rattle.lexicon.proofs.Beginnings.{rising-distinct}
-use Rattle.wordlist_sorted.specs.Sorted.{inserted, sortedOnto, sorted}
+use Rattle.wordlist_sorted.specs.Sorted.{inserted, sortedOnto, sorted, GoodWords}
 
 -- two words of which neither is above the other are the same
 pub neither-same : (v w : Word) → rises v w ≡ false → rises w v ≡ false → w ≡ v
@@ -48,10 +48,6 @@ inserted-rises w (u ∷ ws) R = go (rises u w) (rises w u) refl refl (inserted-r
         let h : Before w u = rises-is w u .0 q in
         (λ c m. ⊎-elim (λ e. subst (Before w) (sym e) h) (λ k. before-trans w u c h (R .0 c k)) (List·Memᴰ·cases-cons m), R)
     go false false p q G = R
-
--- all words are good
-abbrev pub GoodWords : List Word → Type 0
-GoodWords ws = (w : Word) → List·Memᴰ w ws → goodWord w ≡ true
 
 pub inserted-holds : (w : Word) (ws : List Word) → goodWord w ≡ true → listHolds ws ≡ true → listHolds (inserted w ws) ≡ true
 inserted-holds w ws g e =

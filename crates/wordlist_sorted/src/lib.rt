@@ -46,7 +46,7 @@ fn find(list: &[u8], word: &[u8]) -> Place
     Place::At(at)
 }
 
-// A word put in its place in a list of so many bytes: how many there are then.
+// A word put in its place in a list of so many bytes: how many there are then. For `wordlist` alone, whose contract asks nothing.
 pub fn insert(list: &mut [u8; LIST_BYTES], used: usize, word: &[u8]) -> usize
     requires { ⌜ ((before : List ℕ) × (ws : List Word) × Holds ws before (now list) × (used ≡ length (spelled ws)))
         × (used + 1 + length (now word) ≤ listBytes) × (length (now word) ≤ 64) ⌝ }

@@ -7,7 +7,7 @@ use mathlib.Core.Bool.{true}
 use mathlib.Core.List.{List, [], _++_, append-nil}
 use lib.ListN.{length, take, length-append}
 use lib.Seq.{sets-eq, length-sets, take-at}
-use Rattle.alphabet.specs.Letters.{letterCount}
+use Rattle.alphabet.specs.Letters.{Known}
 use Rattle.alphabet.proofs.Headlines.{letter-most}
 use Rattle.table_format.proofs.All.{All}
 use Rattle.lexicon.specs.Words.{goodWord}
@@ -16,7 +16,7 @@ use Rattle.lexicon.proofs.Headlines.{word-is}
 use Rattle.wordlist_spelling.specs.declared.Ending.{Ending}
 use Rattle.wordlist_spelling.specs.declared.Ending.the-variants.{Whole}
 use Rattle.wordlist_spelling.specs.declared.Spelling.{Spelling}
-use Rattle.wordlist_spelling.specs.Spelled.{mostLetters, Spelled, ended, spelled, SpelledIs}
+use Rattle.wordlist_spelling.specs.Spelled.{Spelled, ended, spelled, SpelledIs}
 use Rattle.wordlist_spelling.specs.Facts.{Spells, Ends, SpelledAs}
 use Rattle.wordlist_spelling.proofs.Facts as facts
 
@@ -35,7 +35,7 @@ whole-line line e =
     subst (Spells (spelled line .letters)) (sym (append-nil (A .before)) ∙ sym (A .cut ∙ ap (λ (l : List ℕ). A .before ++ l) none)) (A .spells)
 
 -- A line is taken for a word exactly where its characters are the word's letters, small or capital, and these are at most 64.
-pub word-whole : (line w : List ℕ) → ((spelled line .ending ≡ Whole) × (spelled line .letters ≡ w)) ↔ (Spells w line × (length w ≤ mostLetters))
+pub word-whole : (line w : List ℕ) → ((spelled line .ending ≡ Whole) × (spelled line .letters ≡ w)) ↔ (Spells w line × (length w ≤ 64))
 word-whole line w = (
   λ h. (subst (λ (v : List ℕ). Spells v line) (h .1) (whole-line line (h .0)), omega (arith, spelled-as line .few, ap length (h .1))),
   λ h.
@@ -44,10 +44,10 @@ word-whole line w = (
 )
 
 -- The letters are some of the alphabet, at most 64 of them;
-pub letters-hold : (line : List ℕ) → All (λ x. (1 ≤ x) × (x ≤ letterCount)) (spelled line .letters)
-letters-hold line = facts.spells-each (λ x. (1 ≤ x) × (x ≤ letterCount)) (λ c h. (h, letter-most c)) (spelled-as line .spells)
+pub letters-hold : (line : List ℕ) → All Known (spelled line .letters)
+letters-hold line = facts.spells-each Known (λ c h. (h, letter-most c)) (spelled-as line .spells)
 
-pub letters-few : (line : List ℕ) → length (spelled line .letters) ≤ mostLetters
+pub letters-few : (line : List ℕ) → length (spelled line .letters) ≤ 64
 letters-few line = spelled-as line .few
 
 -- so what a line is taken for, if it is not empty, is a word for a list.
@@ -64,8 +64,8 @@ fault-inside line =
     omega (arith, A .place, facts.ends-inside (spelled line .ending) (spelled line .letters) (A .rest) (spelled line .size) (A .ends))
 
 -- What the code leaves in an array of 64: the letters at the front.
-pub word-front : (line : List ℕ) (r : Spelling) (before after : List ℕ) → SpelledIs line r before after → length before ≡ mostLetters
-    → (take (r .letters) after ≡ spelled line .letters) × (length after ≡ mostLetters)
+pub word-front : (line : List ℕ) (r : Spelling) (before after : List ℕ) → SpelledIs line r before after → length before ≡ 64
+    → (take (r .letters) after ≡ spelled line .letters) × (length after ≡ 64)
 word-front line r before after S h =
     let few = letters-few line in (
       ap (take (r .letters)) (S .word-is ∙ sets-eq (spelled line .letters) before 0 (omega arith)) ∙ take-at (spelled line .letters) _ (r .letters) (sym (S .letters-is)),

@@ -480,6 +480,22 @@ fn a_full_disk_is_told() {
     }
 }
 
+#[test]
+fn an_exam_that_cannot_be_read_is_told() {
+    let mut shell = Command::new("sh");
+    shell.args(["-c", "exec \"$0\" words.txt <."]);
+    let said = said(shell.arg(from_root("keys")), b"wort\n", b"");
+    let told = String::from_utf8(said.err).expect("text");
+    assert_eq!(told, "keys: standard input cannot be read\n");
+    assert_eq!((said.out, said.status), (vec![], 2));
+}
+
+#[test]
+fn a_name_that_is_too_long_cannot_be_read() {
+    let told = "keys: the list cannot be read: its name is too long\n";
+    assert_eq!(told_of(&[&"w".repeat(5_000)]), told);
+}
+
 /// A word of one letter many times, and listed words of the same letter. The third has 1,001 readings in truth, the fourth far more.
 #[test]
 fn after_a_thousand_readings_there_may_be_more() {

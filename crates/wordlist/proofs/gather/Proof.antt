@@ -33,11 +33,11 @@ enum-told c = search needs
 returns : tie.Need-returns Inv-loop μ-loop
 returns c = none-found (c .before .before .before .before .loop .inv) (none-of (now (c .before .before .before .before .before .before .before .args .text)) (c .before .before .before .before .loop .at) (c .before .before .next-line .ensures) (c .enum-told .given .1))
 
-add-line : tie.Need-add-line Inv-loop μ-loop
-add-line c = omega (arith, line-fits (c .before .before .before .before .before .loop .inv) (found-of (now (c .before .before .before .before .before .before .before .before .args .text)) (c .before .before .before .before .before .loop .at) (c .before .before .before .next-line .ensures) (c .before .found .given .1)))
+add-number : tie.Need-add-number Inv-loop μ-loop
+add-number c = omega (arith, line-fits (c .before .before .before .before .before .loop .inv) (found-of (now (c .before .before .before .before .before .before .before .before .args .text)) (c .before .before .before .before .before .loop .at) (c .before .before .before .next-line .ensures) (c .before .found .given .1)))
 
-add-line-2 : tie.Need-add-line-2 Inv-loop μ-loop
-add-line-2 c = omega (arith, line-fits (c .before .before .before .before .before .loop .inv) (found-of (now (c .before .before .before .before .before .before .before .before .args .text)) (c .before .before .before .before .before .loop .at) (c .before .before .before .next-line .ensures) (c .before .found .given .1)))
+add-number-2 : tie.Need-add-number-2 Inv-loop μ-loop
+add-number-2 c = omega (arith, line-fits (c .before .before .before .before .before .loop .inv) (found-of (now (c .before .before .before .before .before .before .before .before .args .text)) (c .before .before .before .before .before .loop .at) (c .before .before .before .next-line .ensures) (c .before .found .given .1)))
 
 sub-add : tie.Need-sub-add Inv-loop μ-loop
 sub-add c = omega (arith, (found-of (now (c .before .before .before .before .before .before .before .before .args .text)) (c .before .before .before .before .before .loop .at) (c .before .before .before .next-line .ensures) (c .before .found .given .1)) .some)
@@ -96,8 +96,8 @@ gather-spec =
     enum-known-found
     enum-told
     returns
-    add-line
-    add-line-2
+    add-number
+    add-number-2
     sub-add
     part-add-start
     part-add-end

@@ -5,7 +5,8 @@ use mathlib.Core.Path.{sym}
 use denote.Ref.{now}
 use lib.ListN.{take}
 use lib.Seq.{length-take-le}
-use Rattle.keys.proofs.Bounds.{feeds-within, bad-within, many-within, words-within}
+use Rattle.wordlist_lines.proofs.Sizes.{feeds-within}
+use Rattle.keys.proofs.Bounds.{bad-within, many-within, words-within}
 use Rattle.keys.proofs.list.load.Statement.{statement}
 use Rattle.keys.proofs.list.load.Tie as tie
 
@@ -22,13 +23,13 @@ enum-known-gathered : tie.Need-enum-known-gathered
 enum-known-gathered c = search needs
 
 sub-word : tie.Need-sub-word
-sub-word c = omega (arith, bad-within _ _ _ _ _ (c .before .before .before .gather .ensures) _ _ _ _ (c .before .gathered .given .1), length-take-le (c .before .before .before .before .before .before .looked-at .result) (now (c .before .before .before .before .before .before .before .before .before .args .text)) (c .before .before .before .before .before .before .looked-at .ensures))
+sub-word c = omega (arith, bad-within _ _ _ _ _ (c .before .before .before .gather .ensures) _ (c .before .gathered .given .1), length-take-le (c .before .before .before .before .before .before .looked-at .result) (now (c .before .before .before .before .before .before .before .before .before .args .text)) (c .before .before .before .before .before .before .looked-at .ensures))
 
 part-word-start : tie.Need-part-word-start
-part-word-start c = omega (arith, bad-within _ _ _ _ _ (c .before .before .before .gather .ensures) _ _ _ _ (c .before .gathered .given .1), length-take-le (c .before .before .before .before .before .before .looked-at .result) (now (c .before .before .before .before .before .before .before .before .before .args .text)) (c .before .before .before .before .before .before .looked-at .ensures))
+part-word-start c = omega (arith, bad-within _ _ _ _ _ (c .before .before .before .gather .ensures) _ (c .before .gathered .given .1), length-take-le (c .before .before .before .before .before .before .looked-at .result) (now (c .before .before .before .before .before .before .before .before .before .args .text)) (c .before .before .before .before .before .before .looked-at .ensures))
 
 part-word-end : tie.Need-part-word-end
-part-word-end c = omega (arith, bad-within _ _ _ _ _ (c .before .before .before .gather .ensures) _ _ _ _ (c .before .gathered .given .1), length-take-le (c .before .before .before .before .before .before .looked-at .result) (now (c .before .before .before .before .before .before .before .before .before .args .text)) (c .before .before .before .before .before .before .looked-at .ensures))
+part-word-end c = omega (arith, bad-within _ _ _ _ _ (c .before .before .before .gather .ensures) _ (c .before .gathered .given .1), length-take-le (c .before .before .before .before .before .before .looked-at .result) (now (c .before .before .before .before .before .before .before .before .before .args .text)) (c .before .before .before .before .before .before .looked-at .ensures))
 
 place-of-word-requires : tie.Need-place-of-word-requires
 place-of-word-requires c κs = search needs
@@ -40,13 +41,13 @@ enum-known-gathered-2 : tie.Need-enum-known-gathered-2
 enum-known-gathered-2 c = search needs
 
 sub-place-of-word : tie.Need-sub-place-of-word
-sub-place-of-word c = omega (arith, many-within _ _ _ _ _ (c .before .before .before .gather .ensures) _ _ _ _ (c .before .gathered2 .given .1), length-take-le (c .before .before .before .before .before .before .looked-at .result) (now (c .before .before .before .before .before .before .before .before .before .args .text)) (c .before .before .before .before .before .before .looked-at .ensures))
+sub-place-of-word c = omega (arith, many-within _ _ _ _ _ (c .before .before .before .gather .ensures) _ (c .before .gathered2 .given .1), length-take-le (c .before .before .before .before .before .before .looked-at .result) (now (c .before .before .before .before .before .before .before .before .before .args .text)) (c .before .before .before .before .before .before .looked-at .ensures))
 
 part-place-of-word-start : tie.Need-part-place-of-word-start
-part-place-of-word-start c = omega (arith, many-within _ _ _ _ _ (c .before .before .before .gather .ensures) _ _ _ _ (c .before .gathered2 .given .1), length-take-le (c .before .before .before .before .before .before .looked-at .result) (now (c .before .before .before .before .before .before .before .before .before .args .text)) (c .before .before .before .before .before .before .looked-at .ensures))
+part-place-of-word-start c = omega (arith, many-within _ _ _ _ _ (c .before .before .before .gather .ensures) _ (c .before .gathered2 .given .1), length-take-le (c .before .before .before .before .before .before .looked-at .result) (now (c .before .before .before .before .before .before .before .before .before .args .text)) (c .before .before .before .before .before .before .looked-at .ensures))
 
 part-place-of-word-end : tie.Need-part-place-of-word-end
-part-place-of-word-end c = omega (arith, many-within _ _ _ _ _ (c .before .before .before .gather .ensures) _ _ _ _ (c .before .gathered2 .given .1), length-take-le (c .before .before .before .before .before .before .looked-at .result) (now (c .before .before .before .before .before .before .before .before .before .args .text)) (c .before .before .before .before .before .before .looked-at .ensures))
+part-place-of-word-end c = omega (arith, many-within _ _ _ _ _ (c .before .before .before .gather .ensures) _ (c .before .gathered2 .given .1), length-take-le (c .before .before .before .before .before .before .looked-at .result) (now (c .before .before .before .before .before .before .before .before .before .args .text)) (c .before .before .before .before .before .before .looked-at .ensures))
 
 place-of-word-requires-2 : tie.Need-place-of-word-requires-2
 place-of-word-requires-2 c κs = search needs

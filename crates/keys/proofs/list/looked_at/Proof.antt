@@ -5,7 +5,7 @@ use mathlib.Core.Path.{sym}
 use denote.Ref.{now}
 use lib.ListN.{take}
 use lib.Seq.{length-take-le}
-use Rattle.keys.proofs.Bounds.{whole-within}
+use Rattle.wordlist_lines.proofs.Sizes.{whole-within}
 use Rattle.keys.proofs.list.looked_at.Statement.{statement}
 use Rattle.keys.proofs.list.looked_at.Tie as tie
 
