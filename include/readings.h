@@ -23,8 +23,8 @@
 #include <stdint.h>
 
 /* The version of this interface, as text and as 10,000 x major + 100 x minor + patch. */
-#define RD_VERSION "0.3.0"
-#define RD_VERSION_NUMBER 300
+#define RD_VERSION "0.4.0"
+#define RD_VERSION_NUMBER 400
 
 /* Limits. */
 #define RD_MOST_STATES 256   /* states of a table */
@@ -32,17 +32,21 @@
 #define RD_MOST_LETTER 63    /* the highest letter; the lowest is 1 */
 #define RD_MOST_WORD 64      /* letters of a word */
 #define RD_MOST_FRAMES 33024 /* frames of a stack that are ever used */
-#define RD_INITIALS_AT 4     /* where the initial states begin in a table's cells: behind its counts */
+#define RD_MOST_CLASSES 8    /* classes of a table, numbered from 0 */
+#define RD_CLASS_LETTERS 16  /* letters of a class, and cells of its row in a table */
+#define RD_FIRST_CLASS 64    /* what stands on an arc for class 0; class k is k more */
+#define RD_CLASSES_AT 4      /* where the classes begin in a table's cells: behind its counts */
+#define RD_INITIALS_AT 132   /* where the initial states begin: behind the classes */
 #define RD_ARC_CELLS 4       /* cells of an arc: source, upper letter, lower letter, target */
-#define RD_TABLE_CELLS 4612  /* cells that hold every table */
-#define RD_TEXT_BYTES 18970  /* bytes that hold the text of every table */
+#define RD_TABLE_CELLS 4740  /* cells that hold every table */
+#define RD_TEXT_BYTES 19266  /* bytes that hold the text of every table */
 #define RD_FRAME_CELLS 4     /* cells of a frame: state, next arc, letters passed on the upper and on the lower side */
 #define RD_CYCLE_STATES 256  /* states of the longest cycle that is told */
 
 /* Limits of a word list. */
 #define RD_MOST_LISTED_LETTER 62 /* the highest letter of a listed word; the lowest is 1 */
 #define RD_CUT 63                /* the letter that a reading has between two words */
-#define RD_TREE_CELLS 2300       /* cells that hold the table of every list */
+#define RD_TREE_CELLS 2428       /* cells that hold the table of every list */
 
 /* Limits of an answer sheet. */
 #define RD_FACES 63             /* faces: characters for letters 1 to 63 */
@@ -91,9 +95,9 @@ enum rd_task {
     RD_ANALYSIS = 3     /* reads the lower word; a reading is an upper word */
 };
 
-/* Why a call is refused. In what order: a text: its first bad line, in it the lowest number, then 24; a word list: the first word that
- * has 30, 31 or 32, of it the lowest number, then 24; rd_table_write: 20, 24; rd_start: 20, 11, 10, 12; rd_next: 20, 11, 10, 21, then
- * in a step 22, 23; rd_sheet_write: 33, 24. */
+/* Why a call is refused. In what order: a text: its first bad line, in it the lowest number, where 34 is looked for right after 5, then
+ * 24; a word list: the first word that has 30, 31 or 32, of it the lowest number, then 24; rd_table_write: 20, 24; rd_start: 20, 11, 10,
+ * 12; rd_next: 20, 11, 10, 21, then in a step 22, 23; rd_sheet_write: 33, 24. */
 enum rd_refusal {
     RD_REFUSAL_MALFORMED = 1,          /* a line is empty, has an odd count of digits, another character than 0-9, A-F,
                                           or lacks its line feed */
@@ -102,7 +106,7 @@ enum rd_refusal {
     RD_REFUSAL_COUNT_LIMIT = 3,        /* a header count is outside its limit: 1 to 256 states, 1 to states initial ones,
                                           0 to states terminal ones, 0 to 1,024 arcs */
     RD_REFUSAL_STATE_NUMBER = 4,       /* a state number is not below the count of states */
-    RD_REFUSAL_LETTER_LIMIT = 5,       /* an arc letter is over 63 */
+    RD_REFUSAL_LETTER_LIMIT = 5,       /* an arc letter is over 71 */
     RD_REFUSAL_STATE_ORDER = 6,        /* an initial state is repeated, or terminal states do not rise */
     RD_REFUSAL_SOURCE_ORDER = 7,       /* an arc's source is below the one before */
     RD_REFUSAL_ARC_REPEATED = 8,       /* an arc equals an earlier one */
@@ -111,7 +115,7 @@ enum rd_refusal {
     RD_REFUSAL_TASK_FAULT = 11,        /* unknown task, or a word of one or more letters on a side that the task does not read */
     RD_REFUSAL_IDLE_CYCLE = 12,        /* from an initial state arcs lead to a cycle of arcs that read nothing for the task:
                                           a search could be endless */
-    RD_REFUSAL_LOADED_TABLE = 20,      /* the loaded table breaks a rule (3 to 8), or is cut short */
+    RD_REFUSAL_LOADED_TABLE = 20,      /* the loaded table breaks a rule (3 to 8, 34), or is cut short */
     RD_REFUSAL_PLACE = 21,             /* the run or its used frames are not a place in a search */
     RD_REFUSAL_STACK_FULL = 22,        /* the stack is full; rd_next says how to go on */
     RD_REFUSAL_OUTPUT_FULL = 23,       /* the output is too short for the reading; rd_next says how to go on */
@@ -119,8 +123,10 @@ enum rd_refusal {
     RD_REFUSAL_LISTED_WORD = 30,       /* a listed word has no letter or over 64, has a letter 0 or over 62, or is cut short */
     RD_REFUSAL_WORD_ORDER = 31,        /* a listed word is not after the one before it in dictionary order */
     RD_REFUSAL_STATE_LIMIT = 32,       /* with this word the list's table has over 256 states */
-    RD_REFUSAL_SHEET_FAULT = 33        /* two faces are equal or one is not 33 to 126; or there are over 1,000 readings, one is
+    RD_REFUSAL_SHEET_FAULT = 33,       /* two faces are equal or one is not 33 to 126; or there are over 1,000 readings, one is
                                           cut short, or one has a letter 0 or over 63 */
+    RD_REFUSAL_CLASS_FAULT = 34        /* classes are over 7 or do not rise, a class has a letter 0 or over 63 or letters that do
+                                          not rise, or an arc's class is not defined or not the same on both sides */
 };
 
 /* What a call answers. A field that has no meaning for an answer is 0. */
@@ -149,8 +155,14 @@ typedef struct {
 } rd_run;
 
 /* Reads a table's text of n bytes, whose lines README.md shows under "What goes in", into cells: the counts of states, initial states,
- * terminal states and arcs; from RD_INITIALS_AT on the initial states, then the terminal states; then RD_ARC_CELLS cells an arc. length:
- * cells of the table. Refusals: 1 to 9, 24. */
+ * terminal states and arcs; from RD_CLASSES_AT on the classes 0 to 7, each a row of RD_CLASS_LETTERS cells, its letters and then zeros, so
+ * that the row of a class that is not defined is zeros; from RD_INITIALS_AT on the initial states, then the terminal states; then
+ * RD_ARC_CELLS cells an arc. length: cells of the table. Refusals: 1 to 9, 34, 24.
+ *
+ * An arc with RD_FIRST_CLASS + k on both sides is a class arc: it stands for one letter of class k, which has 1 to RD_CLASS_LETTERS
+ * letters of 1 to RD_MOST_LETTER, rising. It fits where the next letter is in the class, in recognition where both words have the same
+ * such letter next; in synthesis and analysis it writes the letter that it reads. It is never idle. Words have no classes, and readings
+ * have letters only. */
 rd_answer rd_table_read(const uint8_t *text, size_t n, uint16_t *table, size_t m);
 
 /* Reads a list of words of n bytes into the cells of its letter tree's table, which are as rd_table_read has them. A word stands as its

@@ -18,7 +18,7 @@
 //! assert_eq!(search.advance(100), Answer::Found { steps: 1, length: 1 });
 //! assert_eq!(search.reading(), [2]);
 //!
-//! // Analysis reads the lower word. 64 is no letter.
+//! // Analysis reads the lower word. 64 is no letter of a word.
 //! assert_eq!(table.analysis(&[64]).unwrap_err().refusal, Refusal::WordFault);
 //! # Ok::<(), Box<dyn std::error::Error>>(())
 //! ```

@@ -10,14 +10,22 @@ pub const MOST_LETTER: u8 = 63;
 pub const MOST_WORD: usize = 64;
 /// Frames of a stack that are ever used.
 pub const MOST_FRAMES: usize = 33_024;
-/// Where the initial states begin in the cells of a table: behind its counts of states, initial states, terminal states and arcs.
-pub const INITIALS_AT: usize = 4;
+/// Classes of a table, numbered from 0.
+pub const MOST_CLASSES: usize = 8;
+/// Letters of a class, and cells of its row in a table.
+pub const CLASS_LETTERS: usize = 16;
+/// What stands on an arc for class 0; class k is k more.
+pub const FIRST_CLASS: u8 = 64;
+/// Where the classes begin in the cells of a table: behind its counts of states, initial states, terminal states and arcs.
+pub const CLASSES_AT: usize = 4;
+/// Where the initial states begin: behind the classes.
+pub const INITIALS_AT: usize = CLASSES_AT + MOST_CLASSES * CLASS_LETTERS;
 /// Cells of an arc: source, upper letter, lower letter, target.
 pub const ARC_CELLS: usize = 4;
 /// Cells that hold every table.
 pub const TABLE_CELLS: usize = table_cells(MOST_STATES, MOST_STATES, MOST_ARCS);
 /// Bytes that hold the text of every table.
-pub const TEXT_BYTES: usize = 18_970;
+pub const TEXT_BYTES: usize = 19_266;
 /// Cells of a frame: state, next arc, letters passed on the upper and on the lower side.
 pub const FRAME_CELLS: usize = 4;
 /// States of the longest cycle that is told.

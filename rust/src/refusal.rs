@@ -40,7 +40,7 @@ refusals! {
     Misplaced = 2: "a line has the wrong kind for its place or the wrong length, text stands after the end, or a line is missing"
     CountLimit = 3: "a header count is outside its limit"
     StateNumber = 4: "a state number is not below the count of states"
-    LetterLimit = 5: "an arc letter is over 63"
+    LetterLimit = 5: "an arc letter is over 71"
     StateOrder = 6: "an initial state is repeated, or terminal states do not rise"
     SourceOrder = 7: "an arc's source is below the one before"
     ArcRepeated = 8: "an arc equals an earlier one"
@@ -57,6 +57,7 @@ refusals! {
     WordOrder = 31: "a listed word is not after the one before it in dictionary order"
     StateLimit = 32: "with this word the list's table has over 256 states"
     SheetFault = 33: "two faces are equal or one is not 33 to 126; or there are over 1,000 readings, one is cut short, or one has a letter 0 or over 63"
+    ClassFault = 34: "classes are over 7 or do not rise, a class has a letter 0 or over 63 or letters that do not rise, or an arc's class is not defined or not the same on both sides"
 }
 
 impl Error for Refusal {}

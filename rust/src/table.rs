@@ -10,7 +10,21 @@ pub struct Table {
 }
 
 impl Table {
-    /// The table of a text.
+    /// The table of a text. Letters 64 to 71 on an arc stand for one letter of class 0 to 7: the arc reads it, and writes the letter that
+    /// it read.
+    ///
+    /// ```
+    /// use readings::Table;
+    ///
+    /// // Class 0 is the letters 01, 05 and 09. One state, initial and terminal: 02 is read and written, and so is a letter of the class.
+    /// let text = "010001000100010002\n0600010509\n020000\n030000\n04000002020000\n04000040400000\n050006\n";
+    /// let table = Table::read(text)?;
+    /// let readings: Vec<Vec<u8>> = table.synthesis(&[2, 5, 2, 9])?.collect();
+    /// assert_eq!(readings, [[2, 5, 2, 9]]);
+    /// assert_eq!(table.recognition(&[2, 5], &[2, 5])?.count(), 1);
+    /// assert_eq!(table.recognition(&[2, 5], &[2, 9])?.count(), 0); // two letters of the class
+    /// # Ok::<(), Box<dyn std::error::Error>>(())
+    /// ```
     pub fn read(text: impl AsRef<[u8]>) -> Result<Table, Refusal> {
         let mut cells = vec![0; TABLE_CELLS];
         let length = lending::table_read(text.as_ref(), &mut cells).done()?;
@@ -69,8 +83,8 @@ impl Table {
         })
     }
 
-    /// The counts of states, initial states, terminal states and arcs; the initial states, the terminal states; and for each arc its
-    /// source, upper letter, lower letter and target.
+    /// The counts of states, initial states, terminal states and arcs; the eight classes, each as 16 cells, its letters and then zeros; the
+    /// initial states, the terminal states; and for each arc its source, upper letter, lower letter and target.
     pub fn cells(&self) -> &[u16] {
         &self.cells
     }

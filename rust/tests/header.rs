@@ -111,7 +111,13 @@ fn limits_and_sizes() {
         ("RD_MOST_LETTER", limits::MOST_LETTER.into()),
         ("RD_MOST_WORD", limits::MOST_WORD),
         ("RD_MOST_FRAMES", limits::MOST_FRAMES),
+        ("RD_MOST_CLASSES", limits::MOST_CLASSES),
+        ("RD_CLASS_LETTERS", limits::CLASS_LETTERS),
+        ("RD_FIRST_CLASS", limits::FIRST_CLASS.into()),
+        ("RD_FIRST_CLASS", usize::from(limits::MOST_LETTER) + 1),
+        ("RD_CLASSES_AT", limits::CLASSES_AT),
         ("RD_INITIALS_AT", limits::INITIALS_AT),
+        ("RD_INITIALS_AT", 4 + 8 * 16),
         ("RD_ARC_CELLS", limits::ARC_CELLS),
         ("RD_TABLE_CELLS", limits::TABLE_CELLS),
         ("RD_TEXT_BYTES", limits::TEXT_BYTES),
@@ -143,7 +149,7 @@ fn limits_of_a_word_list() {
         ("RD_CUT", usize::from(limits::MOST_LISTED_LETTER) + 1),
         ("RD_CUT", limits::MOST_LETTER.into()),
         ("RD_TREE_CELLS", limits::TREE_CELLS),
-        ("RD_TREE_CELLS", 4 + 1 + ends + 4 * (ends + ends)),
+        ("RD_TREE_CELLS", 132 + 1 + ends + 4 * (ends + ends)),
     ];
     check("list.c", &named(&limits)).unwrap();
 }

@@ -6,7 +6,9 @@ const SYNTHESIS: u32 = 2;
 
 /// A chain of arcs that read nothing and write 1, at whose end a letter 1 is read: the longest paths that so many states allow.
 fn chain(states: u16) -> Vec<u16> {
-    let mut cells = vec![states, 1, 1, states, 0, states - 1];
+    let mut cells = vec![states, 1, 1, states];
+    cells.resize(limits::INITIALS_AT, 0); // no classes
+    cells.extend([0, states - 1]);
     for state in 0..states {
         let last = state + 1 == states;
         let (letter, target) = if last { (1, 0) } else { (0, state + 1) };

@@ -6,6 +6,9 @@ const K: &str = "010003000100020005\n020000\n030001\n030002\n\
                  04000001010001\n04000002020002\n04000102020002\n\
                  04000100030000\n04000200030000\n050009\n";
 
+/// The cells of the classes, none of them defined.
+const NO_CLASSES: [u16; limits::MOST_CLASSES * limits::CLASS_LETTERS] = [0; 128];
+
 fn k() -> Table {
     Table::read(K).expect("table K")
 }
@@ -64,8 +67,8 @@ fn a_start_tells_why_it_is_refused() {
     let high = refused(&k, Task::Synthesis, &[limits::MOST_LETTER + 1], &[]);
     assert_eq!(high, (Refusal::WordFault, vec![]));
     // States 1, which is initial, and 2 lead to each other and read nothing above.
-    let cells = [3, 1, 0, 2, 1, 1, 0, 5, 2, 2, 0, 0, 1];
-    let table = Table::from_cells(&cells).unwrap();
+    let cells = [&[3, 1, 0, 2], &NO_CLASSES[..], &[1, 1, 0, 5, 2, 2, 0, 0, 1]];
+    let table = Table::from_cells(&cells.concat()).unwrap();
     let round = refused(&table, Task::Synthesis, &[], &[]);
     assert_eq!(round, (Refusal::IdleCycle, vec![1, 2]));
     assert!(table.analysis(&[]).is_ok());
@@ -77,6 +80,7 @@ fn the_order_of_arcs_does_not_decide_which_cycle_is_shown() {
     for (one, other) in [(1, 2), (2, 1)] {
         let cells = [
             [3, 1, 0, 4].as_slice(),
+            &NO_CLASSES,
             &[0],
             &[0, 0, 5, one],
             &[0, 0, 5, other],
@@ -93,13 +97,39 @@ fn tables_are_read_and_written() {
     let k = k();
     assert_eq!(k.text(), K);
     assert_eq!(k.states(), 3);
-    assert_eq!(k.cells()[..7], [3, 1, 2, 5, 0, 1, 2]);
+    assert_eq!(k.cells()[..4], [3, 1, 2, 5]);
+    assert_eq!(k.cells()[4..132], NO_CLASSES);
+    assert_eq!(k.cells()[132..135], [0, 1, 2]);
     let mut cells = k.cells().to_vec();
     cells.push(7);
     assert_eq!(Table::from_cells(&cells).unwrap(), k);
     cells.truncate(k.cells().len() - 1);
     assert_eq!(Table::from_cells(&cells), Err(Refusal::LoadedTable));
     assert_eq!(Table::from_cells(&[]), Err(Refusal::LoadedTable));
+}
+
+/// Classes 1 and 7, and an arc of each.
+#[test]
+fn classes_are_read_and_written() {
+    let text = "010001000100010002\n06010203\n0607013F\n020000\n030000\n04000041410000\n04000047470000\n050007\n";
+    let table = Table::read(text).unwrap();
+    assert_eq!(table.text(), text);
+    let row = |class: usize| &table.cells()[4 + 16 * class..][..16];
+    assert_eq!(row(1), [&[2, 3], &[0; 14][..]].concat());
+    assert_eq!(row(7), [&[1, 63], &[0; 14][..]].concat());
+    for class in [0, 2, 3, 4, 5, 6] {
+        assert_eq!(row(class), [0; 16]);
+    }
+    assert_eq!(table.cells()[134..], [0, 65, 65, 0, 0, 71, 71, 0]);
+    assert_eq!(Table::from_cells(table.cells()).as_ref(), Ok(&table));
+    let word = [3, 63, 2, 1];
+    assert_eq!(all(table.synthesis(&word).unwrap()), [word]);
+    assert_eq!(all(table.analysis(&word).unwrap()), [word]);
+    assert!(all(table.synthesis(&[4]).unwrap()).is_empty());
+    assert_eq!(
+        table.synthesis(&[65]).unwrap_err().refusal,
+        Refusal::WordFault
+    );
 }
 
 #[test]
@@ -116,7 +146,8 @@ fn a_text_is_refused_by_name() {
         ),
         (end("0001\n040000400000", 3), Refusal::Misplaced),
         (end("0000", 3), Refusal::LineCount),
-        (K.replace("04000001", "04000040"), Refusal::LetterLimit),
+        (K.replace("04000001", "04000048"), Refusal::LetterLimit),
+        (K.replace("04000001", "04000040"), Refusal::ClassFault),
         (K.replace("030002", "030001"), Refusal::StateOrder),
         (
             K.replace("04000200030000", "04000000030000"),
@@ -134,7 +165,7 @@ fn a_text_is_refused_by_name() {
 #[test]
 fn refusals_have_numbers_and_meanings() {
     let numbers: Vec<u32> = Refusal::ALL.iter().map(|r| *r as u32).collect();
-    let expected: Vec<u32> = (1..=12).chain(20..=24).chain(30..=33).collect();
+    let expected: Vec<u32> = (1..=12).chain(20..=24).chain(30..=34).collect();
     assert_eq!(numbers, expected);
     for number in 0..100 {
         let named = Refusal::of(number).map(|refusal| refusal as u32);

@@ -57,6 +57,7 @@ fn a_small_tree_cell_by_cell() {
     let table = of(&["a", "ab", "b"]).expect("a table");
     let expected = [
         [4, 1, 3, 6].as_slice(),
+        &[0; 128],
         &[0],
         &[1, 2, 3],
         &[0, 1, 1, 1],
@@ -72,7 +73,7 @@ fn a_small_tree_cell_by_cell() {
 #[test]
 fn no_words() {
     let table = of(&[]).expect("a table");
-    assert_eq!(table.cells(), [1, 1, 0, 0, 0]);
+    assert_eq!(table.cells(), [&[1, 1, 0, 0], &[0; 129][..]].concat());
     assert_eq!(table.synthesis(&[1]).expect("a search").count(), 0);
 }
 

@@ -21,16 +21,16 @@ use Rattle.engine_frames.specs.declared.Setup.{Setup}
 use Rattle.engine_step.specs.Setting.{queryBy, tableBy, machineBy}
 use Rattle.engine_search.specs.Searching.{calledWith, SearchIs}
 
-module _ (s : Setup) (initials terminals arcs upper lower : List ℕ) (run : Run) (stack : List ℕ) (n : ℕ) (buffer : List ℕ) where
+module _ (s : Setup) (classes : List (List ℕ)) (initials terminals arcs upper lower : List ℕ) (run : Run) (stack : List ℕ) (n : ℕ) (buffer : List ℕ) where
   abbrev M : Machine
-  M = machineBy s initials terminals arcs upper lower
+  M = machineBy s classes initials terminals arcs upper lower
 
   abbrev h : Held (List ℕ)
   h = heldOf run stack
 
   -- the terminal states play no part
   abbrev placed : Bool
-  placed = placeHolds (machineBy s initials [] arcs upper lower) store h
+  placed = placeHolds (machineBy s classes initials [] arcs upper lower) store h
 
   same-place : placed ≡ placeHolds M store h
   unfolding placeHolds
@@ -47,7 +47,7 @@ module _ (s : Setup) (initials terminals arcs upper lower : List ℕ) (run : Run
   module _ (e : placed ≡ true) where
     pub place-good : Good M store (roomIn stack) h
     place-good =
-        let W = place-placed M (same-is (tableBy s initials terminals arcs) (queryBy s upper lower)) store h (sym same-place ∙ e) in
+        let W = place-placed M (same-is (tableBy s classes initials terminals arcs) (queryBy s upper lower)) store h (sym same-place ∙ e) in
         record { placed = W .1; deep = W .0; room = refl }
 
     pub place-searched : (r : Called) (c o : List ℕ) → SearchIs (run .task) buffer (advance M store (length buffer) n h) r c o

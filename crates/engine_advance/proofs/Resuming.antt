@@ -1,16 +1,19 @@
 -- A call that 20, 11 and 10 let pass: the parts of the loaded table and the flags of the task are the machine's.
-use Prim.Native.Nat.{ℕ, _-_, _≤_}
+use Prim.Native.Nat.{ℕ, zero, suc, _-_, _≤_, _<_}
 use native.Mathlib.Omega.{arith}
 use mathlib.Core.Path.{_≡_, refl, sym, ap, ap₂, subst, _∙_}
-use mathlib.Core.Bool.{Bool, true, false, _||_}
+use mathlib.Core.Bool.{Bool, true, false, _&&_, _||_}
 use mathlib.Core.Option.{Option}
-use mathlib.Core.List.{List, []}
-use lib.ListN.{length, take, drop}
+use mathlib.Core.List.{List, [], _∷_}
+use lib.Dec.{leb}
+use lib.ListN.{length, getD, take, drop}
+use borrow.Author.Tests.{leb-true}
 use Rattle.table_check.specs.declared.Layout.{Layout}
 use Rattle.refusal.specs.declared.Refusal.{Refusal}
 use Rattle.refusal.specs.declared.Refusal.the-variants.{State}
 use Rattle.refusal.specs.declared.StateCause.the-variants.{Place}
 use Rattle.table_format.specs.Table.{Table}
+use Rattle.table_format.specs.Classes.{firstClass}
 use Rattle.table_format.specs.Rules.{keepsRules}
 use Rattle.table_format.specs.Loaded.{countsIn, tableIn}
 use Rattle.table_check.specs.Check.{LaidOut, layoutOf, checkedAs, checked}
@@ -19,7 +22,8 @@ use Rattle.table_check.proofs.Holding.{Holding, holding}
 use Rattle.machine.specs.declared.Run.{Run}
 use Rattle.machine.specs.declared.Called.{Called}
 use Rattle.machine.specs.declared.Answer.the-variants.{Refused}
-use Rattle.machine.specs.Query.{Task, recognition, synthesis, analysis, upperSide, lowerSide, reads, Query}
+use Rattle.table_format.proofs.Tests.{and-left, and-right}
+use Rattle.machine.specs.Query.{Task, recognition, synthesis, analysis, upperSide, lowerSide, reads, Query, lettersWithin, wordHolds, wordsHold}
 use Rattle.machine.specs.Machine.{Machine}
 use Rattle.machine.specs.Frames.{placeHolds}
 use Rattle.machine.specs.Call.{advance, call}
@@ -29,6 +33,7 @@ use Rattle.machine.specs.Stack.{roomIn, store}
 use Rattle.machine.specs.Answer.{told}
 use Rattle.machine.specs.Asked.{Asked, turned, asked}
 use Rattle.machine.specs.Reading.{Outcome, heldOf, outcomeAs, outcomeOf, outcome, OutcomeIs}
+use Rattle.machine.proofs.Asked.{asked-facts}
 use Rattle.machine.proofs.Reading.{called-outcome}
 use Rattle.engine_frames.specs.declared.Setup.{Setup}
 use Rattle.engine_step.specs.Setting.{taskBy, queryBy, tableBy, machineBy, Prepared}
@@ -55,8 +60,18 @@ some-flag recognition = refl
 some-flag synthesis = refl
 some-flag analysis = refl
 
+-- a letter of a word that holds is at most 63
+small : (w : List ℕ) → wordHolds w ≡ true → (i : ℕ) → getD w i 0 < firstClass
+small w e = letters w (and-right (leb (length w) 64) (lettersWithin w) e)
+  where
+    letters : (w : List ℕ) → lettersWithin w ≡ true → (i : ℕ) → getD w i 0 < firstClass
+    letters [] h i = omega arith
+    letters (x ∷ xs) h zero =
+        let k : x ≤ 63 = leb-true x 63 (and-right (leb 1 x) (leb x 63) (and-left (leb 1 x && leb x 63) (lettersWithin xs) h)) in omega arith
+    letters (x ∷ xs) h (suc i) = letters xs (and-right (leb 1 x && leb x 63) (lettersWithin xs) h) i
+
 module _ (cells upper lower first : List ℕ) (run : Run) (P : Admitted cells (run .task) upper lower first) (l : Layout) (E : l ≡ layoutOf (countsIn cells))
-    (u v : Bool) (U : u ≡ readsAt (run .task) upperSide) (Z : v ≡ readsAt (run .task) lowerSide) where
+    (classes : List (List ℕ)) (K : classes ≡ tableIn cells .classes) (u v : Bool) (U : u ≡ readsAt (run .task) upperSide) (Z : v ≡ readsAt (run .task) lowerSide) where
   H : Holding cells
   H = holding cells (P .loads)
 
@@ -94,24 +109,28 @@ module _ (cells upper lower first : List ℕ) (run : Run) (P : Admitted cells (r
   pub within : Within
   within = record { initials-first = omega (arith, L .initials-is, L .terminals-is); terminals-first = omega (arith, L .terminals-is, L .arcs-is); arcs-first = omega (arith, L .arcs-is, L .end-is); whole = omega (arith, L .end-is, L .whole) }
 
-  table-is : tableBy setup initials terminals arcs ≡ tableIn cells
+  table-is : tableBy setup classes initials terminals arcs ≡ tableIn cells
   unfolding tableIn
-  table-is = λ i. record { states = L .states-is i; initials = (ap (λ (k : ℕ). take (l .terminals - k) (drop k cells)) (L .initials-is) ∙ initials-part cells l L) i; terminals = terminals-part cells l L i; arcs = arcs-part cells l L i }
+  table-is = λ i. record { states = L .states-is i; classes = K i; initials = (ap (λ (k : ℕ). take (l .terminals - k) (drop k cells)) (L .initials-is) ∙ initials-part cells l L) i; terminals = terminals-part cells l L i; arcs = arcs-part cells l L i }
 
   query-is : queryBy setup upper lower ≡ query
   query-is =
       ap (λ (k : Task). record { task = k; upperWord = upper; lowerWord = lower }) (ap₂ taskBy up low ∙ by-flags (P .asks))
 
-  pub prepared : Prepared setup first initials terminals arcs
+  words : wordsHold query ≡ true
+  words = asked-facts cells (run .task) upper lower (tableIn cells) query (P .runs-is) .words-hold
+
+  pub prepared : Prepared setup classes first initials terminals arcs upper lower
   prepared =
       record {
         keeps = subst (λ (t : Table). keepsRules t ≡ true) (sym table-is) (H .keeps);
         index = P .index ∙ sym (index-part cells l L);
         reads-some = ap₂ _||_ up low ∙ some-flag (P .asks);
+        words-small = record { upper-small = small upper (and-left (wordHolds upper) (wordHolds lower) words); lower-small = small lower (and-right (wordHolds upper) (wordHolds lower) words) };
       }
 
   abbrev M : Machine
-  M = machineBy setup initials terminals arcs upper lower
+  M = machineBy setup classes initials terminals arcs upper lower
 
   outcome-is : (stack : List ℕ) (n : ℕ) (buffer : List ℕ) → outcomeAs (run .task) buffer (call M store n (length buffer) (heldOf run stack)) ≡ outcome cells upper lower run stack n buffer
   unfolding outcome
@@ -126,17 +145,17 @@ module _ (cells upper lower first : List ℕ) (run : Run) (P : Admitted cells (r
   -- by whether the run is a place in a search
   module _ (stack : List ℕ) (n : ℕ) (buffer : List ℕ) where
     abbrev placed : Bool
-    placed = placeHolds (machineBy setup initials [] arcs upper lower) store (heldOf run stack)
+    placed = placeHolds (machineBy setup classes initials [] arcs upper lower) store (heldOf run stack)
 
     pub refused-outcome : placed ≡ false → (r : Called) → r ≡ calledWith (Refused 0 (State Place)) run → OutcomeIs (outcome cells upper lower run stack n buffer) (told (r .answer)) (r .run) stack buffer
-    refused-outcome e r k = call-outcome stack n buffer r stack buffer (place-refused setup initials terminals arcs upper lower run stack n buffer e r k)
+    refused-outcome e r k = call-outcome stack n buffer r stack buffer (place-refused setup classes initials terminals arcs upper lower run stack n buffer e r k)
 
     pub good-place : placed ≡ true → Good M store (roomIn stack) (heldOf run stack)
-    good-place e = place-good setup initials terminals arcs upper lower run stack n buffer e
+    good-place e = place-good setup classes initials terminals arcs upper lower run stack n buffer e
 
     pub search-outcome : placed ≡ true → (r : Called) (c o : List ℕ) → SearchIs (run .task) buffer (advance M store (length buffer) n (heldOf run stack)) r c o
         → OutcomeIs (outcome cells upper lower run stack n buffer) (told (r .answer)) (r .run) c o
-    search-outcome e r c o S = call-outcome stack n buffer r c o (place-searched setup initials terminals arcs upper lower run stack n buffer e r c o S)
+    search-outcome e r c o S = call-outcome stack n buffer r c o (place-searched setup classes initials terminals arcs upper lower run stack n buffer e r c o S)
 
 -- what the table check and the query tell
 pub admitted-by : (cells : List ℕ) (task : ℕ) (upper lower first : List ℕ) → Asks cells task upper lower → first ≡ checked cells .first → Admitted cells task upper lower first

@@ -8,7 +8,7 @@ use refusal::Refusal;
 use refusal::StateCause;
 use table_check::Layout;
 ghost use mathlib.Core.Path.{_≡_};
-ghost use Rattle.table_format.specs.Loaded.{countsIn};
+ghost use Rattle.table_format.specs.Loaded.{countsIn, tableIn};
 ghost use Rattle.table_check.specs.Check.{layoutOf};
 ghost use Rattle.machine.specs.Answer.{told};
 ghost use Rattle.machine.specs.Reading.{outcome, OutcomeIs};
@@ -18,6 +18,7 @@ ghost use Rattle.engine_advance.specs.Admitted.{Admitted};
 fn resume(
     table: &[u16],
     at: Layout,
+    classes: [[u8; 16]; 8],
     first: &[u16],
     run: Run,
     stack: &mut [u32],
@@ -27,7 +28,7 @@ fn resume(
     output: &mut [u8],
 ) -> Called
     requires { ⌜ Admitted (now table) (run .task) (now upper) (now lower) (now first) ⌝ }
-    requires { ⌜ at ≡ layoutOf (countsIn (now table)) ⌝ }
+    requires { ⌜ (at ≡ layoutOf (countsIn (now table))) × (classes ≡ tableIn (now table) .classes) ⌝ }
     ensures { λ r. ⌜ OutcomeIs (outcome (now (table .entry)) (now (upper .entry)) (now (lower .entry)) run (now (stack .entry)) allowance (now (output .entry)))
         (told (r .answer)) (r .run) (now (stack .exit)) (now (output .exit)) ⌝ }
 {
@@ -43,6 +44,7 @@ fn resume(
     };
     if !engine_place::place_holds(
         setup,
+        &classes,
         first,
         &table[initials..terminals],
         &table[arcs..end],
@@ -55,6 +57,7 @@ fn resume(
     }
     engine_search::take_steps(
         setup,
+        &classes,
         first,
         &table[initials..terminals],
         &table[terminals..arcs],
@@ -88,9 +91,11 @@ pub fn advance(
         Admission::Refused(refusal) => engine_search::refused(0, refusal, run),
         Admission::Passes => {
             let at = checked.layout;
+            let classes = table_classes::rows(table);
             resume(
                 table,
                 at,
+                classes,
                 &checked.first,
                 run,
                 stack,

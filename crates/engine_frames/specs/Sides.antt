@@ -1,11 +1,14 @@
 -- What the code of the side rules answers, in the terms of Transducer, where a flag says whether a side is read.
 use Prim.Native.Nat.{ℕ, _+_}
-use mathlib.Core.Bool.{Bool, _&&_}
+use mathlib.Core.Bool.{Bool, true, cond, _&&_}
 use mathlib.Core.Option.{Option, none, some}
 use mathlib.Core.List.{List}
+use lib.Dec.{eqb}
 use Rattle.table_format.specs.Table.{Arc}
+use Rattle.table_format.specs.Classes.{rowOf}
 use Rattle.machine.specs.Query.{Side, upperSide, lowerSide}
-use Rattle.machine.specs.Transducer.{sideFollow, sideDone, sideWritten, Passed, both}
+use Rattle.machine.specs.Machine.{bind}
+use Rattle.machine.specs.Transducer.{sideFollow, sideDone, sideWritten, Passed, both, nextLetter, inRow, plainBy}
 use Rattle.engine_frames.specs.declared.Setup.{Setup}
 use Rattle.engine_frames.specs.declared.Count.{Count}
 use Rattle.engine_frames.specs.declared.Count.the-variants.{Passes, Stops}
@@ -35,9 +38,17 @@ bySide x y lowerSide = y
 abbrev pub setupReads : Setup → Side → Bool
 setupReads s side = bySide (s .up) (s .low) side
 
--- an arc fits where it fits on both sides
+-- a plain arc fits where it fits on both sides
 abbrev pub followBy : Setup → List ℕ → List ℕ → Arc → Passed → Option Passed
 followBy s upper lower a d = both (sideFollow (s .up) upper (a .upper) (d .up)) (sideFollow (s .low) lower (a .lower) (d .low))
+
+-- an arc of a class is the plain arc of the next letter, if that is in the class
+abbrev pub followIn : Setup → List (List ℕ) → List ℕ → List ℕ → Arc → Passed → Option Passed
+followIn s classes upper lower a d = bind (plainBy classes a (nextLetter (s .up) upper lower d)) (λ b. followBy s upper lower b d)
+
+-- whether it fits, where x is the upper word's next letter and y the lower word's: that of every word that is read is one letter of the class
+abbrev pub classFits : Setup → List (List ℕ) → ℕ → ℕ → ℕ → Bool
+classFits s classes letter x y = cond (s .up) (cond (s .low) (eqb y x) true && inRow x (rowOf classes letter)) (inRow y (rowOf classes letter))
 
 -- "every given word is read to its end"
 abbrev pub doneBy : Setup → List ℕ → List ℕ → Passed → Bool

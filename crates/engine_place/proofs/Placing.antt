@@ -2,22 +2,22 @@
 use Prim.Native.Nat.{ℕ, zero, suc, pred, _+_, _-_, _<_, _≤_}
 use native.Mathlib.Omega.{arith}
 use mathlib.Core.Path.{_≡_, refl, sym, ap, ap₂, subst, _∙_}
-use mathlib.Core.Bool.{Bool, true, false, _&&_}
+use mathlib.Core.Bool.{Bool, true, false, cond, _&&_, _||_, and-true, and-false, or-false}
 use mathlib.Core.Option.{Option, none, some}
 use mathlib.Core.List.{List}
 use lib.Dec.{eqb, ltb, leb}
 use lib.ListN.{length, getD}
-use borrow.Author.Tests.{eqb-true, eq-eqb, ne-eqb, ltb-true, lt-ltb, le-ltb, le-leb, lt-leb}
-use Rattle.table_format.proofs.Tests.{and-left, and-right, and-both}
+use borrow.Author.Tests.{eqb-true, ltb-true, ltb-false, lt-ltb, le-ltb, le-leb, lt-leb}
+use Rattle.table_format.proofs.Tests.{and-left, and-right, and-both, or-left, or-right}
 use Rattle.table_format.specs.Table.{Arc, Table, noArc}
+use Rattle.table_format.specs.Classes.{firstClass, isPlain}
 use Rattle.table_format.specs.Index.{below}
-use Rattle.table_format.specs.declared.Arc as Held
-use Rattle.table_format.specs.Cells.{arcCount, arcHeld, arcOf, arcsAs, arcSaid}
-use Rattle.machine.specs.Query.{Query}
+use Rattle.table_format.specs.Cells.{arcOf, arcsAs}
+use Rattle.machine.specs.Query.{Query, upperSide}
 use Rattle.machine.specs.Machine.{Machine, tested}
 use Rattle.machine.specs.Frames as F
 use Rattle.machine.specs.Frames.{framesOf, nextHolds, bottomHolds, linkHolds, chainHolds, framesHold, placeHolds}
-use Rattle.machine.specs.Transducer.{Passed, followArc, machine}
+use Rattle.machine.specs.Transducer.{Passed, followAt, machine}
 use Rattle.machine.specs.Stack.{roomIn, lookAt, store}
 use Rattle.machine.proofs.Frames.{place-placed}
 use Rattle.machine.specs.Place.{Placed}
@@ -26,92 +26,37 @@ use Rattle.machine.proofs.Stack.{same-is}
 use Rattle.machine.proofs.Transducer.{at-mem}
 use Rattle.engine_frames.specs.declared.Setup.{Setup}
 use Rattle.engine_frames.specs.declared.Frame.{Frame}
-use Rattle.engine_frames.specs.declared.Fit.{Fit}
-use Rattle.engine_frames.specs.declared.Fit.the-variants.{Fits, Fails}
 use Rattle.engine_frames.specs.Frames.{frameOf}
-use Rattle.engine_frames.specs.Sides.{fitOf, passedOf, followBy}
-use Rattle.engine_step.specs.Setting.{queryBy, tableBy, machineBy, held, Prepared, InBounds}
-use Rattle.engine_place.specs.Place.{nextBy, bottomBy, linkBy, Linkable}
+use Rattle.engine_frames.specs.Sides.{passedOf, followBy, followIn, classFits}
+use Rattle.engine_frames.proofs.Narrowing.{plain-followed, class-followed}
+use Rattle.engine_step.specs.Setting.{Alike, queryBy, tableBy, machineBy, held, Prepared, InBounds}
+use Rattle.engine_place.specs.Place.{nextBy, bottomBy, linkBy, classLinkBy, Linkable, linkedAt}
 use Rattle.engine_push.proofs.Cells.{pred-suc}
+use Rattle.engine_step.proofs.Fits.{plain-on, class-stuck}
 use Rattle.engine_step.proofs.Moves.{follow-is}
-use Rattle.engine_step.proofs.Bounds.{rules, arcs-count, arc-is, first-length, first-at, bounds-of}
+use Rattle.engine_step.proofs.Bounds.{rules, arcs-count, arc-is, arc-alike, first-length, first-at, bounds-of}
+use Rattle.engine_place.proofs.Links.{fails-first, fails-second, holds-first}
 
 pub positive : (k : ℕ) → (k ≡ 0 → ⊥) → 0 < k
 positive zero h = absurd (h refl)
 positive (suc k) h = omega arith
 
--- Tests joined by `&&`.
+-- an arc of a class that fits or not, after the test whether it leads to the frame's state
+by-class-alone : (fits led : Bool) (d : Passed) (same : Passed → Bool)
+    → (led && tested (cond fits (some d) none) same) ≡ ((led && false) || (fits && (led && same d)))
+by-class-alone true true d same = refl
+by-class-alone true false d same = refl
+by-class-alone false true d same = refl
+by-class-alone false false d same = refl
 
-pub fails-first : (a b : Bool) → a ≡ false → false ≡ (a && b)
-fails-first a b e = ap (λ (v : Bool). v && b) (sym e)
+-- a frame that is not linked by the sides with its next arc its state's, nor by its class
+neither-linked : (a b n : Bool) → (a && n) ≡ false → b ≡ false → ((a || b) && n) ≡ false
+neither-linked true b n e h = e
+neither-linked false b n e h = ap (λ (v : Bool). v && n) h
 
-pub fails-second : (a b : Bool) → b ≡ false → false ≡ (a && b)
-fails-second true b e = sym e
-fails-second false b e = refl
-
-pub holds-first : (a b v : Bool) → a ≡ true → v ≡ b → v ≡ (a && b)
-holds-first a b v e f = f ∙ ap (λ (w : Bool). w && b) (sym e)
-
-pub both-same : (o : Option Passed) (u l : ℕ) → Fails ≡ fitOf o → tested o (λ d. eqb (d .up) u && eqb (d .low) l) ≡ false
-both-same none u l e = refl
-both-same (some d) u l e = absurd (let z : _≡_ {A = ℕ} 0 1 = cc in omega arith)
-
-pub up-differs : (o : Option Passed) (x y u l : ℕ) → Fits x y ≡ fitOf o → (x ≡ u → ⊥) → tested o (λ d. eqb (d .up) u && eqb (d .low) l) ≡ false
-up-differs none x y u l e h = refl
-up-differs (some d) x y u l e h = let z : x ≡ d .up = cc in sym (fails-first (eqb (d .up) u) (eqb (d .low) l) (ne-eqb (d .up) u (λ w. h (z ∙ w))))
-
-pub low-decides : (o : Option Passed) (x y u l : ℕ) → Fits x y ≡ fitOf o → x ≡ u → eqb y l ≡ tested o (λ d. eqb (d .up) u && eqb (d .low) l)
-low-decides none x y u l e h = absurd (let z : _≡_ {A = ℕ} 0 1 = cc in omega arith)
-low-decides (some d) x y u l e h =
-    let z : x ≡ d .up = cc in
-    let w : y ≡ d .low = cc in
-    holds-first (eqb (d .up) u) (eqb (d .low) l) (eqb y l) (eq-eqb (d .up) u (sym z ∙ h)) (ap (λ (k : ℕ). eqb k l) w)
-
--- The test of a link, case by case.
-
-module _ (s : Setup) (first arcs upper lower : List ℕ) (g f : Frame) where
-  abbrev tried : Bool
-  tried = ltb (getD first (g .state) 0) (g .next)
-
-  abbrev led : Bool
-  led = eqb (f .state) (arcOf arcs (g .next - 1) .target)
-
-  abbrev made : Option Passed
-  made = followBy s upper lower (arcOf arcs (g .next - 1)) (passedOf (g .up) (g .low))
-
-  abbrev fits : Bool
-  fits = tested made (λ d. eqb (d .up) (f .up) && eqb (d .low) (f .low))
-
-  pub link-untried : g .next ≤ getD first (g .state) 0 → false ≡ linkBy s first arcs upper lower g f
-  link-untried h = fails-first tried (led && fits) (le-ltb _ _ h)
-
-  -- by the arc that was looked at
-  module _ (a : Held.Arc) (A : a ≡ arcHeld (arcOf arcs (g .next - 1))) where
-    abbrev fit : Fit
-    fit = fitOf (followBy s upper lower (arcSaid a) (passedOf (g .up) (g .low)))
-
-    fit-is : fit ≡ fitOf made
-    fit-is = ap (λ (x : Held.Arc). fitOf (followBy s upper lower (arcSaid x) (passedOf (g .up) (g .low)))) A
-
-    target-is : a .target ≡ arcOf arcs (g .next - 1) .target
-    target-is = ap (λ (x : Held.Arc). x .target) A
-
-    pub link-unfit : Fails ≡ fit → false ≡ linkBy s first arcs upper lower g f
-    link-unfit e = fails-second tried (led && fits) (sym (fails-second led fits (both-same made (f .up) (f .low) (e ∙ fit-is))))
-
-    pub link-elsewhere : (f .state ≡ a .target → ⊥) → false ≡ linkBy s first arcs upper lower g f
-    link-elsewhere h = fails-second tried (led && fits) (sym (fails-first led fits (ne-eqb _ _ (λ e. h (e ∙ sym target-is)))))
-
-    pub link-up : (x y : ℕ) → Fits x y ≡ fit → (x ≡ f .up → ⊥) → false ≡ linkBy s first arcs upper lower g f
-    link-up x y e h = fails-second tried (led && fits) (sym (fails-second led fits (up-differs made x y (f .up) (f .low) (e ∙ fit-is) h)))
-
-    pub link-low : (x y : ℕ) → getD first (g .state) 0 < g .next → f .state ≡ a .target → Fits x y ≡ fit → x ≡ f .up → eqb y (f .low) ≡ linkBy s first arcs upper lower g f
-    link-low x y t l e h =
-        holds-first tried (led && fits) _ (lt-ltb _ _ t) (holds-first led fits _ (eq-eqb _ _ (l ∙ target-is)) (low-decides made x y (f .up) (f .low) (e ∙ fit-is) h))
-
-module _ {s : Setup} {first initials terminals arcs : List ℕ} (R : Prepared s first initials terminals arcs) (upper lower : List ℕ) where
+module _ {s : Setup} {classes : List (List ℕ)} {first initials terminals arcs upper lower : List ℕ} (R : Prepared s classes first initials terminals arcs upper lower) where
   abbrev M : Machine
-  M = machineBy s initials terminals arcs upper lower
+  M = machineBy s classes initials terminals arcs upper lower
 
   -- the definition's tests by the cells
   next-is : (f : F.Frame Passed) → f .state < s .states → nextHolds M f ≡ nextBy first (f .state) (f .next)
@@ -126,11 +71,46 @@ module _ {s : Setup} {first initials terminals arcs : List ℕ} (R : Prepared s 
   bottom-is : (n : ℕ) (f : F.Frame Passed) → bottomHolds M n f ≡ bottomBy initials n (frameOf f)
   bottom-is n f = ap (λ (k : ℕ). eqb (f .state) (getD initials k 0) && (eqb 0 (f .datum .up) && eqb 0 (f .datum .low))) (let z : pred n ≡ n - 1 = omega arith in z)
 
-  link-is : (c : List ℕ) (i : ℕ) → InBounds first arcs c i → (f : F.Frame Passed) → linkHolds M (lookAt c i) f ≡ linkBy s first arcs upper lower (frameOf (lookAt c i)) (frameOf f)
+  -- an arc makes a frame where it does so by the rules of the sides or by its class
+  module _ (a : Arc) (d : Passed) (led : Bool) (u l : ℕ) where
+    abbrev makes : Option Passed → Bool
+    makes o = led && tested o (λ e. eqb (e .up) u && eqb (e .low) l)
+
+    abbrev fits : Bool
+    fits = classFits s classes (a .upper) (getD upper (d .up) 0) (getD lower (d .low) 0)
+
+    abbrev makes-by-class : Bool → ℕ → ℕ → Bool
+    makes-by-class classed x y = classed && (fits && (led && (eqb x u && eqb y l)))
+
+    sides-or-class : Alike a → makes (followIn s classes upper lower a d) ≡ (makes (followBy s upper lower a d) || makes-by-class (leb firstClass (a .upper)) (d .up + 1) (d .low + 1))
+    sides-or-class A = go (isPlain a) refl
+      where
+        go : (b : Bool) → isPlain a ≡ b → makes (followIn s classes upper lower a d) ≡ (makes (followBy s upper lower a d) || makes-by-class (leb firstClass (a .upper)) (d .up + 1) (d .low + 1))
+        go true p =
+            ap makes (plain-followed s classes upper lower a d p) ∙ sym (or-false (makes (followBy s upper lower a d)))
+            ∙ ap (λ (b : Bool). makes (followBy s upper lower a d) || makes-by-class b (d .up + 1) (d .low + 1))
+            (sym (lt-leb firstClass (a .upper) (ltb-true _ _ (sym (plain-on a A upperSide) ∙ p))))
+        go false p =
+            ap makes (class-followed s classes upper lower a d (R .reads-some) p)
+            ∙ by-class-alone fits led (passedOf (suc (d .up)) (suc (d .low))) (λ e. eqb (e .up) u && eqb (e .low) l)
+            ∙ ap₂ (λ (x y : ℕ). makes none || makes-by-class true x y) (let z : suc (d .up) ≡ d .up + 1 = omega arith in z) (let z : suc (d .low) ≡ d .low + 1 = omega arith in z)
+            ∙ ap₂ (λ (o : Option Passed) (b : Bool). makes o || makes-by-class b (d .up + 1) (d .low + 1))
+            (sym (class-stuck s classes upper lower a d A (R .words-small) (R .reads-some) p))
+            (sym (le-leb firstClass (a .upper) (ltb-false _ _ (sym (plain-on a A upperSide) ∙ p))))
+
+  link-is : (c : List ℕ) (i : ℕ) → InBounds first arcs c i → (f : F.Frame Passed)
+      → linkHolds M (lookAt c i) f
+      ≡ (linkBy s first arcs upper lower (frameOf (lookAt c i)) (frameOf f) || classLinkBy s classes first arcs upper lower (frameOf (lookAt c i)) (frameOf f))
   link-is c i B f = ap (λ (k : ℕ). ltb k (g .next) && rest) (sym (B .from-is)) ∙ go (ltb (getD first (g .state) 0) (g .next)) refl
     where
       g : F.Frame Passed
       g = lookAt c i
+
+      a : Arc
+      a = arcOf arcs (g .next - 1)
+
+      led : Bool
+      led = eqb (f .state) (a .target)
 
       same : Option Passed → Bool
       same o = tested o (λ d. eqb (d .up) (f .datum .up) && eqb (d .low) (f .datum .low))
@@ -138,18 +118,22 @@ module _ {s : Setup} {first initials terminals arcs : List ℕ} (R : Prepared s 
       rest : Bool
       rest = eqb (f .state) (M .target (pred (g .next))) && same (M .follow (pred (g .next)) (g .datum))
 
-      told : Bool
-      told = eqb (f .state) (arcOf arcs (g .next - 1) .target) && same (followBy s upper lower (arcOf arcs (g .next - 1)) (g .datum))
+      by-sides : Bool
+      by-sides = led && same (followBy s upper lower a (g .datum))
 
-      arc-was : 0 < g .next → getD (arcsAs arcs) (pred (g .next)) noArc ≡ arcOf arcs (g .next - 1)
+      by-class : Bool
+      by-class = makes-by-class a (g .datum) led (f .datum .up) (f .datum .low) (leb firstClass (a .upper)) (g .datum .up + 1) (g .datum .low + 1)
+
+      arc-was : 0 < g .next → getD (arcsAs arcs) (pred (g .next)) noArc ≡ a
       arc-was h = arc-is R (pred (g .next)) (omega (arith, B .next-most)) ∙ ap (arcOf arcs) (let z : pred (g .next) ≡ g .next - 1 = omega arith in z)
 
-      go : (b : Bool) → ltb (getD first (g .state) 0) (g .next) ≡ b → (b && rest) ≡ (b && told)
+      go : (b : Bool) → ltb (getD first (g .state) 0) (g .next) ≡ b → (b && rest) ≡ ((b && by-sides) || (b && by-class))
       go false e = refl
       go true e =
           let h : 0 < g .next = omega (arith, ltb-true (getD first (g .state) 0) (g .next) e) in
-          ap (λ (a : Arc). eqb (f .state) (a .target) && same (followArc (queryBy s upper lower) a (g .datum))) (arc-was h)
-          ∙ ap (λ (o : Option Passed). eqb (f .state) (arcOf arcs (g .next - 1) .target) && same o) (follow-is s (R .reads-some) upper lower (arcOf arcs (g .next - 1)) (g .datum))
+          ap (λ (x : Arc). eqb (f .state) (x .target) && same (followAt (tableBy s classes initials terminals arcs) (queryBy s upper lower) x (g .datum))) (arc-was h)
+          ∙ ap (λ (o : Option Passed). led && same o) (follow-is s (R .reads-some) (tableBy s classes initials terminals arcs) upper lower a (g .datum))
+          ∙ sides-or-class a (g .datum) led (f .datum .up) (f .datum .low) (arc-alike R (g .next - 1) (omega (arith, B .next-most)))
 
   module _ (n : ℕ) (c : List ℕ) (some-started : 0 < n) (few-started : n ≤ length initials) where
     -- the lowest i + 1 frames hold
@@ -172,10 +156,10 @@ module _ {s : Setup} {first initials terminals arcs : List ℕ} (R : Prepared s 
 
     placed-at : (i : ℕ) → i < roomIn c → chain i ≡ true → Placed M n (framesOf store c (suc i))
     unfolding placeHolds
-    placed-at i h e = place-placed M (same-is (tableBy s initials terminals arcs) (queryBy s upper lower)) store (held n (suc i) c) (and-both (le-leb n (length initials) few-started) (and-both (le-leb (suc i) (roomIn c) h) (and-both (lt-ltb 0 n some-started) e))) .1
+    placed-at i h e = place-placed M (same-is (tableBy s classes initials terminals arcs) (queryBy s upper lower)) store (held n (suc i) c) (and-both (le-leb n (length initials) few-started) (and-both (le-leb (suc i) (roomIn c) h) (and-both (lt-ltb 0 n some-started) e))) .1
 
     pub bounds-at : (i : ℕ) → i < roomIn c → chain i ≡ true → InBounds first arcs c i
-    bounds-at i h e = bounds-of R upper lower n c i (omega arith) (placed-at i h e)
+    bounds-at i h e = bounds-of R n c i (omega arith) (placed-at i h e)
 
     -- the bottom frame
     module _ (b : Frame) (E : b ≡ frameOf (lookAt c 0)) where
@@ -204,61 +188,97 @@ module _ {s : Setup} {first initials terminals arcs : List ℕ} (R : Prepared s 
         pub first-holds : nextBy first (b .state) (b .next) ≡ true → chain 0 ≡ true
         first-holds h = and-both (bottom-next ∙ h) (bottom-as ∙ e)
 
-    -- the frame at i, above the frame g
-    module _ (i : ℕ) (some-below : 0 < i) (room : i - 1 < roomIn c) (held-so-far : chain (i - 1) ≡ true) (g f : Frame) (Eg : g ≡ frameOf (lookAt c (i - 1))) (Ef : f ≡ frameOf (lookAt c i)) where
+    -- the frame at i, above others that hold
+    module _ (i : ℕ) (some-below : 0 < i) (room : i - 1 < roomIn c) (held-so-far : chain (i - 1) ≡ true) where
       abbrev j : ℕ
       j = i - 1
 
-      above : lookAt c i ≡ lookAt c (suc j)
-      above = ap (lookAt c) (let z : i ≡ suc j = omega arith in z)
-
-      Es : f ≡ frameOf (lookAt c (suc j))
-      Es = Ef ∙ ap frameOf above
-
-      at-suc : (b : Bool) → chain (suc j) ≡ b → chain i ≡ b
-      at-suc b e = ap chain (let z : i ≡ suc j = omega arith in z) ∙ e
+      at-suc : i ≡ suc j
+      at-suc = omega arith
 
       B : InBounds first arcs c j
       B = bounds-at j room held-so-far
 
-      pub linkable : Linkable first arcs g
-      linkable =
-          let x : Linkable first arcs (frameOf (lookAt c j)) = record { indexed = omega (arith, B .indexed); next-most = B .next-most; counts-small = B .counts-small } in
-          subst (Linkable first arcs) (sym Eg) x
+      up-state : linkHolds M (lookAt c j) (lookAt c (suc j)) ≡ true → lookAt c (suc j) .state < s .states
+      up-state e =
+          let tried = ltb (below (lookAt c j .state) (arcsAs arcs)) (lookAt c j .next) in
+          let led = eqb (lookAt c (suc j) .state) (M .target (pred (lookAt c j .next))) in
+          let made = tested (M .follow (pred (lookAt c j .next)) (lookAt c j .datum)) (λ d. M .same d (lookAt c (suc j) .datum)) in
+          let h : below (lookAt c j .state) (arcsAs arcs) < lookAt c j .next = ltb-true _ _ (and-left tried (led && made) e) in
+          let z : lookAt c (suc j) .state ≡ M .target (pred (lookAt c j .next)) = eqb-true _ _ (and-left led made (and-right tried (led && made) e)) in
+          let w = B .next-most in
+          subst (λ (k : ℕ). k < s .states) (sym z) (rules R .target-in _ (at-mem (arcsAs arcs) (pred (lookAt c j .next)) noArc (omega (arith, arcs-count R))))
 
-      link-as : linkHolds M (lookAt c j) (lookAt c (suc j)) ≡ linkBy s first arcs upper lower g f
-      link-as = link-is c j B (lookAt c (suc j)) ∙ ap₂ (linkBy s first arcs upper lower) (sym Eg) (sym Es)
+      -- by the frames that the code looked at: g, and f on it
+      module _ (g f : Frame) (Eg : g ≡ frameOf (lookAt c (i - 1))) (Ef : f ≡ frameOf (lookAt c i)) where
+        abbrev linked : Bool
+        linked = linkBy s first arcs upper lower g f || classLinkBy s classes first arcs upper lower g f
 
-      pub link-fails : linkBy s first arcs upper lower g f ≡ false → chain i ≡ false
-      link-fails e =
-          at-suc false (sym (fails-second (nextHolds M (lookAt c (suc j))) (linkHolds M (lookAt c j) (lookAt c (suc j)) && chain j)
-          (sym (fails-first (linkHolds M (lookAt c j) (lookAt c (suc j))) (chain j) (link-as ∙ e)))))
+        Es : f ≡ frameOf (lookAt c (suc j))
+        Es = Ef ∙ ap (λ (k : ℕ). frameOf (lookAt c k)) at-suc
 
-      module _ (e : linkBy s first arcs upper lower g f ≡ true) where
-        up-state : f .state < s .states
-        up-state =
-            let a = ltb (getD first (g .state) 0) (g .next) in
-            let b = eqb (f .state) (arcOf arcs (g .next - 1) .target) in
-            let d = tested (followBy s upper lower (arcOf arcs (g .next - 1)) (passedOf (g .up) (g .low))) (λ x. eqb (x .up) (f .up) && eqb (x .low) (f .low)) in
-            let h : getD first (g .state) 0 < g .next = ltb-true (getD first (g .state) 0) (g .next) (and-left a (b && d) e) in
-            let z : f .state ≡ arcOf arcs (g .next - 1) .target = eqb-true (f .state) _ (and-left b d (and-right a (b && d) e)) in
-            let w = linkable .next-most in
-            let m : g .next - 1 < arcCount arcs = omega arith in
-            subst (λ (y : ℕ). y < s .states) (sym z)
-            (subst (λ (y : Arc). y .target < s .states) (arc-is R (g .next - 1) m) (rules R .target-in _ (at-mem (arcsAs arcs) (g .next - 1) noArc (omega (arith, arcs-count R)))))
+        pub linkable : Linkable first arcs g
+        linkable =
+            let x : Linkable first arcs (frameOf (lookAt c j)) = record { indexed = omega (arith, B .indexed); next-most = B .next-most; counts-small = B .counts-small } in
+            subst (Linkable first arcs) (sym Eg) x
 
-        pub up-indexed : f .state + 1 < length first
-        up-indexed = omega (arith, up-state, first-length R, rules R .few-states)
+        link-as : linkHolds M (lookAt c j) (lookAt c (suc j)) ≡ linked
+        link-as =
+            link-is c j B (lookAt c (suc j))
+            ∙ ap₂ (λ (x y : Frame). linkBy s first arcs upper lower x y || classLinkBy s classes first arcs upper lower x y) (sym Eg) (sym Es)
 
-        up-next : nextHolds M (lookAt c (suc j)) ≡ nextBy first (f .state) (f .next)
-        up-next =
-            next-is (lookAt c (suc j)) (subst (λ (x : Frame). x .state < s .states) Es up-state) ∙ ap (λ (x : Frame). nextBy first (x .state) (x .next)) (sym Es)
+        state-in : linked ≡ true → f .state < s .states
+        state-in e = subst (λ (x : Frame). x .state < s .states) (sym Es) (up-state (link-as ∙ e))
+
+        pub up-indexed : linked ≡ true → f .state + 1 < length first
+        up-indexed e = omega (arith, state-in e, first-length R, rules R .few-states)
+
+        -- they hold where it is linked and its next arc is its state's
+        chain-is : chain i ≡ (linked && nextBy first (f .state) (f .next))
+        chain-is =
+            ap chain at-suc ∙ ap₂ (λ (x y : Bool). nextHolds M (lookAt c (suc j)) && (x && y)) link-as held-so-far ∙ go linked refl
+          where
+            go : (b : Bool) → linked ≡ b → (nextHolds M (lookAt c (suc j)) && (b && true)) ≡ (b && nextBy first (f .state) (f .next))
+            go false e = and-false (nextHolds M (lookAt c (suc j)))
+            go true e =
+                and-true (nextHolds M (lookAt c (suc j))) ∙ next-is (lookAt c (suc j)) (up-state (link-as ∙ e))
+                ∙ ap (λ (x : Frame). nextBy first (x .state) (x .next)) (sym Es)
+
+        pub link-fails : linkedAt s first arcs upper lower c i ≡ false → classLinkBy s classes first arcs upper lower g f ≡ false → chain i ≡ false
+        link-fails e h =
+            chain-is ∙ neither-linked (linkBy s first arcs upper lower g f) (classLinkBy s classes first arcs upper lower g f) (nextBy first (f .state) (f .next))
+            (ap₂ (λ (x y : Frame). linkBy s first arcs upper lower x y && nextBy first (y .state) (y .next)) Eg Ef ∙ e) h
 
         pub next-fails : nextBy first (f .state) (f .next) ≡ false → chain i ≡ false
-        next-fails h = at-suc false (sym (fails-first (nextHolds M (lookAt c (suc j))) (linkHolds M (lookAt c j) (lookAt c (suc j)) && chain j) (up-next ∙ h)))
+        next-fails h = chain-is ∙ ap (λ (b : Bool). linked && b) h ∙ and-false linked
 
-        pub next-more : nextBy first (f .state) (f .next) ≡ true → chain i ≡ true
-        next-more h = at-suc true (and-both (up-next ∙ h) (and-both (link-as ∙ e) held-so-far))
+        next-more : linked ≡ true → nextBy first (f .state) (f .next) ≡ true → chain i ≡ true
+        next-more e h = chain-is ∙ and-both e h
+
+        module _ (e : classLinkBy s classes first arcs upper lower g f ≡ true) where
+          by-class : linked ≡ true
+          by-class = or-right (linkBy s first arcs upper lower g f) _ e
+
+          pub class-indexed : f .state + 1 < length first
+          class-indexed = up-indexed by-class
+
+          pub class-more : nextBy first (f .state) (f .next) ≡ true → chain ((i + 1) - 1) ≡ true
+          class-more h = ap chain (let z : (i + 1) - 1 ≡ i = omega arith in z) ∙ next-more by-class h
+
+      linked-more : linkedAt s first arcs upper lower c i ≡ true → chain i ≡ true
+      linked-more e =
+          let a = linkBy s first arcs upper lower (frameOf (lookAt c (i - 1))) (frameOf (lookAt c i)) in
+          let b = nextBy first (lookAt c i .state) (lookAt c i .next) in
+          next-more (frameOf (lookAt c (i - 1))) (frameOf (lookAt c i)) refl refl (or-left a _ (and-left a b e)) (and-right a b e)
+
+    -- frames linked by the rules of the sides, on others that hold
+    pub linked-all : (from k : ℕ) → 0 < from → from + k ≤ roomIn c → chain (from - 1) ≡ true
+        → ((i : ℕ) → from ≤ i → i < from + k → linkedAt s first arcs upper lower c i ≡ true) → chain ((from + k) - 1) ≡ true
+    linked-all from zero h r e l = ap chain (let z : (from + 0) - 1 ≡ from - 1 = omega arith in z) ∙ e
+    linked-all from (suc k) h r e l =
+        let w : chain ((from + k) - 1) ≡ true = linked-all from k h (omega arith) e (λ i a b. l i a (omega arith)) in
+        ap chain (let z : (from + suc k) - 1 ≡ from + k = omega arith in z)
+        ∙ linked-more (from + k) (omega arith) (omega arith) w (l (from + k) (omega arith) (omega arith))
 
 -- Starts, depth and room, then the frames.
 

@@ -1,17 +1,22 @@
 -- Refusal 21, each part as the code tests it on the frames that it looked at.
 use Prim.Native.Nat.{ℕ, _+_, _-_, _≤_, _<_}
-use mathlib.Core.Bool.{Bool, _&&_}
+use mathlib.Core.Path.{_≡_}
+use mathlib.Core.Bool.{Bool, true, false, _&&_}
 use mathlib.Core.List.{List}
 use lib.Dec.{eqb, ltb, leb}
 use lib.ListN.{length, getD}
+use Rattle.table_format.specs.Classes.{firstClass}
 use Rattle.table_format.specs.Cells.{arcCount, arcOf}
 use Rattle.machine.specs.Query.{Side}
 use Rattle.machine.specs.Machine.{tested}
 use Rattle.machine.specs.Transducer.{passed}
-use Rattle.machine.specs.Stack.{mostFrames}
+use Rattle.machine.specs.Frames.{framesOf, chainHolds}
+use Rattle.machine.specs.Stack.{mostFrames, lookAt, store}
 use Rattle.engine_frames.specs.declared.Setup.{Setup}
 use Rattle.engine_frames.specs.declared.Frame.{Frame}
-use Rattle.engine_frames.specs.Sides.{passedOf, followBy}
+use Rattle.engine_frames.specs.Frames.{frameOf}
+use Rattle.engine_frames.specs.Sides.{passedOf, followBy, classFits}
+use Rattle.engine_step.specs.Setting.{machineBy, Prepared}
 
 -- a next arc inside its state's arcs
 abbrev pub nextBy : List ℕ → ℕ → ℕ → Bool
@@ -21,15 +26,48 @@ nextBy first state next = leb (getD first state 0) next && leb next (getD first 
 abbrev pub bottomBy : List ℕ → ℕ → Frame → Bool
 bottomBy initials n f = eqb (f .state) (getD initials (n - 1) 0) && (eqb 0 (f .up) && eqb 0 (f .low))
 
--- what the arc just tried in g makes by fitting
+-- what the arc just tried in g makes by the rules of the sides
 abbrev pub linkBy : Setup → List ℕ → List ℕ → List ℕ → List ℕ → Frame → Frame → Bool
 linkBy s first arcs upper lower g f =
     ltb (getD first (g .state) 0) (g .next)
     && (eqb (f .state) (arcOf arcs (g .next - 1) .target)
     && tested (followBy s upper lower (arcOf arcs (g .next - 1)) (passedOf (g .up) (g .low))) (λ d. eqb (d .up) (f .up) && eqb (d .low) (f .low)))
 
+-- what it makes by its class
+abbrev pub classLinkBy : Setup → List (List ℕ) → List ℕ → List ℕ → List ℕ → List ℕ → Frame → Frame → Bool
+classLinkBy s classes first arcs upper lower g f =
+    let a = arcOf arcs (g .next - 1) in
+    ltb (getD first (g .state) 0) (g .next)
+    && (leb firstClass (a .upper)
+    && (classFits s classes (a .upper) (getD upper (g .up) 0) (getD lower (g .low) 0)
+    && (eqb (f .state) (a .target) && (eqb (g .up + 1) (f .up) && eqb (g .low + 1) (f .low)))))
+
 -- what a test of a link may rely on in the lower frame
 pub record Linkable (first arcs : List ℕ) (g : Frame) : Type 0 where
   pub indexed : g .state < length first
   pub next-most : g .next ≤ arcCount arcs
   pub counts-small : (side : Side) → passed (passedOf (g .up) (g .low)) side ≤ mostFrames
+
+-- the frame at i is what the arc just tried below it makes by the rules of the sides, and its next arc is its state's
+abbrev pub linkedAt : Setup → List ℕ → List ℕ → List ℕ → List ℕ → List ℕ → ℕ → Bool
+linkedAt s first arcs upper lower stack i =
+    linkBy s first arcs upper lower (frameOf (lookAt stack (i - 1))) (frameOf (lookAt stack i)) && nextBy first (lookAt stack i .state) (lookAt stack i .next)
+
+-- the frames below i, of which there are some, hold in a search
+pub record Standing (s : Setup) (first arcs upper lower stack : List ℕ) (i : ℕ) : Type 0 where
+  pub classes : List (List ℕ)
+  pub initials : List ℕ
+  pub terminals : List ℕ
+  pub started : ℕ
+  pub prepared : Prepared s classes first initials terminals arcs upper lower
+  pub some-started : 0 < started
+  pub few-started : started ≤ length initials
+  pub some-below : 0 < i
+  pub below-hold : chainHolds (machineBy s classes initials terminals arcs upper lower) started (framesOf store stack (i - 1)) (lookAt stack (i - 1)) ≡ true
+
+-- r is the first frame, from one on and below the depth, that is not so linked, or the depth
+pub record FirstUnlinked (s : Setup) (first arcs upper lower stack : List ℕ) (start depth r : ℕ) : Type 0 where
+  pub on : start ≤ r
+  pub within : r ≤ depth
+  pub linked : (j : ℕ) → start ≤ j → j < r → linkedAt s first arcs upper lower stack j ≡ true
+  pub unlinked : r < depth → linkedAt s first arcs upper lower stack r ≡ false

@@ -5,6 +5,7 @@ use engine_frames::Setup;
 use engine_frames::cells;
 use engine_frames::sides;
 use machine::Run;
+use table_format::FIRST_CLASS;
 ghost use mathlib.Core.Path.{_≡_};
 ghost use mathlib.Core.List.{List, []};
 ghost use Prim.Native.Nat.{ℕ, _+_, _-_, _<_, _≤_};
@@ -14,7 +15,7 @@ ghost use Rattle.machine.specs.Stack.{mostFrames, framesIn, lookAt, store};
 ghost use Rattle.machine.specs.Reading.{heldOf};
 ghost use Rattle.engine_frames.specs.Frames.{frameOf};
 ghost use Rattle.engine_step.specs.Setting.{machineBy, Prepared};
-ghost use Rattle.engine_place.specs.Place.{nextBy, bottomBy, linkBy, Linkable};
+ghost use Rattle.engine_place.specs.Place.{nextBy, bottomBy, linkBy, classLinkBy, Linkable, Standing, FirstUnlinked};
 
 // A next arc inside its state's arcs; one past the last is allowed.
 fn next_holds(first: &[u16], state: u32, next: u32) -> bool
@@ -43,8 +44,8 @@ fn bottom_holds(initials: &[u16], started: u32, f: Frame) -> bool
     0 == f.low
 }
 
-// The frame at i is what the arc just tried in the frame g below it makes by fitting. It is looked at when that is known, so that fewer
-// values are held at a time.
+// The frame at i is what the arc just tried in the frame g below it makes by the rules of the sides. It is looked at when that is known, so
+// that fewer values are held at a time.
 fn link_holds(
     setup: Setup,
     first: &[u16],
@@ -80,9 +81,79 @@ fn link_holds(
     }
 }
 
-// The used frames, from the bottom up, where there are some.
+// The same by the arc's class.
+fn class_link_holds(
+    setup: Setup,
+    classes: &[[u8; 16]; 8],
+    first: &[u16],
+    arcs: &[u16],
+    upper: &[u8],
+    lower: &[u8],
+    g: Frame,
+    f: Frame,
+) -> bool
+    requires { ⌜ Linkable (now first) (now arcs) g ⌝ }
+    ensures { λ r. ⌜ r ≡ classLinkBy setup (now (classes .entry)) (now (first .entry)) (now (arcs .entry)) (now (upper .entry)) (now (lower .entry)) g f ⌝ }
+{
+    let state = g.state as usize;
+    let next = g.next;
+    if next <= widen::cell_as_count(first[state]) {
+        return false;
+    }
+    let arc = table_format::arc_at(arcs, next as usize - 1);
+    if arc.upper < FIRST_CLASS {
+        return false;
+    }
+    let x = sides::letter_after(upper, g.up);
+    let y = sides::letter_after(lower, g.low);
+    if !sides::class_fits(setup, classes, arc.upper, x, y) {
+        return false;
+    }
+    if f.state != widen::cell_as_count(arc.target) {
+        return false;
+    }
+    if g.up + 1 != f.up {
+        return false;
+    }
+    g.low + 1 == f.low
+}
+
+// The first frame, from one on, that is not so linked by the rules of the sides with the frame below it, or whose next arc is not its state's;
+// `depth` where there is none.
+fn links_from(
+    setup: Setup,
+    first: &[u16],
+    arcs: &[u16],
+    from: usize,
+    depth: usize,
+    stack: &[u32],
+    upper: &[u8],
+    lower: &[u8],
+) -> usize
+    requires { ⌜ Standing setup (now first) (now arcs) (now upper) (now lower) (now stack) from ⌝ }
+    requires { ⌜ (from ≤ depth) × (depth ≤ framesIn (now stack)) × (depth ≤ mostFrames) ⌝ }
+    ensures { λ r. ⌜ FirstUnlinked setup (now (first .entry)) (now (arcs .entry)) (now (upper .entry)) (now (lower .entry)) (now (stack .entry)) from depth r ⌝ }
+{
+    let mut g = cells::look(stack, from - 1);
+    let mut i = from;
+    while i < depth {
+        if !link_holds(setup, first, arcs, upper, lower, g, stack, i) {
+            return i;
+        }
+        let f = cells::look(stack, i);
+        if !next_holds(first, f.state, f.next) {
+            return i;
+        }
+        g = f;
+        i += 1;
+    }
+    i
+}
+
+// The used frames, from the bottom up, where there are some. Links by classes are looked at outside the loop over the others, which is quicker so.
 fn frames_hold(
     setup: Setup,
+    classes: &[[u8; 16]; 8],
     first: &[u16],
     initials: &[u16],
     arcs: &[u16],
@@ -92,10 +163,10 @@ fn frames_hold(
     upper: &[u8],
     lower: &[u8],
 ) -> bool
-    requires { ⌜ ((terminals : List ℕ) × Prepared setup (now first) (now initials) terminals (now arcs)) ⌝ }
+    requires { ⌜ ((terminals : List ℕ) × Prepared setup (now classes) (now first) (now initials) terminals (now arcs) (now upper) (now lower)) ⌝ }
     requires { ⌜ (0 < started) × (started ≤ length (now initials)) ⌝ }
     requires { ⌜ (0 < depth) × (depth ≤ framesIn (now stack)) × (depth ≤ mostFrames) ⌝ }
-    ensures { λ r. ⌜ r ≡ chainHolds (machineBy setup (now (initials .entry)) [] (now (arcs .entry)) (now (upper .entry)) (now (lower .entry))) started (framesOf store (now (stack .entry)) (depth - 1)) (lookAt (now (stack .entry)) (depth - 1)) ⌝ }
+    ensures { λ r. ⌜ r ≡ chainHolds (machineBy setup (now (classes .entry)) (now (initials .entry)) [] (now (arcs .entry)) (now (upper .entry)) (now (lower .entry))) started (framesOf store (now (stack .entry)) (depth - 1)) (lookAt (now (stack .entry)) (depth - 1)) ⌝ }
 {
     let b = cells::look(stack, 0);
     if !bottom_holds(initials, started, b) {
@@ -104,18 +175,17 @@ fn frames_hold(
     if !next_holds(first, b.state, b.next) {
         return false;
     }
-    let mut g = b;
-    let mut i = 1;
+    let mut i = links_from(setup, first, arcs, 1, depth, stack, upper, lower);
     while i < depth {
-        if !link_holds(setup, first, arcs, upper, lower, g, stack, i) {
+        let g = cells::look(stack, i - 1);
+        let f = cells::look(stack, i);
+        if !class_link_holds(setup, classes, first, arcs, upper, lower, g, f) {
             return false;
         }
-        let f = cells::look(stack, i);
         if !next_holds(first, f.state, f.next) {
             return false;
         }
-        g = f;
-        i += 1;
+        i = links_from(setup, first, arcs, i + 1, depth, stack, upper, lower);
     }
     true
 }
@@ -123,6 +193,7 @@ fn frames_hold(
 // Starts, depth and room, then the frames.
 pub fn place_holds(
     setup: Setup,
+    classes: &[[u8; 16]; 8],
     first: &[u16],
     initials: &[u16],
     arcs: &[u16],
@@ -131,8 +202,8 @@ pub fn place_holds(
     run: Run,
     stack: &[u32],
 ) -> bool
-    requires { ⌜ ((terminals : List ℕ) × Prepared setup (now first) (now initials) terminals (now arcs)) ⌝ }
-    ensures { λ r. ⌜ r ≡ placeHolds (machineBy setup (now (initials .entry)) [] (now (arcs .entry)) (now (upper .entry)) (now (lower .entry))) store (heldOf run (now (stack .entry))) ⌝ }
+    requires { ⌜ ((terminals : List ℕ) × Prepared setup (now classes) (now first) (now initials) terminals (now arcs) (now upper) (now lower)) ⌝ }
+    ensures { λ r. ⌜ r ≡ placeHolds (machineBy setup (now (classes .entry)) (now (initials .entry)) [] (now (arcs .entry)) (now (upper .entry)) (now (lower .entry))) store (heldOf run (now (stack .entry))) ⌝ }
 {
     let n = run.started;
     let depth = run.depth;
@@ -152,5 +223,16 @@ pub fn place_holds(
         return false;
     }
     let used = depth as usize;
-    frames_hold(setup, first, initials, arcs, n, used, stack, upper, lower)
+    frames_hold(
+        setup,
+        classes,
+        first,
+        initials,
+        arcs,
+        n,
+        used,
+        stack,
+        upper,
+        lower,
+    )
 }

@@ -13,7 +13,7 @@ use Rattle.machine.specs.Transducer.{Passed, member}
 use Rattle.machine.specs.Stack.{mostFrames, framesIn, roomIn, putAt}
 use Rattle.engine_frames.specs.declared.Setup.{Setup}
 use Rattle.engine_frames.specs.Sides.{doneBy, writtenOf}
-use Rattle.engine_frames.specs.Output.{Tried, sideBy, lettersBy}
+use Rattle.engine_frames.specs.Output.{Tried, lettersBy}
 use Rattle.engine_push.specs.declared.NewFrame.{NewFrame}
 use Rattle.engine_push.specs.declared.Verdict.{Verdict}
 use Rattle.engine_push.specs.declared.Verdict.the-variants.{Refused, Enters, Accepts}
@@ -87,7 +87,7 @@ module _ {s : Setup} {first terminals arcs upper lower : List ℕ} {d : ℕ} {e 
 
   -- what a push answers and leaves
   abbrev Left : Verdict → List ℕ → List ℕ → Type 0
-  Left r g o = (r ≡ met) × (g ≡ pushedCells r c d f) × (o ≡ pushedOutput r s arcs g d b)
+  Left r g o = (r ≡ met) × (g ≡ pushedCells r c d f) × (o ≡ pushedOutput r s arcs upper lower g d b)
 
   -- the arc is counted
   counted-length : (v : Verdict) (g : List ℕ) → g ≡ countedCells v c d → length g ≡ length c
@@ -116,7 +116,7 @@ module _ {s : Setup} {first terminals arcs upper lower : List ℕ} {d : ℕ} {e 
   cells-length (Accepts n) g y = ap length y ∙ entered-length c d f
 
   pub write-ready : (v : Verdict) (g : List ℕ) (m : ℕ) → v ≡ met → acceptingBy v ≡ true → g ≡ pushedCells v c d f → m ≡ w
-      → Tried arcs (sideBy s) g d × ((m ≡ length (lettersBy s arcs g d)) × (m ≤ length b))
+      → Tried s arcs upper lower g d × ((m ≡ length (lettersBy s arcs upper lower g d)) × (m ≤ length b))
   write-ready (Refused cause) g m E h y z = not-true-false (sym h)
   write-ready Enters g m E h y z = not-true-false (sym h)
   write-ready (Accepts n) g m E h y z =
@@ -124,7 +124,7 @@ module _ {s : Setup} {first terminals arcs upper lower : List ℕ} {d : ℕ} {e 
       let R = P .writes n E g y in
       (R .0, (K ∙ R .1 .0, omega (arith, K, R .1 .1)))
 
-  pub found : (v : Verdict) (g o : List ℕ) → v ≡ met → acceptingBy v ≡ true → g ≡ pushedCells v c d f → o ≡ lettersBy s arcs g d ++ drop (length (lettersBy s arcs g d)) b → Left v g o
+  pub found : (v : Verdict) (g o : List ℕ) → v ≡ met → acceptingBy v ≡ true → g ≡ pushedCells v c d f → o ≡ lettersBy s arcs upper lower g d ++ drop (length (lettersBy s arcs upper lower g d)) b → Left v g o
   found (Refused cause) g o E h y z = not-true-false (sym h)
   found Enters g o E h y z = not-true-false (sym h)
   found (Accepts n) g o E h y z = (E, y, z)

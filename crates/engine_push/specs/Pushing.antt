@@ -13,7 +13,7 @@ use Rattle.machine.specs.Stack.{framesIn, roomIn, lookAt, putAt}
 use Rattle.engine_frames.specs.declared.Setup.{Setup}
 use Rattle.engine_frames.specs.Frames.{frameBy}
 use Rattle.engine_frames.specs.Sides.{passedOf, doneBy, writtenOf}
-use Rattle.engine_frames.specs.Output.{Tried, sideBy, lettersBy}
+use Rattle.engine_frames.specs.Output.{Tried, lettersBy}
 use Rattle.engine_push.specs.declared.NewFrame.{NewFrame}
 use Rattle.engine_push.specs.declared.Verdict.{Verdict}
 use Rattle.engine_push.specs.declared.Verdict.the-variants.{Refused, Enters, Accepts}
@@ -71,10 +71,10 @@ pushedCells Enters c d f = enteredAt c d f
 pushedCells (Accepts n) c d f = enteredAt c d f
 
 -- the output after it, from the cells e that it left and the d frames below the new one: "only Found writes output"
-abbrev pub pushedOutput : Verdict → Setup → List ℕ → List ℕ → ℕ → List ℕ → List ℕ
-pushedOutput (Refused cause) s arcs e d b = b
-pushedOutput Enters s arcs e d b = b
-pushedOutput (Accepts n) s arcs e d b = lettersBy s arcs e d ++ drop (length (lettersBy s arcs e d)) b
+abbrev pub pushedOutput : Verdict → Setup → List ℕ → List ℕ → List ℕ → List ℕ → ℕ → List ℕ → List ℕ
+pushedOutput (Refused cause) s arcs upper lower e d b = b
+pushedOutput Enters s arcs upper lower e d b = b
+pushedOutput (Accepts n) s arcs upper lower e d b = lettersBy s arcs upper lower e d ++ drop (length (lettersBy s arcs upper lower e d)) b
 
 -- what the push of a frame onto d frames may rely on where it finds room, and where its path accepts
 pub record Pushable (s : Setup) (first terminals arcs upper lower : List ℕ) (d : ℕ) (e : NewFrame) (c b : List ℕ) : Type 0 where
@@ -83,4 +83,4 @@ pub record Pushable (s : Setup) (first terminals arcs upper lower : List ℕ) (d
   pub indexes : d < roomIn c → e .state < length first
   pub counts : (j : ℕ) → d ≡ suc j → lookAt c j .next ≤ 1024
   pub writes : (m : ℕ) → Accepts m ≡ verdictBy s terminals upper lower d e c (length b) → (g : List ℕ) → g ≡ enteredAt c d (frameIn e (getD first (e .state) 0))
-      → Tried arcs (sideBy s) g d × ((m ≡ length (lettersBy s arcs g d)) × (m ≤ length b))
+      → Tried s arcs upper lower g d × ((m ≡ length (lettersBy s arcs upper lower g d)) × (m ≤ length b))

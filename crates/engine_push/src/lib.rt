@@ -141,7 +141,7 @@ pub fn push(
     requires { ⌜ Pushable setup (now first) (now terminals) (now arcs) (now upper) (now lower) (added .depth - 1) added (now stack) (now output) ⌝ }
     ensures { λ r. ⌜ (r ≡ verdictBy setup (now (terminals .entry)) (now (upper .entry)) (now (lower .entry)) (added .depth - 1) added (now (stack .entry)) (length (now (output .entry))))
         × (now (stack .exit) ≡ pushedCells r (now (stack .entry)) (added .depth - 1) (frameIn added (getD (now (first .entry)) (added .state) 0)))
-        × (now (output .exit) ≡ pushedOutput r setup (now (arcs .entry)) (now (stack .exit)) (added .depth - 1) (now (output .entry))) ⌝ }
+        × (now (output .exit) ≡ pushedOutput r setup (now (arcs .entry)) (now (upper .entry)) (now (lower .entry)) (now (stack .exit)) (added .depth - 1) (now (output .entry))) ⌝ }
 {
     let below = added.depth - 1;
     let space = output.len();
@@ -152,7 +152,16 @@ pub fn push(
     }
     if is_accepting(met) {
         let length = sides::written(setup, added.up, added.low);
-        output::write(setup, arcs, stack, below as usize, length, output);
+        output::write(
+            setup,
+            arcs,
+            upper,
+            lower,
+            stack,
+            below as usize,
+            length,
+            output,
+        );
     }
     met
 }

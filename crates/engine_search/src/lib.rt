@@ -71,6 +71,7 @@ pub fn refused(steps: u32, refusal: Refusal, run: Run) -> Called
 // The steps of a call from a place in a search.
 pub fn take_steps(
     setup: Setup,
+    classes: &[[u8; 16]; 8],
     first: &[u16],
     initials: &[u16],
     terminals: &[u16],
@@ -82,9 +83,9 @@ pub fn take_steps(
     lower: &[u8],
     output: &mut [u8],
 ) -> Called
-    requires { ⌜ Prepared setup (now first) (now initials) (now terminals) (now arcs) ⌝ }
-    requires { ⌜ Good (machineBy setup (now initials) (now terminals) (now arcs) (now upper) (now lower)) store (roomIn (now stack)) (heldOf run (now stack)) ⌝ }
-    ensures { λ r. ⌜ SearchIs (run .task) (now (output .entry)) (advance (machineBy setup (now (initials .entry)) (now (terminals .entry)) (now (arcs .entry)) (now (upper .entry)) (now (lower .entry))) store (length (now (output .entry))) allowance (heldOf run (now (stack .entry)))) r (now (stack .exit)) (now (output .exit)) ⌝ }
+    requires { ⌜ Prepared setup (now classes) (now first) (now initials) (now terminals) (now arcs) (now upper) (now lower) ⌝ }
+    requires { ⌜ Good (machineBy setup (now classes) (now initials) (now terminals) (now arcs) (now upper) (now lower)) store (roomIn (now stack)) (heldOf run (now stack)) ⌝ }
+    ensures { λ r. ⌜ SearchIs (run .task) (now (output .entry)) (advance (machineBy setup (now (classes .entry)) (now (initials .entry)) (now (terminals .entry)) (now (arcs .entry)) (now (upper .entry)) (now (lower .entry))) store (length (now (output .entry))) allowance (heldOf run (now (stack .entry)))) r (now (stack .exit)) (now (output .exit)) ⌝ }
 {
     let mut at = run;
     let mut steps: u32 = 0;
@@ -97,6 +98,7 @@ pub fn take_steps(
         }
         match engine_step::step(
             setup,
+            classes,
             first,
             initials,
             terminals,

@@ -1,4 +1,5 @@
--- Laws of a step: the bounds of what it looks at, its move, and what it comes to.
+-- Laws of a step: what an arc makes of both sides, the bounds of what a step looks at, its move, and what it comes to.
+pub mod Fits
 pub mod Moves
 pub mod Steps
 pub mod Bounds

@@ -1,22 +1,22 @@
 -- The move that the code computes from the cells.
 use Prim.Native.Nat.{ℕ, zero, suc, pred, _+_, _-_, _<_, _≤_}
 use native.Mathlib.Omega.{arith}
-use mathlib.Core.Path.{_≡_, refl, sym, ap, ap₂, _∙_}
+use mathlib.Core.Path.{_≡_, refl, sym, ap, ap₂, subst, _∙_}
 use mathlib.Core.Bool.{Bool, true, false, _||_}
 use mathlib.Core.Option.{Option, none, some}
 use mathlib.Core.List.{List, []}
 use lib.ListN.{length, getD}
 use Rattle.table_format.specs.declared.Arc as Held
-use Rattle.table_format.specs.Table.{Arc, noArc}
+use Rattle.table_format.specs.Table.{Arc, Table, noArc}
 use Rattle.table_format.specs.Index.{below}
 use Rattle.table_format.specs.Cells.{arcCount, arcHeld, arcOf, arcsAs, arcSaid}
 use Rattle.table_format.proofs.Arcs.{getD-arcs}
 use Rattle.machine.specs.Query.{Side, upperSide, lowerSide, reads}
-use Rattle.machine.specs.Machine.{Machine}
+use Rattle.machine.specs.Machine.{Machine, bind}
 use Rattle.machine.specs.Frames as F
 use Rattle.machine.specs.Frames.{untried}
 use Rattle.machine.specs.Step.{tryArc, moveTop, moveStart, move}
-use Rattle.machine.specs.Transducer.{sideFollow, Passed, passed, both, followArc}
+use Rattle.machine.specs.Transducer.{sideFollow, Passed, passed, both, nextLetter, plainBy, followAt}
 use Rattle.machine.specs.Stack.{lookAt, store}
 use Rattle.machine.proofs.Held.{move-start, move-top}
 use Rattle.machine.proofs.Range.{below-rises}
@@ -25,11 +25,11 @@ use Rattle.engine_frames.specs.declared.Fit.{Fit}
 use Rattle.engine_frames.specs.declared.Fit.the-variants.{Fits, Fails}
 use Rattle.engine_frames.specs.declared.Frame.{Frame}
 use Rattle.engine_frames.specs.Frames.{frameOf}
-use Rattle.engine_frames.specs.Sides.{fitOf, passedOf, setupReads, bySide, followBy}
+use Rattle.engine_frames.specs.Sides.{fitOf, passedOf, setupReads, bySide, followIn}
 use Rattle.engine_push.specs.declared.NewFrame.{NewFrame}
 use Rattle.engine_push.proofs.Cells.{pred-suc}
 use Rattle.engine_step.specs.declared.Move.the-variants.{Drops, Skips, Pushes}
-use Rattle.engine_step.specs.Setting.{taskBy, queryBy, machineBy, held, InBounds, Top}
+use Rattle.engine_step.specs.Setting.{Alike, taskBy, queryBy, tableBy, machineBy, held, InBounds, Top}
 use Rattle.engine_step.specs.Stepping.{moveAs}
 
 -- The sides that a task by its flags reads.
@@ -46,9 +46,10 @@ reads-is s h side = go (s .up) (s .low) side h
     go false true lowerSide h = refl
     go false false side h = absurd (let z : _≡_ {A = ℕ} 0 1 = cc in omega arith)
 
-pub follow-is : (s : Setup) → (s .up || s .low) ≡ true → (upper lower : List ℕ) (a : Arc) (d : Passed) → followArc (queryBy s upper lower) a d ≡ followBy s upper lower a d
-follow-is s h upper lower a d =
-    ap₂ (λ (p r : Bool). both (sideFollow p upper (a .upper) (d .up)) (sideFollow r lower (a .lower) (d .low))) (reads-is s h upperSide) (reads-is s h lowerSide)
+pub follow-is : (s : Setup) → (s .up || s .low) ≡ true → (t : Table) (upper lower : List ℕ) (a : Arc) (d : Passed)
+    → followAt t (queryBy s upper lower) a d ≡ followIn s (t .classes) upper lower a d
+follow-is s h t upper lower a d =
+    ap₂ (λ (p r : Bool). bind (plainBy (t .classes) a (nextLetter p upper lower d)) (λ b. both (sideFollow p upper (b .upper) (d .up)) (sideFollow r lower (b .lower) (d .low)))) (reads-is s h upperSide) (reads-is s h lowerSide)
 
 -- a frame to push, by its numbers
 abbrev newFrame : ℕ → ℕ → ℕ → ℕ → ℕ → NewFrame
@@ -56,9 +57,12 @@ newFrame n d state up low = record { started = n; depth = d; state = state; up =
 
 -- The move.
 
-module _ (s : Setup) (initials arcs upper lower : List ℕ) (n : ℕ) (c : List ℕ) where
+module _ (s : Setup) (classes : List (List ℕ)) (initials arcs upper lower : List ℕ) (n : ℕ) (c : List ℕ) where
+  abbrev t : Table
+  t = tableBy s classes initials [] arcs
+
   abbrev M : Machine
-  M = machineBy s initials [] arcs upper lower
+  M = machineBy s classes initials [] arcs upper lower
 
   pub begins-is : (d : ℕ) → d ≡ 0 → n < length initials → Pushes (newFrame (n + 1) 1 (getD initials n 0) 0 0) ≡ moveAs n d (move M store (held n d c))
   begins-is d e h = go (length initials - n) (let z : 0 < length initials - n = omega arith in z) ∙ ap (moveAs n d) (sym (move-start M store (held n d c) e))
@@ -88,14 +92,14 @@ module _ (s : Setup) (initials arcs upper lower : List ℕ) (n : ℕ) (c : List 
       a = arcOf arcs (f .next)
 
       abbrev o : Option Passed
-      o = followBy s upper lower a (f .datum)
+      o = followIn s classes upper lower a (f .datum)
 
       arc-is : getD (arcsAs arcs) (f .next) noArc ≡ a
       arc-is = getD-arcs (arcCount arcs) arcs (f .next) noArc w
 
       tries : move M store (held n d c) ≡ tryArc M f o
       tries = at-top (suc (pred (end - f .next))) (untried-is f ∙ (let z : end - f .next ≡ suc (pred (end - f .next)) = omega arith in z))
-          ∙ ap (tryArc M f) (ap (λ (x : Arc). followArc (queryBy s upper lower) x (f .datum)) arc-is ∙ follow-is s r upper lower a (f .datum))
+          ∙ ap (tryArc M f) (ap (λ (x : Arc). followAt t (queryBy s upper lower) x (f .datum)) arc-is ∙ follow-is s r t upper lower a (f .datum))
 
       skips-is : Fails ≡ fitOf o → Skips ≡ moveAs n d (move M store (held n d c))
       skips-is z = go o z ∙ ap (moveAs n d) (sym tries)
@@ -149,18 +153,21 @@ module _ (s : Setup) (initials arcs upper lower : List ℕ) (n : ℕ) (c : List 
 
       -- and by the arc
       module _ (r : (s .up || s .low) ≡ true) (a : Held.Arc) (A : a ≡ arcHeld (arcOf arcs (g .next))) where
-        abbrev fit : Fit
-        fit = fitOf (followBy s upper lower (arcSaid a) (passedOf (g .up) (g .low)))
+        abbrev fitted : Fit
+        fitted = fitOf (followIn s classes upper lower (arcSaid a) (passedOf (g .up) (g .low)))
 
         arc-was : arcSaid a ≡ arcOf arcs (lookAt c (d - 1) .next)
         arc-was = ap arcSaid A ∙ ap (arcOf arcs) next-is
 
-        fit-is : fit ≡ fitOf (followBy s upper lower (arcOf arcs (lookAt c (d - 1) .next)) (lookAt c (d - 1) .datum))
-        fit-is = ap₂ (λ (x : Arc) (y : Passed). fitOf (followBy s upper lower x y)) arc-was (ap (λ (x : Frame). passedOf (x .up) (x .low)) E)
+        pub arc-alike : Alike (arcSaid a)
+        arc-alike = subst Alike (sym arc-was) (bounds .next-alike (bounds .next-in untried-arc))
 
-        pub skips-by : Fails ≡ fit → Skips ≡ moveAs n d (move M store (held n d c))
+        fit-is : fitted ≡ fitOf (followIn s classes upper lower (arcOf arcs (lookAt c (d - 1) .next)) (lookAt c (d - 1) .datum))
+        fit-is = ap₂ (λ (x : Arc) (y : Passed). fitOf (followIn s classes upper lower x y)) arc-was (ap (λ (x : Frame). passedOf (x .up) (x .low)) E)
+
+        pub skips-by : Fails ≡ fitted → Skips ≡ moveAs n d (move M store (held n d c))
         skips-by y = skips-is d (d - 1) top-is untried-arc (bounds .next-in untried-arc) r (y ∙ fit-is)
 
-        pub pushes-by : (k u l : ℕ) → k ≡ suc d → Fits u l ≡ fit → Pushes (newFrame n k (a .target) u l) ≡ moveAs n d (move M store (held n d c))
+        pub pushes-by : (k u l : ℕ) → k ≡ suc d → Fits u l ≡ fitted → Pushes (newFrame n k (a .target) u l) ≡ moveAs n d (move M store (held n d c))
         pushes-by k u l z y =
             ap₂ (λ (j : ℕ) (x : Arc). Pushes (newFrame n j (x .target) u l)) z arc-was ∙ pushes-is d (d - 1) top-is untried-arc (bounds .next-in untried-arc) r u l (y ∙ fit-is)

@@ -26,7 +26,7 @@ use Rattle.machine.proofs.Stack.{store-laws}
 use Rattle.machine.proofs.Transducer.{written-length}
 use Rattle.engine_frames.specs.declared.Setup.{Setup}
 use Rattle.engine_frames.specs.Sides.{doneBy, writtenOf}
-use Rattle.engine_frames.specs.Output.{Tried, sideBy, lettersBy}
+use Rattle.engine_frames.specs.Output.{Tried, lettersBy}
 use Rattle.engine_push.specs.declared.NewFrame.{NewFrame}
 use Rattle.engine_push.specs.declared.Verdict.{Verdict}
 use Rattle.engine_push.specs.declared.Verdict.the-variants as Met
@@ -44,9 +44,9 @@ use Rattle.engine_step.proofs.Steps.{effectAs, step-as, push-good, refu
 use Rattle.engine_step.proofs.Bounds.{done-is, written-is, rules, first-length, first-at, output-letters, tried-of, top-of}
 
 -- the move does not look at the terminal states
-same-move : (s : Setup) (initials terminals arcs upper lower : List ℕ) (h : Held (List ℕ)) → move (machineBy s initials [] arcs upper lower) store h ≡ move (machineBy s initials terminals arcs upper lower) store h
+same-move : (s : Setup) (classes : List (List ℕ)) (initials terminals arcs upper lower : List ℕ) (h : Held (List ℕ)) → move (machineBy s classes initials [] arcs upper lower) store h ≡ move (machineBy s classes initials terminals arcs upper lower) store h
 unfolding move
-same-move s initials terminals arcs upper lower h = refl
+same-move s classes initials terminals arcs upper lower h = refl
 
 -- the frame that was pushed is the top one
 entered-top : (c : List ℕ) (d : ℕ) (f : F.Frame Passed) → d < roomIn c → lookAt (enteredAt c d f) d ≡ f
@@ -61,23 +61,23 @@ turnAs task m d (Accepts k) = Finds (runBy task m d) k
 pub finds-ap : {a b : Run} (k : ℕ) → a ≡ b → Finds a k ≡ Finds b k
 finds-ap k e = ap (λ (r : Run). Finds r k) e
 
-module _ {s : Setup} {first initials terminals arcs : List ℕ} (R : Prepared s first initials terminals arcs) (upper lower : List ℕ) where
+module _ {s : Setup} {classes : List (List ℕ)} {first initials terminals arcs upper lower : List ℕ} (R : Prepared s classes first initials terminals arcs upper lower) where
   abbrev t : Table
-  t = tableBy s initials terminals arcs
+  t = tableBy s classes initials terminals arcs
 
   abbrev q : Query
   q = queryBy s upper lower
 
   abbrev M : Machine
-  M = machineBy s initials terminals arcs upper lower
+  M = machineBy s classes initials terminals arcs upper lower
 
   module _ (task n d : ℕ) (c : List ℕ) (G : Good M store (roomIn c) (held n d c)) (left : d ≡ 0 → n < length initials) where
     -- what the code tells, by a machine without terminal states
     abbrev told : Move
-    told = moveAs n d (move (machineBy s initials [] arcs upper lower) store (held n d c))
+    told = moveAs n d (move (machineBy s classes initials [] arcs upper lower) store (held n d c))
 
     tells : (r : Move) → r ≡ told → r ≡ moveAs n d (move M store (held n d c))
-    tells r e = e ∙ ap (moveAs n d) (same-move s initials terminals arcs upper lower (held n d c))
+    tells r e = e ∙ ap (moveAs n d) (same-move s classes initials terminals arcs upper lower (held n d c))
 
     module _ (b : List ℕ) where
       turn-by : (x : Stepped (List ℕ)) (r : Turn) (e o : List ℕ) → step M store (length b) (held n d c) ≡ x → TurnIs task x c b r e o → TurnIs task (step M store (length b) (held n d c)) c b r e o
@@ -98,7 +98,7 @@ module _ {s : Setup} {first initials terminals arcs : List ℕ} (R : Prepared s 
     deep r e other = go d refl
       where
         go : (k : ℕ) → d ≡ k → 1 ≤ d
-        go zero z = absurd (other _ (e ∙ sym (begins-is s initials arcs upper lower n c d z (left z))))
+        go zero z = absurd (other _ (e ∙ sym (begins-is s classes initials arcs upper lower n c d z (left z))))
         go (suc k) z = omega arith
 
     pub drop-deep : Drops ≡ told → 1 ≤ d
@@ -108,7 +108,7 @@ module _ {s : Setup} {first initials terminals arcs : List ℕ} (R : Prepared s 
     skip-deep e = deep Skips e (λ x z. let y : _≡_ {A = ℕ} 0 1 = cc in omega arith)
 
     pub skip-next : (k : ℕ) → d ≡ suc k → lookAt c k .next ≤ 1024
-    skip-next k j = top-of R upper lower n d c G left .top-in k j .next-small
+    skip-next k j = top-of R n d c G left .top-in k j .next-small
 
     -- a push adds a frame to those that there are
     push-depth : (e : NewFrame) (v : S.Move (F.Frame Passed)) → Pushes e ≡ moveAs n d v → e .depth ≡ suc d
@@ -143,7 +143,7 @@ module _ {s : Setup} {first initials terminals arcs : List ℕ} (R : Prepared s 
         accepts-after : accepts M (pathOf M store after) ≡ accepting
         accepts-after =
             accepts-top M (e .started) f (framesOf store (enteredAt c d f) d) placed
-            ∙ ap (λ (v : Bool). member (e .state) terminals && v) (done-is s (R .reads-some) initials terminals arcs upper lower (passedIn e))
+            ∙ ap (λ (v : Bool). member (e .state) terminals && v) (done-is s (R .reads-some) t upper lower (passedIn e))
 
         length-after : length (output M (pathOf M store after)) ≡ count
         length-after =
@@ -158,11 +158,11 @@ module _ {s : Setup} {first initials terminals arcs : List ℕ} (R : Prepared s 
         frame-is : frameIn e (getD first (e .state) 0) ≡ f
         frame-is = ap (frameIn e) (first-at R (e .state) (omega (arith, in-states)))
 
-        letters-after : output M (pathOf M store after) ≡ lettersBy s arcs (enteredAt c d f) d
-        letters-after = output-letters R upper lower (e .started) (enteredAt c d f) d f placed
+        letters-after : output M (pathOf M store after) ≡ lettersBy s arcs upper lower (enteredAt c d f) d
+        letters-after = output-letters R (e .started) (enteredAt c d f) d f placed
 
-        tried-after : Tried arcs (sideBy s) (enteredAt c d f) d
-        tried-after = tried-of R upper lower (e .started) (enteredAt c d f) d f (omega (arith, entered-length c d f)) placed
+        tried-after : Tried s arcs upper lower (enteredAt c d f) d
+        tried-after = tried-of R (e .started) (enteredAt c d f) d f (omega (arith, entered-length c d f)) placed
 
       facts : ltb d (roomIn c) ≡ true → PathIs t q after (length b) count accepting
       facts z = let room : d < roomIn c = ltb-true d (roomIn c) z in (accepts-after room, length-after room)
@@ -193,13 +193,13 @@ module _ {s : Setup} {first initials terminals arcs : List ℕ} (R : Prepared s 
           room₀ : d < roomIn c
           room₀ = ltb-true d (roomIn c) (F₀ .has-room)
 
-          word-is : output M (pathOf M store after) ≡ lettersBy s arcs g d
-          word-is = letters-after room₀ ∙ ap (λ (l : List ℕ). lettersBy s arcs l d) (sym (cells-is room₀))
+          word-is : output M (pathOf M store after) ≡ lettersBy s arcs upper lower g d
+          word-is = letters-after room₀ ∙ ap (λ (l : List ℕ). lettersBy s arcs upper lower l d) (sym (cells-is room₀))
 
-          write-ready : Tried arcs (sideBy s) g d × ((k ≡ length (lettersBy s arcs g d)) × (k ≤ length b))
-          write-ready = (subst (λ (l : List ℕ). Tried arcs (sideBy s) l d) (sym (cells-is room₀)) (tried-after room₀), (F₀ .counted ∙ ap length word-is, F₀ .has-space))
+          write-ready : Tried s arcs upper lower g d × ((k ≡ length (lettersBy s arcs upper lower g d)) × (k ≤ length b))
+          write-ready = (subst (λ (l : List ℕ). Tried s arcs upper lower l d) (sym (cells-is room₀)) (tried-after room₀), (F₀ .counted ∙ ap length word-is, F₀ .has-space))
 
-          find-turn : (o : List ℕ) → o ≡ lettersBy s arcs g d ++ drop (length (lettersBy s arcs g d)) b → TurnIs task (step M store (length b) (held n d c)) c b (Finds (runBy task (e .started) (suc d)) k) g o
+          find-turn : (o : List ℕ) → o ≡ lettersBy s arcs upper lower g d ++ drop (length (lettersBy s arcs upper lower g d)) b → TurnIs task (step M store (length b) (held n d c)) c b (Finds (runBy task (e .started) (suc d)) k) g o
           find-turn o w =
               turn-by b (finds after (output M (pathOf M store after))) _ _ _ (pushes ∙ F₀ .told) (
                 ap (Finds (runBy task (e .started) (suc d))) (F₀ .counted),
@@ -208,7 +208,7 @@ module _ {s : Setup} {first initials terminals arcs : List ℕ} (R : Prepared s 
               )
 
       after-is : e .depth ≡ suc d
-      after-is = push-depth e (move (machineBy s initials [] arcs upper lower) store (held n d c)) E
+      after-is = push-depth e (move (machineBy s classes initials [] arcs upper lower) store (held n d c)) E
 
       below-is : e .depth - 1 ≡ d
       below-is = omega (arith, after-is)
@@ -227,7 +227,7 @@ module _ {s : Setup} {first initials terminals arcs : List ℕ} (R : Prepared s 
             }),
       )
 
-      push-by : (v : Verdict) (g o : List ℕ) → v ≡ verdict → g ≡ pushedCells v c d (frameIn e (getD first (e .state) 0)) → o ≡ pushedOutput v s arcs g d b
+      push-by : (v : Verdict) (g o : List ℕ) → v ≡ verdict → g ≡ pushedCells v c d (frameIn e (getD first (e .state) 0)) → o ≡ pushedOutput v s arcs upper lower g d b
           → TurnIs task (step M store (length b) (held n d c)) c b (turnAs task (e .started) (suc d) v) g o
       push-by (Met.Refused cause) g o v y z = refuse-turn cause v g o y z
       push-by Enters g o v y z = enter-turn g y v o z
@@ -235,9 +235,9 @@ module _ {s : Setup} {first initials terminals arcs : List ℕ} (R : Prepared s 
 
       -- by what the code of a push says
       pub push-turn : (v : Verdict) (g o : List ℕ) (r : Turn) → v ≡ verdictBy s terminals upper lower (e .depth - 1) e c (length b)
-          → g ≡ pushedCells v c (e .depth - 1) (frameIn e (getD first (e .state) 0)) → o ≡ pushedOutput v s arcs g (e .depth - 1) b → r ≡ turnAs task (e .started) (e .depth) v
+          → g ≡ pushedCells v c (e .depth - 1) (frameIn e (getD first (e .state) 0)) → o ≡ pushedOutput v s arcs upper lower g (e .depth - 1) b → r ≡ turnAs task (e .started) (e .depth) v
           → TurnIs task (step M store (length b) (held n d c)) c b r g o
       push-turn v g o r y z w k =
           subst (λ (i : Turn). TurnIs task (step M store (length b) (held n d c)) c b i g o) (sym (k ∙ ap (λ (i : ℕ). turnAs task (e .started) i v) after-is))
           (push-by v g o (y ∙ ap (λ (i : ℕ). verdictBy s terminals upper lower i e c (length b)) below-is)
-          (z ∙ ap (λ (i : ℕ). pushedCells v c i (frameIn e (getD first (e .state) 0))) below-is) (w ∙ ap (λ (i : ℕ). pushedOutput v s arcs g i b) below-is))
+          (z ∙ ap (λ (i : ℕ). pushedCells v c i (frameIn e (getD first (e .state) 0))) below-is) (w ∙ ap (λ (i : ℕ). pushedOutput v s arcs upper lower g i b) below-is))

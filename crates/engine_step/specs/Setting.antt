@@ -4,10 +4,12 @@ use mathlib.Core.Path.{_≡_}
 use mathlib.Core.Bool.{Bool, true, false, _||_}
 use mathlib.Core.List.{List}
 use lib.ListN.{length, getD}
-use Rattle.table_format.specs.Table.{Table}
+use lib.Dec.{ltb}
+use Rattle.table_format.specs.Table.{Arc, Table}
+use Rattle.table_format.specs.Classes.{firstClass}
 use Rattle.table_format.specs.Rules.{keepsRules}
 use Rattle.table_format.specs.Index.{below, firstIndex}
-use Rattle.table_format.specs.Cells.{arcCount, arcsAs}
+use Rattle.table_format.specs.Cells.{arcCount, arcOf, arcsAs}
 use Rattle.machine.specs.Query.{Task, recognition, synthesis, analysis, Side, Query}
 use Rattle.machine.specs.Machine.{Machine}
 use Rattle.machine.specs.Frames.{Held}
@@ -26,24 +28,36 @@ abbrev pub queryBy : Setup → List ℕ → List ℕ → Query
 queryBy s upper lower = record { task = taskBy (s .up) (s .low); upperWord = upper; lowerWord = lower }
 
 -- the table
-abbrev pub tableBy : Setup → List ℕ → List ℕ → List ℕ → Table
-tableBy s initials terminals arcs = record { states = s .states; initials = initials; terminals = terminals; arcs = arcsAs arcs }
+abbrev pub tableBy : Setup → List (List ℕ) → List ℕ → List ℕ → List ℕ → Table
+tableBy s classes initials terminals arcs =
+    record { states = s .states; classes = classes; initials = initials; terminals = terminals; arcs = arcsAs arcs }
 
 -- the machine
-abbrev pub machineBy : Setup → List ℕ → List ℕ → List ℕ → List ℕ → List ℕ → Machine
-machineBy s initials terminals arcs upper lower = machine (tableBy s initials terminals arcs) (queryBy s upper lower)
+abbrev pub machineBy : Setup → List (List ℕ) → List ℕ → List ℕ → List ℕ → List ℕ → List ℕ → Machine
+machineBy s classes initials terminals arcs upper lower = machine (tableBy s classes initials terminals arcs) (queryBy s upper lower)
 
 -- a run with its cells
 abbrev pub held : ℕ → ℕ → List ℕ → Held (List ℕ)
 held n d c = record { started = n; depth = d; cells = c }
 
--- the table keeps the rules, `first` is its first-arc index, and the task reads a side
-pub record Prepared (s : Setup) (first initials terminals arcs : List ℕ) : Type 0 where
-  pub keeps : keepsRules (tableBy s initials terminals arcs) ≡ true
+-- no letter of a word means a class
+pub record SmallWords (upper lower : List ℕ) : Type 0 where
+  pub upper-small : (i : ℕ) → getD upper i 0 < firstClass
+  pub lower-small : (i : ℕ) → getD lower i 0 < firstClass
+
+-- an arc has a class on both sides or on none
+abbrev pub Alike : Arc → Type 0
+Alike a = ltb (a .upper) firstClass ≡ ltb (a .lower) firstClass
+
+-- the table keeps the rules, `first` is its first-arc index, the task reads a side, and the words have only letters
+pub record Prepared (s : Setup) (classes : List (List ℕ)) (first initials terminals arcs upper lower : List ℕ) : Type 0 where
+  pub keeps : keepsRules (tableBy s classes initials terminals arcs) ≡ true
   pub index : first ≡ firstIndex (s .states) (arcsAs arcs)
   pub reads-some : (s .up || s .low) ≡ true
+  pub words-small : SmallWords upper lower
 
--- what is known of the frame at d: its state has its place in the index, its next arc is within the arcs, its counts can grow
+-- what is known of the frame at d: its state has its place in the index, its next arc is within the arcs and has a class on both sides or on none,
+-- its counts can grow
 pub record InBounds (first arcs stack : List ℕ) (d : ℕ) : Type 0 where
   pub indexed : lookAt stack d .state + 1 < length first
   pub from-is : getD first (lookAt stack d .state) 0 ≡ below (lookAt stack d .state) (arcsAs arcs)
@@ -51,6 +65,7 @@ pub record InBounds (first arcs stack : List ℕ) (d : ℕ) : Type 0 where
   pub next-in : lookAt stack d .next < below (suc (lookAt stack d .state)) (arcsAs arcs) → lookAt stack d .next < arcCount arcs
   pub next-most : lookAt stack d .next ≤ arcCount arcs
   pub next-small : lookAt stack d .next ≤ 1024
+  pub next-alike : lookAt stack d .next < arcCount arcs → Alike (arcOf arcs (lookAt stack d .next))
   pub counts-small : (side : Side) → passed (lookAt stack d .datum) side ≤ mostFrames
 
 -- what a step may look at: the top frame, or an initial state that is left

@@ -7,6 +7,8 @@ use engine_push::NewFrame;
 use engine_push::Verdict;
 use machine::Run;
 use refusal::StateCause;
+use table_format::Arc;
+use table_format::FIRST_CLASS;
 ghost use mathlib.Core.Path.{_≡_};
 ghost use mathlib.Core.Bool.{true, _||_};
 ghost use mathlib.Core.List.{[]};
@@ -16,7 +18,9 @@ ghost use Rattle.machine.specs.Step.{move, step};
 ghost use Rattle.machine.specs.Stack.{mostFrames, roomIn, store};
 ghost use Rattle.machine.specs.Reading.{heldOf};
 ghost use Rattle.machine.specs.Place.{Good};
-ghost use Rattle.engine_step.specs.Setting.{machineBy, Prepared, Top};
+ghost use Rattle.table_format.specs.Cells.{arcSaid};
+ghost use Rattle.engine_frames.specs.Sides.{fitOf, passedOf, followIn};
+ghost use Rattle.engine_step.specs.Setting.{SmallWords, Alike, machineBy, Prepared, Top};
 ghost use Rattle.engine_step.specs.Stepping.{moveAs, runBy, TurnIs};
 
 // What a step is to do: a frame dropped, an arc tried that does not fit, or a frame pushed.
@@ -41,9 +45,41 @@ fn above(depth: u32) -> u32
     depth + 1
 }
 
+// What an arc makes of the letters passed, if it fits. No letter of a word means a class, so that an arc of a class never fits by the rules of
+// the sides: classes are looked at only where those fail.
+fn fit(
+    setup: Setup,
+    classes: &[[u8; 16]; 8],
+    arc: Arc,
+    upper: &[u8],
+    lower: &[u8],
+    up: u32,
+    low: u32,
+) -> Fit
+    requires { ⌜ (up < 4294967295) × (low < 4294967295) ⌝ }
+    requires { ⌜ Alike (arcSaid arc) × SmallWords (now upper) (now lower) × ((setup .up || setup .low) ≡ true) ⌝ }
+    ensures { λ r. ⌜ r ≡ fitOf (followIn setup (now (classes .entry)) (now (upper .entry)) (now (lower .entry)) (arcSaid arc) (passedOf up low)) ⌝ }
+{
+    let plain = sides::follow(setup, arc, upper, lower, up, low);
+    if let Fit::Fits(u, l) = plain {
+        return Fit::Fits(u, l);
+    }
+    if arc.upper < FIRST_CLASS {
+        return Fit::Fails;
+    }
+    let x = sides::letter_after(upper, up);
+    let y = sides::letter_after(lower, low);
+    if sides::class_fits(setup, classes, arc.upper, x, y) {
+        Fit::Fits(up + 1, low + 1)
+    } else {
+        Fit::Fails
+    }
+}
+
 // What the next step is to do.
 fn choose(
     setup: Setup,
+    classes: &[[u8; 16]; 8],
     first: &[u16],
     initials: &[u16],
     arcs: &[u16],
@@ -53,8 +89,8 @@ fn choose(
     lower: &[u8],
 ) -> Move
     requires { ⌜ Top (now first) (now initials) (now arcs) (run .started) (run .depth) (now stack) ⌝ }
-    requires { ⌜ (setup .up || setup .low) ≡ true ⌝ }
-    ensures { λ r. ⌜ r ≡ moveAs (run .started) (run .depth) (move (machineBy setup (now (initials .entry)) [] (now (arcs .entry)) (now (upper .entry)) (now (lower .entry))) store (heldOf run (now (stack .entry)))) ⌝ }
+    requires { ⌜ SmallWords (now upper) (now lower) × ((setup .up || setup .low) ≡ true) ⌝ }
+    ensures { λ r. ⌜ r ≡ moveAs (run .started) (run .depth) (move (machineBy setup (now (classes .entry)) (now (initials .entry)) [] (now (arcs .entry)) (now (upper .entry)) (now (lower .entry))) store (heldOf run (now (stack .entry)))) ⌝ }
 {
     let started = run.started;
     let depth = run.depth;
@@ -76,7 +112,7 @@ fn choose(
         return Move::Drops;
     }
     let arc = table_format::arc_at(arcs, next);
-    match sides::follow(setup, arc, upper, lower, f.up, f.low) {
+    match fit(setup, classes, arc, upper, lower, f.up, f.low) {
         Fit::Fails => Move::Skips,
         Fit::Fits(up, low) => Move::Pushes(NewFrame {
             started,
@@ -102,6 +138,7 @@ fn at(run: Run, started: u32, depth: u32) -> Run
 // One step, where there is one: what it comes to, with the cells and the output that it leaves.
 pub fn step(
     setup: Setup,
+    classes: &[[u8; 16]; 8],
     first: &[u16],
     initials: &[u16],
     terminals: &[u16],
@@ -112,13 +149,23 @@ pub fn step(
     lower: &[u8],
     output: &mut [u8],
 ) -> Turn
-    requires { ⌜ Prepared setup (now first) (now initials) (now terminals) (now arcs) ⌝ }
-    requires { ⌜ Good (machineBy setup (now initials) (now terminals) (now arcs) (now upper) (now lower)) store (roomIn (now stack)) (heldOf run (now stack)) ⌝ }
+    requires { ⌜ Prepared setup (now classes) (now first) (now initials) (now terminals) (now arcs) (now upper) (now lower) ⌝ }
+    requires { ⌜ Good (machineBy setup (now classes) (now initials) (now terminals) (now arcs) (now upper) (now lower)) store (roomIn (now stack)) (heldOf run (now stack)) ⌝ }
     requires { ⌜ (run .depth ≡ 0 → run .started < length (now initials)) ⌝ }
-    ensures { λ r. ⌜ TurnIs (run .task) (step (machineBy setup (now (initials .entry)) (now (terminals .entry)) (now (arcs .entry)) (now (upper .entry)) (now (lower .entry))) store (length (now (output .entry))) (heldOf run (now (stack .entry)))) (now (stack .entry)) (now (output .entry)) r (now (stack .exit)) (now (output .exit)) ⌝ }
+    ensures { λ r. ⌜ TurnIs (run .task) (step (machineBy setup (now (classes .entry)) (now (initials .entry)) (now (terminals .entry)) (now (arcs .entry)) (now (upper .entry)) (now (lower .entry))) store (length (now (output .entry))) (heldOf run (now (stack .entry)))) (now (stack .entry)) (now (output .entry)) r (now (stack .exit)) (now (output .exit)) ⌝ }
 {
     let depth = run.depth;
-    match choose(setup, first, initials, arcs, run, stack, upper, lower) {
+    match choose(
+        setup,
+        classes,
+        first,
+        initials,
+        arcs,
+        run,
+        stack,
+        upper,
+        lower,
+    ) {
         Move::Drops => Turn::Moved(at(run, run.started, depth - 1)),
         Move::Skips => {
             cells::count_tried(stack, depth as usize - 1);

@@ -228,8 +228,8 @@ pub printed-one : (line other sheet against : List ℕ) → Unfed line → Unfed
     → printedFor line sheet ≡ printedFor other against → (line ≡ other) × (sheet ≡ against)
 printed-one = printing.printed-one
 
--- FROM THE LIST'S TEXT TO THE PRINT: a text that is taken, whose table is built in 2,300 cells or more, and lines of an exam.
-module _ (list : List ℕ) (ws : List Word) (gathered : fate list ≡ taken ws) (b : List ℕ) (room : 2300 ≤ length b) where
+-- FROM THE LIST'S TEXT TO THE PRINT: a text that is taken, whose table is built in 2,428 cells or more, and lines of an exam.
+module _ (list : List ℕ) (ws : List Word) (gathered : fate list ≡ taken ws) (b : List ℕ) (room : 2428 ≤ length b) where
   bytes-taken : TakenAs (spelled ws) ws
   bytes-taken = wordlists.list-taken list ws gathered
 

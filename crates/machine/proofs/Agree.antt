@@ -9,18 +9,18 @@ use mathlib.Core.List.{[], _∷_, _++_, append-nil}
 use lib.ListN.{length, getD, length-drop}
 use lib.Seq.{drop-length}
 use borrow.Author.Tests.{eqb-true, eq-eqb}
-use Rattle.table_format.specs.Table.{Table}
+use Rattle.table_format.specs.Table.{Arc, Table}
 use Rattle.table_format.proofs.Tests.{and-left, and-right, and-both}
 use Rattle.table_format.proofs.Ruled.{Ruled}
 use Rattle.machine.specs.Query.{Task, recognition, synthesis, analysis, Side, upperSide, lowerSide, reads, Query}
-use Rattle.machine.specs.Transducer.{arcAt, member, sideWrites, sideDone, sideToRead, Passed, followArc, doneOn, machine}
+use Rattle.machine.specs.Transducer.{member, sideWrites, sideDone, sideToRead, Passed, writesArc, doneOn, machine}
 use Rattle.machine.specs.Machine.{Path, start, more, final, datum, listed, tested, accepts, output, Allowed}
 use Rattle.machine.specs.Report.{Kernel, Cell, Trace, null, thence, KernelPath, emptyPath, longerPath, label, arcsOf, Word, kernel, Output, bothEmpty, φ₋, φ₊, Solves}
 use Rattle.machine.specs.Agree.{place, inputOf, outputOf, TraceFor, Same}
-use Rattle.machine.proofs.Transducer.{at-mem, mem-at, bind-parts}
+use Rattle.machine.proofs.Transducer.{at-mem, mem-at, step-parts}
 use Rattle.machine.proofs.Bound.{countIf, within, has-datum}
 use Rattle.graph.proofs.Lists.{member-mem, mem-member}
-use Rattle.machine.proofs.Traces.{sideData, trace-end, letters, dataOf, beginAt, TraceOf, PathOf, path-trace, trace-path, path-unique}
+use Rattle.machine.proofs.Traces.{sideData, trace-end, letters, letters-step, dataOf, beginAt, TraceOf, PathOf, path-trace, trace-path, path-unique}
 
 -- a path that accepts with the reading x
 pub record AcceptingPath (t : Table) (q : Query) (x : Output (q .task)) : Type 0 where
@@ -126,9 +126,13 @@ module _ (t : Table) (q : Query) where
   output-is : (p : Path) (d : Passed) → datum (machine t q) p ≡ some d → toldBy (endOf p d) ≡ output (machine t q) p
   output-is (start i) d e = subst (λ (x : Passed). toldBy (endOf (start i) x) ≡ []) (cc) (told-none (q .task) (q .upperWord) (q .lowerWord))
   output-is (more p n) d e =
-      let P = bind-parts (datum (machine t q) p) (λ x. followArc q (arcAt t n) x) d e in
-      told-more (q .task) (q .upperWord) (q .lowerWord) (lettersOf upperSide p) (lettersOf lowerSide p) (P .0 .up) (P .0 .low) (d .up) (d .low) (arcAt t n .upper) (arcAt t n .lower)
-      ∙ ap₂ (λ (a b : Word). a ++ b) (output-is p (P .0) (P .1)) (ap (λ (o : Option Passed). listed o (machine t q .writes n)) (sym (P .1)))
+      let P = step-parts t q p n d e in
+      let b : Arc = P .1 in
+      ap₂ (λ (u l : Word). toldBy (sideData (reads (q .task) upperSide) (q .upperWord) (d .up) u, sideData (reads (q .task) lowerSide) (q .lowerWord) (d .low) l))
+      (letters-step t q unwritten upperSide p n (P .0) b (P .2) (P .3)) (letters-step t q unwritten lowerSide p n (P .0) b (P .2) (P .3))
+      ∙ told-more (q .task) (q .upperWord) (q .lowerWord) (lettersOf upperSide p) (lettersOf lowerSide p) (P .0 .up) (P .0 .low) (d .up) (d .low) (b .upper) (b .lower)
+      ∙ ap₂ (λ (x y : Word). x ++ y) (output-is p (P .0) (P .2))
+      (sym (ap (λ (o : Option Passed). listed o (machine t q .writes n)) (P .2) ∙ ap (λ (o : Option Arc). listed o (writesArc q)) (P .3)))
 
   ends-to : (p : Path) (d : Passed) → datum (machine t q) p ≡ some d → machine t q .done d ≡ true → Ends (q .task) (endOf p d) (output (machine t q) p)
   ends-to p d e h =

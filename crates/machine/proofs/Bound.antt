@@ -14,11 +14,12 @@ use Rattle.table_format.proofs.Ruled.{Ruled}
 use Rattle.graph.specs.Cost.{Costly, stay, freely, paying}
 use Rattle.graph.proofs.Cost.{few-edges}
 use Rattle.machine.specs.Query.{Side, upperSide, lowerSide, reads, letter, word, Query}
-use Rattle.machine.specs.Transducer.{arcAt, sideFollow, sideToRead, Passed, passed, nothingPassed, followArc, toReadOn, lettersToRead, machine}
+use Rattle.machine.specs.Transducer.{arcAt, sideFollow, sideToRead, Passed, passed, nothingPassed, followArc, plainAt, toReadOn, lettersToRead, machine}
 use Rattle.machine.specs.Machine.{Path, start, more, final, datum, size, Allowed, Bounded}
 use Rattle.machine.specs.Idle.{sideIdle, idleOn, idle, always, AnyArc, IdleArc, NoIdleCycle}
 use Rattle.machine.proofs.Idle.{among, any-arc}
-use Rattle.machine.proofs.Transducer.{arc-of, at-mem, bind-parts, follow-parts, somewhen-parts, getD-lt}
+use Rattle.machine.proofs.Transducer.{arc-of, at-mem, step-parts, follow-parts, somewhen-parts, getD-lt}
+use Rattle.machine.proofs.Classes.{nextOf, narrow-idle}
 
 abbrev pub countIf : Bool → ℕ → ℕ
 countIf true n = n
@@ -67,8 +68,8 @@ module _ (t : Table) (q : Query) where
       go upperSide = within-start upperSide
       go lowerSide = within-start lowerSide
   within (more p n) d e s =
-      let P = bind-parts (datum (machine t q) p) (λ x. followArc q (arcAt t n) x) d e in
-      arc-law (arcAt t n) (P .0) d (P .2) s .within (within p (P .0) (P .1) s)
+      let P = step-parts t q p n d e in
+      arc-law (P .1) (P .0) d (P .4) s .within (within p (P .0) (P .2) s)
 
   reads-more : (a : Arc) (d e : Passed) → followArc q a d ≡ some e → idle (q .task) a ≡ false → suc (readCount d) ≤ readCount e
   reads-more a d e h i = go (sideIdle (reads (q .task) upperSide) (letter upperSide a)) refl
@@ -97,26 +98,26 @@ module _ (t : Table) (q : Query) where
     cost-of : (p : Path) → Allowed (machine t q) p → (d : Passed) → datum (machine t q) p ≡ some d → CostOf p d
     cost-of (start i) A d e = record { from = getD (t .initials) i 0; initially = at-mem (t .initials) i 0 A; cost = 0; walk = stay; within-read = omega arith }
     cost-of (more p n) A d e =
-        let P = bind-parts (datum (machine t q) p) (λ x. followArc q (arcAt t n) x) d e in
-        go (P .0) (P .2) (idle (q .task) (arcAt t n)) refl (cost-of p (A .0) (P .0) (P .1)) (last-arc p n A)
+        let P = step-parts t q p n d e in
+        go (P .0) (P .1) (P .3) (P .4) (idle (q .task) (arcAt t n)) refl (cost-of p (A .0) (P .0) (P .2)) (last-arc p n A)
       where
-        go : (c : Passed) → followArc q (arcAt t n) c ≡ some d → (b : Bool) → idle (q .task) (arcAt t n) ≡ b → CostOf p c
+        go : (c : Passed) (a : Arc) → plainAt t q (arcAt t n) c ≡ some a → followArc q a c ≡ some d → (b : Bool) → idle (q .task) (arcAt t n) ≡ b → CostOf p c
             → List·Memᴰ (arcAt t n) (t .arcs) × (arcAt t n .source ≡ final (machine t q) p) → CostOf (more p n) d
-        go c f true i C L =
+        go c a z f true i C L =
             record {
               from = C .from;
               initially = C .initially;
               cost = C .cost;
               walk = freely (C .walk) (record { arc = arcAt t n; listed = L .0; from = L .1; to = refl; passes = i });
-              within-read = omega (arith, C .within-read, arc-law (arcAt t n) c d f upperSide .grows, arc-law (arcAt t n) c d f lowerSide .grows);
+              within-read = omega (arith, C .within-read, arc-law a c d f upperSide .grows, arc-law a c d f lowerSide .grows);
             }
-        go c f false i C L =
+        go c a z f false i C L =
             record {
               from = C .from;
               initially = C .initially;
               cost = suc (C .cost);
               walk = paying (C .walk) (record { arc = arcAt t n; listed = L .0; from = L .1; to = refl; passes = refl });
-              within-read = omega (arith, C .within-read, reads-more (arcAt t n) c d f i);
+              within-read = omega (arith, C .within-read, reads-more a c d f (narrow-idle (t .classes) (arcAt t n) (nextOf q c) a z (q .task) i));
             }
 
     pub bounded : Bounded (machine t q)

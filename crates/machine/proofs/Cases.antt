@@ -8,8 +8,10 @@ use lib.Dec.{T}
 use Rattle.hex.specs.Hex.{valueOf, joined, decoded}
 use Rattle.table_format.specs.Line.{linesOf, malformed, bytesOf}
 use Rattle.table_format.specs.Parse.{accepted, itemFaults, bytesFaults, lineFaults, onward, parseFrom, parsed}
-use Rattle.table_format.specs.Rules.{each, countsHold, headerFaults, initialFaults, terminalFaults, arcFaults, keepsRules}
-use Rattle.table_format.specs.Loaded.{arcsCells, cellsOf, arcsIn, tableIn, loaded}
+use Rattle.table_format.specs.Classes.{noClasses}
+use Rattle.table_format.specs.Text.{classLines}
+use Rattle.table_format.specs.Rules.{each, countsHold, headerFaults, initialFaults, terminalFaults, arcClassHolds, arcFaults, rowHolds, classesKeep, keepsRules}
+use Rattle.table_format.specs.Loaded.{arcsCells, rowsCells, cellsOf, arcsIn, rowsIn, tableIn, loaded}
 use Rattle.graph.specs.Shown.{shownCycle}
 use Rattle.machine.specs.declared.StartAnswer.the-variants.{Ready}
 use Rattle.machine.specs.Frames.{placeHolds}
@@ -24,12 +26,12 @@ use Rattle.machine.specs.Cases.{AsksAmple, rows, rowsHold, tableK, textK
 use Rattle.machine.proofs.Handed.{handed-there}
 
 pub cases-hold : T (rowsHold rows)
-unfolding rows started outcome asked loaded tableIn arcsIn cellsOf arcsCells keepsRules headerFaults countsHold initialFaults terminalFaults arcFaults each hasIdleCycle shownCycle call placeHolds advance step move
+unfolding rows started outcome asked loaded tableIn arcsIn rowsIn cellsOf arcsCells rowsCells noClasses keepsRules headerFaults countsHold classesKeep rowHolds initialFaults terminalFaults arcFaults arcClassHolds each hasIdleCycle shownCycle call placeHolds advance step move
 cases-hold = tt
 
 -- Table K's text, and the table of the rows.
 pub text-k : parsed textK ≡ accepted (tableK [])
-unfolding parsed parseFrom onward lineFaults bytesFaults itemFaults linesOf malformed bytesOf decoded joined valueOf headerFaults countsHold initialFaults terminalFaults arcFaults each
+unfolding noClasses classLines arcClassHolds parsed parseFrom onward lineFaults bytesFaults itemFaults linesOf malformed bytesOf decoded joined valueOf headerFaults countsHold initialFaults terminalFaults arcFaults each
 text-k = refl
 
 -- The first row's start and calls, to the end: demand 3's premises hold of them together.
@@ -41,14 +43,14 @@ abbrev pub lentK : List Lent
 lentK = lentAll cellsK (1 ∷ 2 ∷ []) [] (firstRun 2) [] (big ∷ big ∷ big ∷ [])
 
 pub ready-k : started cellsK 2 (1 ∷ 2 ∷ []) [] .answer ≡ Ready
-unfolding started asked loaded tableIn arcsIn cellsOf arcsCells keepsRules headerFaults countsHold initialFaults terminalFaults arcFaults each hasIdleCycle
+unfolding started asked loaded tableIn arcsIn rowsIn cellsOf arcsCells rowsCells noClasses keepsRules headerFaults countsHold classesKeep rowHolds initialFaults terminalFaults arcFaults arcClassHolds each hasIdleCycle
 ready-k = refl
 
 pub handed-k : Handed (1 ∷ 2 ∷ []) [] cellsK (firstRun 2) [] lentK
 handed-k = handed-there cellsK (1 ∷ 2 ∷ []) [] (big ∷ big ∷ big ∷ []) (firstRun 2) [] refl
 
 pub ends-k : LastEnds (1 ∷ 2 ∷ []) [] (firstRun 2) lentK
-unfolding outcome asked loaded tableIn arcsIn cellsOf arcsCells keepsRules headerFaults countsHold initialFaults terminalFaults arcFaults each call placeHolds advance step move
+unfolding outcome asked loaded tableIn arcsIn rowsIn cellsOf arcsCells rowsCells noClasses keepsRules headerFaults countsHold classesKeep rowHolds initialFaults terminalFaults arcFaults arcClassHolds each call placeHolds advance step move
 ends-k = refl
 
 -- Calls that are just enough for it.
@@ -61,9 +63,9 @@ abbrev pub storyK : List Lent
 storyK = lentAll cellsK (1 ∷ 2 ∷ []) [] (firstRun 2) [] (ask 0 9 8 ∷ ask 1000 3 8 ∷ ask 1000 3 8 ∷ ask 1000 2 8 ∷ ask 1000 9 8 ∷ ask 1000 9 8 ∷ ask 1 9 8 ∷ [])
 
 pub unended-k : unended (1 ∷ 2 ∷ []) [] (firstRun 2) storyK ≡ 5
-unfolding outcome asked loaded tableIn arcsIn cellsOf arcsCells keepsRules headerFaults countsHold initialFaults terminalFaults arcFaults each call placeHolds advance step move
+unfolding outcome asked loaded tableIn arcsIn rowsIn cellsOf arcsCells rowsCells noClasses keepsRules headerFaults countsHold classesKeep rowHolds initialFaults terminalFaults arcFaults arcClassHolds each call placeHolds advance step move
 unended-k = refl
 
 pub story-ends-k : LastEnds (1 ∷ 2 ∷ []) [] (firstRun 2) storyK
-unfolding outcome asked loaded tableIn arcsIn cellsOf arcsCells keepsRules headerFaults countsHold initialFaults terminalFaults arcFaults each call placeHolds advance step move
+unfolding outcome asked loaded tableIn arcsIn rowsIn cellsOf arcsCells rowsCells noClasses keepsRules headerFaults countsHold classesKeep rowHolds initialFaults terminalFaults arcFaults arcClassHolds each call placeHolds advance step move
 story-ends-k = refl

@@ -1,17 +1,19 @@
 -- Report 6486's machine is locally finite, since its relations are partial functions (remark 2.1 of the report).
 use Prim.Native.Nat.{ℕ, zero, suc, _+_, _≤_}
 use native.Mathlib.Omega.{arith}
-use mathlib.Core.Path.{_≡_, refl, sym, ap, ap₂}
+use mathlib.Core.Path.{_≡_, refl, sym, ap, ap₂, subst}
 use mathlib.Core.Logic.{_↔_, ⊎-elim}
 use mathlib.Core.Bool.{Bool, true, false}
 use mathlib.Core.Option.{Option, none, some}
-use mathlib.Core.List.{List, [], _∷_, _++_, List·Memᴰ, List·Memᴰ·head, List·Memᴰ·not-nil, List·Memᴰ·cases-cons}
+use mathlib.Core.List.{List, [], _∷_, _++_, List·Memᴰ, List·Memᴰ·head, List·Memᴰ·tail, List·Memᴰ·not-nil, List·Memᴰ·cases-cons}
 use lib.ListN.{length, replicate, length-replicate}
 use lib.Dec.{eqb}
 use borrow.Author.Tests.{eqb-true, eqb-false}
 use Rattle.table_format.specs.Table.{Arc}
+use Rattle.table_format.specs.Classes.{isPlain, rowOf, withLetter}
 use Rattle.machine.specs.Query.{Task, recognition, synthesis, analysis}
-use Rattle.machine.specs.Report.{Rel, identity, _⊗_, LocallyFinite, Word, L⁻¹, readLetter, writeLetter, α}
+use Rattle.machine.specs.Report.{Rel, identity, _⊗_, LocallyFinite, Word, L⁻¹, readLetter, writeLetter, α, αIf, αOf}
+use Rattle.machine.proofs.Members.{mem-left, mem-right, mem-either}
 
 -- PARTIAL FUNCTIONS: a datum is related to what stands in an option, and to nothing else.
 
@@ -75,6 +77,37 @@ pub label-finite : (k : Task) (a : Arc) → LocallyFinite (α k a)
 label-finite recognition a = function-finite (α recognition a) (product-function (readLetter (a .upper)) (readLetter (a .lower)) (reading-function (a .upper)) (reading-function (a .lower)))
 label-finite synthesis a = function-finite (α synthesis a) (product-function (readLetter (a .upper)) (writeLetter (a .lower)) (reading-function (a .upper)) (writing-function (a .lower)))
 label-finite analysis a = function-finite (α analysis a) (product-function (writeLetter (a .upper)) (readLetter (a .lower)) (writing-function (a .upper)) (reading-function (a .lower)))
+
+-- the union of finite relations over the letters of a row
+union-finite : {A B : Type 0} (ρ : ℕ → Rel A B) → ((x : ℕ) → LocallyFinite (ρ x)) → (row : List ℕ) → LocallyFinite {A = A} {B = B} (λ d e. (x : ℕ) × List·Memᴰ (suc x) row × ρ x d e)
+union-finite ρ F [] d = ([], λ e. (λ r. absurd (List·Memᴰ·not-nil (r .1)), λ m. absurd (List·Memᴰ·not-nil m)))
+union-finite ρ F (zero ∷ row) d =
+    let U = union-finite ρ F row d in (
+      U .0,
+      λ e. (
+        λ r. U .1 e .0 (r .0, ⊎-elim (λ w. absurd (omega arith)) (λ w. w) (List·Memᴰ·cases-cons (r .1)), r .2),
+        λ m. let r = U .1 e .1 m in (r .0, List·Memᴰ·tail (r .1), r .2),
+      ),
+    )
+union-finite ρ F (suc y ∷ row) d =
+    let U = union-finite ρ F row d in
+    let G = F y d in (
+      G .0 ++ U .0,
+      λ e. (
+        λ r. ⊎-elim
+            (λ w. mem-left e (G .0) (U .0) (G .1 e .0 (subst (λ (x : ℕ). ρ x d e) (let z : r .0 ≡ y = omega (arith, w) in z) (r .2))))
+            (λ w. mem-right e (G .0) (U .0) (U .1 e .0 (r .0, w, r .2))) (List·Memᴰ·cases-cons (r .1)),
+        λ m. ⊎-elim (λ w. (y, List·Memᴰ·head refl, G .1 e .1 w)) (λ w. let r = U .1 e .1 w in (r .0, List·Memᴰ·tail (r .1), r .2)) (mem-either e (G .0) (U .0) m),
+      ),
+    )
+
+-- the relation of an arc, plain or of a class
+pub relation-finite : (rows : List (List ℕ)) (k : Task) (a : Arc) → LocallyFinite (αOf rows k a)
+relation-finite rows k a = go (isPlain a)
+  where
+    go : (c : Bool) → LocallyFinite (αIf c (rowOf rows (a .upper)) k a)
+    go true = label-finite k a
+    go false = union-finite (λ x. α k (withLetter a (suc x))) (λ x. label-finite k (withLetter a (suc x))) (rowOf rows (a .upper))
 
 -- NOT LOCALLY FINITE is the relation of all words with all: a word is longer than all of a list.
 

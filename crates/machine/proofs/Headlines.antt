@@ -1,5 +1,5 @@
 -- The theorems that carry the mission, stated together. What each one means is in specs/; how it is shown is in the files that it names.
-use Prim.Native.Nat.{ℕ, _+_, _*_, _<_, _≤_}
+use Prim.Native.Nat.{ℕ, suc, _+_, _*_, _<_, _≤_}
 use native.Mathlib.Nat.{zero-add}
 use native.Mathlib.Omega.{arith}
 use mathlib.Core.Path.{_≡_, refl, sym, ap, subst, _∙_}
@@ -10,6 +10,7 @@ use mathlib.Core.List.{List, [], _∷_, List·Memᴰ}
 use lib.ListN.{length, take, drop, replicate}
 use lib.Dec.{T}
 use Rattle.table_format.specs.Table.{Arc, Table}
+use Rattle.table_format.specs.Classes.{isPlain, rowOf, withLetter}
 use Rattle.table_format.specs.Rules.{keepsRules}
 use Rattle.table_format.specs.Loaded.{loaded}
 use Rattle.table_format.specs.Parse.{accepted, parsed}
@@ -29,15 +30,17 @@ use Rattle.machine.specs.Frames.{Frame, Store, Held}
 use Rattle.machine.specs.Call.{Replied, Steps, Stops}
 use Rattle.machine.specs.Order.{accepting, outputs, ListsAllowed, Lists, Narrows}
 use Rattle.machine.specs.Denotation.{initialsTell}
-use Rattle.machine.specs.Transducer.{arcAt, Passed, lettersToRead, writtenBy, machine}
-use Rattle.machine.specs.Idle.{StateReached, IdleWalk, NoIdleCycle, CycleStates, hasIdleCycle, ShownIdle, shownIdle}
+use Rattle.machine.specs.Transducer.{arcAt, Passed, followArc, writesArc, lettersToRead, writtenBy, machine}
+use Rattle.machine.specs.Classes.{Fits, oneMore, letterWritten}
+use Rattle.machine.specs.Idle.{idle, StateReached, IdleWalk, NoIdleCycle, CycleStates, hasIdleCycle, ShownIdle, shownIdle}
 use Rattle.machine.specs.Stack.{mostFrames, framesIn}
 use Rattle.refusal.specs.Told.{foundKind, refusedKind}
 use Rattle.machine.specs.Asked.{Asked, runs, asked}
 use Rattle.machine.specs.Start.{firstRun, started, startToldBy, StartedIs}
 use Rattle.machine.specs.Reading.{Outcome, toldBy, outcome, CallBy, RefusedLeaves}
 use Rattle.machine.specs.Demand.{Lent, CallTells, Ample, AmpleCalls, other, Handed, received, stepsTold, unended, LastEnds, Demand3}
-use Rattle.machine.specs.Report.{LocallyFinite, _∘_, Word, α, upperAlone, lowerAlone, Output, Cell, arcsOf, kernel, Noetherian, Finite, Solves}
+use Rattle.machine.specs.Report.{LocallyFinite, _∘_, Word, α, upperAlone, lowerAlone, αOf, Input, Output, Cell, arcsOf, kernel, Noetherian, Finite, Solves}
+use Rattle.machine.specs.Expand.{expanded}
 use Rattle.machine.specs.Agree.{inputOf, outputOf, TraceFor, Same}
 use Rattle.machine.specs.Cases.{Ask, lentAll, AsksAmple, tableK, textK, ask, rows, rowsHold}
 use Rattle.machine.proofs.Tour as tours
@@ -46,6 +49,7 @@ use Rattle.machine.proofs.Narrow as narrow
 use Rattle.machine.proofs.Denotation as denotation
 use Rattle.machine.proofs.Transducer as transducer
 use Rattle.machine.proofs.Idle as idles
+use Rattle.machine.proofs.Classes as classes
 use Rattle.machine.proofs.Bound as bounds
 use Rattle.machine.proofs.Asked as asks
 use Rattle.machine.proofs.Start as starts
@@ -57,6 +61,7 @@ use Rattle.machine.proofs.Handed as handed
 use Rattle.machine.proofs.Full as full
 use Rattle.machine.proofs.Traces as traces
 use Rattle.machine.proofs.Agree as agree
+use Rattle.machine.proofs.Expand as expand
 use Rattle.machine.proofs.Noether as noether
 use Rattle.machine.proofs.Finite as finite
 use Rattle.machine.proofs.Cases as cases
@@ -114,6 +119,51 @@ all-infinite = finite.all-infinite
 pub all-not-finite : (t : Table) (a : Arc) → List·Memᴰ a (t .arcs) → Finite (record { Data = Word; table = t; relation = λ b v w. Unit {0} }) → ⊥
 all-not-finite t a m F = finite.all-infinite (F .locally-finite a m)
 
+-- LETTER CLASSES (document 02, slip 6). An arc without a class does what its letters say; for one with a class, for any table and task:
+
+module _ (t : Table) (q : Query) (n : ℕ) (d : Passed) where
+  pub plain-arc : isPlain (arcAt t n) ≡ true → (machine t q .follow n d ≡ followArc q (arcAt t n) d) × (machine t q .writes n d ≡ writesArc q (arcAt t n))
+  plain-arc p = (classes.plain-follows t q (arcAt t n) d p, classes.plain-writes t q (arcAt t n) d p)
+
+  module _ (class : isPlain (arcAt t n) ≡ false) where
+    -- "It fits if the next letter is in the class; in recognition both words must have that same letter next": it fits exactly where one letter of
+    -- its row is the next of every word that the task reads.
+    pub class-fits : ((e : Passed) × (machine t q .follow n d ≡ some e)) ↔ ((x : ℕ) × Fits (rowOf (t .classes) (arcAt t n .upper)) q d x)
+    class-fits = classes.class-fits t q (arcAt t n) d class
+
+    -- "Letters 64 to 71 on an arc shall mean one letter": one letter more is passed on both sides.
+    pub class-passes : (e : Passed) → machine t q .follow n d ≡ some e → oneMore d ≡ e
+    class-passes = classes.class-passes t q (arcAt t n) d class
+
+    -- "in synthesis or analysis the letter read is written", and in recognition nothing.
+    pub class-writes : (x : ℕ) → Fits (rowOf (t .classes) (arcAt t n .upper)) q d x → machine t q .writes n d ≡ letterWritten (q .task) x
+    class-writes = classes.class-writes t q (arcAt t n) d class
+
+-- Report 6486's relation of a class is the union of those of its letters: it is related by the plain arc of some letter of its row. DEMAND 2 below
+-- holds for these relations.
+pub class-union : (rows : List (List ℕ)) (k : Task) (a : Arc) → isPlain a ≡ false → (d e : Word × Word)
+    → αOf rows k a d e ↔ ((x : ℕ) × List·Memᴰ (suc x) (rowOf rows (a .upper)) × α k (withLetter a (suc x)) d e)
+class-union rows k a class d e = traces.relation-class rows k a d e class
+
+pub plain-relation : (rows : List (List ℕ)) (k : Task) (a : Arc) → isPlain a ≡ true → (d e : Word × Word) → αOf rows k a d e ↔ α k a d e
+plain-relation rows k a plain d e = traces.relation-plain rows k a d e plain
+
+module _ (t : Table) (rules : keepsRules t ≡ true) where
+  -- "A class arc is never idle."
+  pub class-not-idle : (k : Task) (a : Arc) → List·Memᴰ a (t .arcs) → isPlain a ≡ false → idle k a ≡ false
+  class-not-idle k a m = classes.class-not-idle t (ruled t rules) a m k
+
+  -- No class stands in a reading: its letters are 1 to 63.
+  pub reading-letters : (q : Query) (p : Path) (x : ℕ) → List·Memᴰ x (output (machine t q) p) → (1 ≤ x) × (x ≤ 63)
+  reading-letters = classes.reading-letters t (ruled t rules)
+
+  -- "Tables repeat an arc for each vowel": the table with a plain arc for each letter of a class, and none of a class, solves the same.
+  pub expands : (k : Task) (x : Input k) (y : Output k) → Solves t k x y ↔ Solves (expanded t) k x y
+  expands = expand.expands t (ruled t rules)
+
+  pub expanded-plain : (a : Arc) → List·Memᴰ a (expanded t .arcs) → isPlain a ≡ true
+  expanded-plain = expand.expanded-plain t (ruled t rules)
+
 -- IDLE CYCLES, for any table that keeps the rules and any task.
 
 module _ (t : Table) (rules : keepsRules t ≡ true) (k : Task) where
@@ -133,7 +183,7 @@ module _ (t : Table) (rules : keepsRules t ≡ true) (k : Task) where
   -- "Readings of a word from a finite Eilenberg machine": a finite machine is locally finite and noetherian, and here it is that exactly where no
   -- idle cycle is reached. (Report 6486's definition 1.1 asks more: no endless trace from any cell.)
   pub finite-is : NoIdleCycle t k ↔ Finite (kernel t k)
-  finite-is = (λ none. record { locally-finite = λ a m. finite.label-finite k a; noetherian = noetherian-is .0 none }, λ F. noetherian-is .1 (F .noetherian))
+  finite-is = (λ none. record { locally-finite = λ a m. finite.relation-finite (t .classes) k a; noetherian = noetherian-is .0 none }, λ F. noetherian-is .1 (F .noetherian))
 
 -- THE BOUND: a path that the words allow has fewer than (letters to read + 1) × states arcs.
 

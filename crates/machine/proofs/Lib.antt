@@ -12,6 +12,8 @@ pub mod Transducer
 pub mod Range
 pub mod Stack
 pub mod Idle
+pub mod Members
+pub mod Classes
 pub mod Bound
 pub mod Told
 pub mod Asked
@@ -24,6 +26,7 @@ pub mod Full
 pub mod Traces
 pub mod Denotation
 pub mod Agree
+pub mod Expand
 pub mod Noether
 pub mod Finite
 pub mod Cases

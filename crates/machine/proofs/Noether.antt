@@ -16,10 +16,11 @@ use Rattle.machine.specs.Query.{Task, Side, upperSide, lowerSide, reads,
 use Rattle.machine.specs.Machine.{Path, start, more, size}
 use Rattle.machine.specs.Transducer.{sideWrites, nothingPassed, machine}
 use Rattle.machine.specs.Idle.{sideIdle, idle, AnyArc, StateReached, IdleArc, IdleWalk, NoIdleCycle}
-use Rattle.machine.specs.Report.{Word, Cell, Edge, InitialCell, Noetherian, kernel}
+use Rattle.machine.specs.Report.{Word, Cell, Edge, InitialCell, Noetherian, αOf, kernel}
 use Rattle.machine.specs.Agree.{arcsBack}
+use Rattle.machine.proofs.Classes.{PlainOf, some-plain, idle-plain}
 use Rattle.machine.proofs.Bound.{bounded}
-use Rattle.machine.proofs.Traces.{sideData, sideRel, on, from-sides, PathOf, extend}
+use Rattle.machine.proofs.Traces.{sideData, sideRel, on, from-sides, relation-plain, relation-from, PathOf, extend}
 
 size-is : (t : Table) (p : Path) → size p ≡ length (arcsBack t p)
 size-is t (start i) = refl
@@ -33,7 +34,7 @@ module _ (t : Table) (k : Task) (U : Ruled t) where
   -- An endless trace would be a path of any length, in the table that starts where the trace does.
   module _ (c : ℕ → Cell (kernel t k)) (E : (n : ℕ) → Edge (kernel t k) (c n) (c (suc n))) where
     abbrev t′ : Table
-    t′ = record { states = t .states; initials = c 0 .1 ∷ []; terminals = t .terminals; arcs = t .arcs }
+    t′ = record { states = t .states; classes = t .classes; initials = c 0 .1 ∷ []; terminals = t .terminals; arcs = t .arcs }
 
     abbrev q′ : Query
     q′ = record { task = k; upperWord = c 0 .0 .0; lowerWord = c 0 .0 .1 }
@@ -58,6 +59,10 @@ module _ (t : Table) (k : Task) (U : Ruled t) where
           upper-in = U .upper-in;
           lower-in = U .lower-in;
           rising = U .rising;
+          eight-rows = U .eight-rows;
+          row-in = U .row-in;
+          class-alike = U .class-alike;
+          class-defined = U .class-defined;
           arcs-differ = U .arcs-differ;
           initials-differ = λ d i j h m e. omega arith;
         }
@@ -124,10 +129,16 @@ module _ (t : Table) (k : Task) (U : Ruled t) where
     dataAt zero = u
     dataAt (suc n) = movedBy (arcAfter n .arc) (dataAt n)
 
+    related : (n : ℕ) → αOf (t .classes) k (arcAfter n .arc) (dataAt n) (dataAt (suc n))
+    related n =
+        let A = arcAfter n in
+        relation-plain (t .classes) k (A .arc) (dataAt n) (dataAt (suc n)) (idle-plain t U (A .arc) (A .listed) k (A .passes)) .1
+        (from-sides k (A .arc) (dataAt n) (dataAt (suc n)) (idle-related (A .arc) (dataAt n) (A .passes)))
+
     endless : (n : ℕ) → Edge (kernel t k) (dataAt n, turn n .0) (dataAt (suc n), turn (suc n) .0)
     endless n =
         let A = arcAfter n in
-        record { arc = A .arc; listed = A .listed; from = A .from; to = A .to; related = from-sides k (A .arc) (dataAt n) (dataAt (suc n)) (idle-related (A .arc) (dataAt n) (A .passes)) }
+        record { arc = A .arc; listed = A .listed; from = A .from; to = A .to; related = related n }
 
   -- An endless trace from a state: on a written side the word at its beginning is given, on a read side it is free.
   abbrev Given : Bool → Word → Word → Type 0
@@ -140,7 +151,7 @@ module _ (t : Table) (k : Task) (U : Ruled t) where
     at : cells 0 .1 ≡ s
     given : (x : Side) → Given (reads k x) (on x (cells 0 .0)) (on x u)
 
-  -- An arc to that state, put before it: its letter is read first, or was written last.
+  -- An arc to that state, put before it: its letter, for a class some letter of it, is read first, or was written last.
   abbrev sideBefore : Bool → ℕ → Word → Word → Word
   sideBefore true zero u w = w
   sideBefore true (suc x) u w = suc x ∷ w
@@ -163,27 +174,40 @@ module _ (t : Table) (k : Task) (U : Ruled t) where
   abbrev writtenAfter : Arc → Word × Word → Word × Word
   writtenAfter a u = (u .0 ++ sideWrites false (a .upper), u .1 ++ sideWrites false (a .lower))
 
-  put-before : (s r : ℕ) (g : AnyArc (t .arcs) s r) (u : Word × Word) → EndlessFrom r (writtenAfter (g .arc) u) → EndlessFrom s u
+  abbrev plainFor : {s r : ℕ} (g : AnyArc (t .arcs) s r) → (x : ℕ) × (b : Arc) × PlainOf (t .classes) (g .arc) x b
+  plainFor g = some-plain t U (g .arc) (g .listed)
+
+  put-before : (s r : ℕ) (g : AnyArc (t .arcs) s r) (u : Word × Word) → EndlessFrom r (writtenAfter (plainFor g .1) u) → EndlessFrom s u
   put-before s r g u W = record { cells = cells′; edges-of = edge; at = refl; given = given′ }
     where
+      b : Arc
+      b = plainFor g .1
+
       d : Word × Word
-      d = (sideBefore (reads k upperSide) (g .arc .upper) (u .0) (W .cells 0 .0 .0), sideBefore (reads k lowerSide) (g .arc .lower) (u .1) (W .cells 0 .0 .1))
+      d = (sideBefore (reads k upperSide) (b .upper) (u .0) (W .cells 0 .0 .0), sideBefore (reads k lowerSide) (b .lower) (u .1) (W .cells 0 .0 .1))
 
       cells′ : ℕ → Cell (kernel t k)
       cells′ zero = (d, s)
       cells′ (suc n) = W .cells n
 
-      related : (x : Side) → sideRel (reads k x) (letter x (g .arc)) (on x d) (on x (W .cells 0 .0))
-      related upperSide = before-related (reads k upperSide) (g .arc .upper) (u .0) (W .cells 0 .0 .0) (W .given upperSide)
-      related lowerSide = before-related (reads k lowerSide) (g .arc .lower) (u .1) (W .cells 0 .0 .1) (W .given lowerSide)
+      sides : (x : Side) → sideRel (reads k x) (letter x b) (on x d) (on x (W .cells 0 .0))
+      sides upperSide = before-related (reads k upperSide) (b .upper) (u .0) (W .cells 0 .0 .0) (W .given upperSide)
+      sides lowerSide = before-related (reads k lowerSide) (b .lower) (u .1) (W .cells 0 .0 .1) (W .given lowerSide)
 
       edge : (n : ℕ) → Edge (kernel t k) (cells′ n) (cells′ (suc n))
-      edge zero = record { arc = g .arc; listed = g .listed; from = g .from; to = g .to ∙ sym (W .at); related = from-sides k (g .arc) d (W .cells 0 .0) related }
+      edge zero =
+          record {
+            arc = g .arc;
+            listed = g .listed;
+            from = g .from;
+            to = g .to ∙ sym (W .at);
+            related = relation-from (t .classes) k (g .arc) d (W .cells 0 .0) (plainFor g .0) b (plainFor g .2) (from-sides k b d (W .cells 0 .0) sides);
+          }
       edge (suc n) = W .edges-of n
 
       given′ : (x : Side) → Given (reads k x) (on x d) (on x u)
-      given′ upperSide = before-given (reads k upperSide) (g .arc .upper) (u .0) (W .cells 0 .0 .0)
-      given′ lowerSide = before-given (reads k lowerSide) (g .arc .lower) (u .1) (W .cells 0 .0 .1)
+      given′ upperSide = before-given (reads k upperSide) (b .upper) (u .0) (W .cells 0 .0 .0)
+      given′ lowerSide = before-given (reads k lowerSide) (b .lower) (u .1) (W .cells 0 .0 .1)
 
   around : (s : ℕ) → IdleWalk t k s s → (u : Word × Word) → EndlessFrom s u
   around s w u = record { cells = λ n. (dataAt s w u n, turn s w u n .0); edges-of = endless s w u; at = refl; given = λ x. given-same (reads k x) (on x u) }
@@ -191,7 +215,7 @@ module _ (t : Table) (k : Task) (U : Ruled t) where
   -- so one from a reached state becomes one from an initial cell
   ends : Noetherian (kernel t k) → {s : ℕ} → StateReached t s → ((u : Word × Word) → EndlessFrom s u) → ⊥
   ends N (initial m) W = let X = W ([], []) in N (X .cells) (rw (X .at) m) (X .edges-of)
-  ends N (byEdge {s} {r} R g) W = ends N R (λ u. put-before s r g u (W (writtenAfter (g .arc) u)))
+  ends N (byEdge {s} {r} R g) W = ends N R (λ u. put-before s r g u (W (writtenAfter (plainFor g .1) u)))
 
   pub noetherian : NoIdleCycle t k → Noetherian (kernel t k)
   noetherian N c I E = never c E I N

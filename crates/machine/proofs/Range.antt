@@ -1,8 +1,9 @@
 -- The numbers in the frames of a place in a search are within the table's, and the counts within the depth.
-use Prim.Native.Nat.{ℕ, suc, _≤_, _<_}
+use Prim.Native.Nat.{ℕ, suc, pred, _≤_, _<_}
 use native.Mathlib.Omega.{arith}
-use mathlib.Core.Path.{_≡_, refl, sym, subst}
+use mathlib.Core.Path.{_≡_, refl, sym, subst, _∙_}
 use mathlib.Core.Bool.{Bool, true, false, cond}
+use mathlib.Core.Option.{some}
 use mathlib.Core.List.{List, [], _∷_}
 use lib.ListN.{length}
 use lib.Dec.{ltb}
@@ -13,10 +14,10 @@ use Rattle.table_format.proofs.Ruled.{Ruled}
 use Rattle.machine.specs.Query.{Side, Query}
 use Rattle.machine.specs.Machine.{Path, start, more, final, Allowed}
 use Rattle.machine.specs.Frames.{Frame, walkTo}
-use Rattle.machine.specs.Transducer.{Passed, passed, machine}
+use Rattle.machine.specs.Transducer.{arcAt, Passed, passed, plainAt, machine}
 use Rattle.machine.proofs.Frames.{walk-size}
 use Rattle.machine.specs.Place.{Placed}
-use Rattle.machine.proofs.Transducer.{arc-of, at-mem, passed-size}
+use Rattle.machine.proofs.Transducer.{arc-of, at-mem, step-parts, passed-size}
 
 pub below-length : (s : ℕ) (l : List Arc) → below s l ≤ length l
 below-length s [] = omega arith
@@ -54,3 +55,11 @@ module _ (t : Table) (q : Query) (U : Ruled t) where
         next-in = omega (arith, P .high, below-rises (f .state) (t .arcs), below-length (suc (f .state)) (t .arcs));
         passed-in = λ s. subst (λ (k : ℕ). passed (f .datum) s ≤ k) (walk-size (machine t q) n fs) (passed-size t q (walkTo n fs) (f .datum) (P .datum-is) s);
       }
+
+  -- the arc just tried below a frame is a plain one there
+  pub tried-plain : (n : ℕ) (f g : Frame Passed) (fs : List (Frame Passed)) → Placed (machine t q) n (f ∷ (g ∷ fs)) → (b : Arc) × (plainAt t q (arcAt t (pred (g .next))) (g .datum) ≡ some b)
+  tried-plain n f g fs P =
+      let S = step-parts t q (walkTo n fs) (pred (g .next)) (f .datum) (P .datum-is) in
+      let h : some (S .0) ≡ some (g .datum) = sym (S .2) ∙ P .below .datum-is in
+      let e : S .0 ≡ g .datum = cc in
+      (S .1, subst (λ (d : Passed). plainAt t q (arcAt t (pred (g .next))) d ≡ some (S .1)) e (S .3))

@@ -17,7 +17,7 @@ pub use Rattle.table_format.proofs.All.{at-mem, mem-at}
 use Rattle.table_format.proofs.Ruled.{AtLeast}
 use Rattle.machine.specs.Query.{Side, upperSide, lowerSide, reads, letter, word, Query}
 use Rattle.machine.specs.Machine.{Path, start, more, size, bind, listed, datum, output, ArcOf}
-use Rattle.machine.specs.Transducer.{arcAt, somewhen, sideFollow, sideWrites, sideWritten, Passed, passed, nothingPassed, both, followOn, followArc, writesOn, writtenOn, writtenBy, machine}
+use Rattle.machine.specs.Transducer.{arcAt, somewhen, sideFollow, sideWrites, sideWritten, Passed, passed, nothingPassed, both, followOn, followArc, writesOn, writesArc, plainAt, followAt, writtenOn, writtenBy, machine}
 
 at-least : (m : ℕ) (l : List Arc) (i : ℕ) → AtLeast m l → i < length l → m ≤ getD l i noArc .source
 at-least m [] i A h = absurd (not-suc-le-zero h)
@@ -119,16 +119,25 @@ written-on : (q : Query) (a : Arc) (d e : Passed) → followArc q a d ≡ some e
 written-on q a d e h s = side-written (reads (q .task) s) (word s q) (letter s a) (passed d s) (passed e s) (follow-parts q a d e h s)
 
 module _ (t : Table) (q : Query) where
+  -- the datum before a step, the plain arc that its arc is there, and the step
+  pub step-parts : (p : Path) (n : ℕ) (e : Passed) → datum (machine t q) (more p n) ≡ some e
+      → (d : Passed) × (b : Arc) × (datum (machine t q) p ≡ some d) × (plainAt t q (arcAt t n) d ≡ some b) × (followArc q b d ≡ some e)
+  step-parts p n e h =
+      let P = bind-parts (datum (machine t q) p) (λ x. followAt t q (arcAt t n) x) e h in
+      let N = bind-parts (plainAt t q (arcAt t n) (P .0)) (λ b. followArc q b (P .0)) e (P .2) in
+      (P .0, N .0, P .1, N .1, N .2)
+
   pub written-length : (p : Path) (d : Passed) → datum (machine t q) p ≡ some d → length (output (machine t q) p) ≡ writtenBy q d
   written-length (start i) d e =
       let k : _≡_ {A = Passed} nothingPassed d = cc in
       subst (λ (x : Passed). 0 ≡ writtenBy q x) k (omega (arith, none-written q upperSide, none-written q lowerSide))
   written-length (more p n) d e =
-      let P = bind-parts (datum (machine t q) p) (λ x. followArc q (arcAt t n) x) d e in
-      let a : Arc = arcAt t n in
+      let P = step-parts p n d e in
+      let a : Arc = P .1 in
       length-append (output (machine t q) p) (listed (datum (machine t q) p) (machine t q .writes n))
-      ∙ ap (λ (o : Option Passed). length (output (machine t q) p) + length (listed o (machine t q .writes n))) (P .1)
-      ∙ omega (arith, written-length p (P .0) (P .1), written-on q a (P .0) d (P .2) upperSide, written-on q a (P .0) d (P .2) lowerSide, length-append (writesOn q upperSide a) (writesOn q lowerSide a))
+      ∙ ap (λ (o : Option Passed). length (output (machine t q) p) + length (listed o (machine t q .writes n))) (P .2)
+      ∙ ap (λ (o : Option Arc). length (output (machine t q) p) + length (listed o (writesArc q))) (P .3)
+      ∙ omega (arith, written-length p (P .0) (P .2), written-on q a (P .0) d (P .4) upperSide, written-on q a (P .0) d (P .4) lowerSide, length-append (writesOn q upperSide a) (writesOn q lowerSide a))
 
   pub passed-size : (p : Path) (d : Passed) → datum (machine t q) p ≡ some d → (s : Side) → passed d s ≤ size p
   passed-size (start i) d e s = let k : _≡_ {A = Passed} nothingPassed d = cc in subst (λ (x : Passed). passed x s ≤ 0) k (go s)
@@ -137,7 +146,7 @@ module _ (t : Table) (q : Query) where
       go upperSide = omega arith
       go lowerSide = omega arith
   passed-size (more p n) d e s =
-      let P = bind-parts (datum (machine t q) p) (λ x. followArc q (arcAt t n) x) d e in
-      let h : passed (P .0) s ≤ size p = passed-size p (P .0) (P .1) s in
-      let k : passed d s ≤ suc (passed (P .0) s) = side-passed (reads (q .task) s) (word s q) (letter s (arcAt t n)) (passed (P .0) s) (passed d s) (follow-parts q (arcAt t n) (P .0) d (P .2) s) in
+      let P = step-parts p n d e in
+      let h : passed (P .0) s ≤ size p = passed-size p (P .0) (P .2) s in
+      let k : passed d s ≤ suc (passed (P .0) s) = side-passed (reads (q .task) s) (word s q) (letter s (P .1)) (passed (P .0) s) (passed d s) (follow-parts q (P .1) (P .0) d (P .4) s) in
       omega arith

@@ -8,6 +8,7 @@ use mathlib.Core.List.{List, [], _∷_, _++_}
 use lib.ListN.{replicate, take}
 use lib.Dec.{eqb}
 use Rattle.table_format.specs.Table.{Arc, Table}
+use Rattle.table_format.specs.Classes.{rowWith, noClasses}
 use Rattle.table_format.specs.Loaded.{cellsOf}
 use Rattle.table_format.specs.Cells.{arcAs}
 use Rattle.machine.specs.declared.Run.{Run}
@@ -142,6 +143,7 @@ abbrev pub tableK : List Arc → Table
 tableK more =
     record {
       states = 3;
+      classes = noClasses;
       initials = 0 ∷ [];
       terminals = 1 ∷ 2 ∷ [];
       arcs = more ++ (arcAs 0 1 1 1 ∷ arcAs 0 2 2 2 ∷ arcAs 1 2 2 2 ∷ arcAs 1 0 3 0 ∷ arcAs 2 0 3 0 ∷ []);
@@ -173,7 +175,7 @@ loop u l k c = record { table = tableK (arcAs 0 u l 0 ∷ []); task = k; upper =
 abbrev lone : ℕ → ℕ → ℕ → Course → Row
 lone u l k c =
     record {
-      table = record { states = 1; initials = 0 ∷ []; terminals = []; arcs = arcAs 0 u l 0 ∷ [] };
+      table = record { states = 1; classes = noClasses; initials = 0 ∷ []; terminals = []; arcs = arcAs 0 u l 0 ∷ [] };
       task = k;
       upper = [];
       lower = [];
@@ -185,6 +187,7 @@ abbrev cornerK : List Arc → Table
 cornerK more =
     record {
       states = 6;
+      classes = noClasses;
       initials = 0 ∷ [];
       terminals = 1 ∷ 2 ∷ [];
       arcs = tableK [] .arcs ++ (more ++ (arcAs 3 0 0 4 ∷ arcAs 4 0 0 3 ∷ arcAs 5 0 0 5 ∷ []));
@@ -202,7 +205,7 @@ corner more k u l c = record { table = cornerK more; task = k; upper = u; lower 
 abbrev loops : ℕ → ℕ → List Arc → List ℕ → Row
 loops n s arcs states =
     record {
-      table = record { states = n; initials = s ∷ []; terminals = []; arcs = arcs };
+      table = record { states = n; classes = noClasses; initials = s ∷ []; terminals = []; arcs = arcs };
       task = 2;
       upper = [];
       lower = [];
@@ -213,7 +216,7 @@ loops n s arcs states =
 abbrev pair : ℕ → ℕ → Course → Row
 pair x y c =
     record {
-      table = record { states = 3; initials = 1 ∷ 0 ∷ []; terminals = 2 ∷ []; arcs = arcAs 0 1 x 2 ∷ arcAs 1 1 y 2 ∷ [] };
+      table = record { states = 3; classes = noClasses; initials = 1 ∷ 0 ∷ []; terminals = 2 ∷ []; arcs = arcAs 0 1 x 2 ∷ arcAs 1 1 y 2 ∷ [] };
       task = 2;
       upper = 1 ∷ [];
       lower = [];
@@ -224,16 +227,35 @@ pair x y c =
 abbrev round : Course → Row
 round c =
     record {
-      table = record { states = 2; initials = 0 ∷ []; terminals = 1 ∷ []; arcs = arcAs 0 0 5 1 ∷ arcAs 1 1 6 0 ∷ [] };
+      table = record { states = 2; classes = noClasses; initials = 0 ∷ []; terminals = 1 ∷ []; arcs = arcAs 0 0 5 1 ∷ arcAs 1 1 6 0 ∷ [] };
       task = 2;
       upper = 1 ∷ [];
       lower = [];
       course = c;
     }
 
+-- class 0 is letters 1, 5 and 9, class 1 is 2 and 5. State 0 reads 7 and writes 8, or goes to state 1, which is terminal, by a letter of either
+-- class; further arcs of state 1
+abbrev classed : List Arc → ℕ → List ℕ → List ℕ → Course → Row
+classed more k u l c =
+    record {
+      table =
+          record {
+            states = 2;
+            classes = rowWith (1 ∷ 5 ∷ 9 ∷ []) ∷ rowWith (2 ∷ 5 ∷ []) ∷ replicate 6 (rowWith []);
+            initials = 0 ∷ [];
+            terminals = 1 ∷ [];
+            arcs = arcAs 0 7 8 0 ∷ arcAs 0 64 64 1 ∷ arcAs 0 65 65 1 ∷ more;
+          };
+      task = k;
+      upper = u;
+      lower = l;
+      course = c;
+    }
+
 -- one state, initial and terminal, without arcs; synthesis of the empty word
 abbrev bare : Course → Row
-bare c = record { table = record { states = 1; initials = 0 ∷ []; terminals = 0 ∷ []; arcs = [] }; task = 2; upper = []; lower = []; course = c }
+bare c = record { table = record { states = 1; classes = noClasses; initials = 0 ∷ []; terminals = 0 ∷ []; arcs = [] }; task = 2; upper = []; lower = []; course = c }
 
 -- a call by its allowance, frames and letters
 abbrev pub ask : ℕ → ℕ → ℕ → Ask
@@ -293,6 +315,21 @@ rows =
     -- "among those the one whose state numbers come first, compared one by one"; in any order of the arcs
     ∷ loops 5 0 (arcAs 0 0 0 1 ∷ arcAs 0 0 0 2 ∷ arcAs 1 0 0 4 ∷ arcAs 2 0 0 3 ∷ arcAs 3 0 0 0 ∷ arcAs 4 0 0 0 ∷ []) (0 ∷ 1 ∷ 4 ∷ [])
     ∷ loops 5 0 (arcAs 0 0 0 2 ∷ arcAs 0 0 0 1 ∷ arcAs 1 0 0 4 ∷ arcAs 2 0 0 3 ∷ arcAs 3 0 0 0 ∷ arcAs 4 0 0 0 ∷ []) (0 ∷ 1 ∷ 4 ∷ [])
+    -- Slip 6: "It fits if the next letter is in the class", which 5 is of both; "in synthesis or analysis the letter read is written"
+    ∷ classed [] 2 (7 ∷ 5 ∷ []) [] (goes (big ∷ big ∷ big ∷ []) (saysFound 4 (8 ∷ 5 ∷ []) ∷ saysFound 2 (8 ∷ 5 ∷ []) ∷ saysEnded 5 ∷ []) 11)
+    -- and is told from the frames that earlier calls left
+    ∷ classed [] 3 [] (8 ∷ 9 ∷ []) (goes (ask 1000 2 2 ∷ ask 1 3 2 ∷ ask 3 3 2 ∷ big ∷ []) (saysRefused 3 22 ∷ saysFound 1 (7 ∷ 9 ∷ []) ∷ saysPaused 3 ∷ saysEnded 3 ∷ []) 10)
+    -- a letter of no class, and the end of the word
+    ∷ classed [] 2 (3 ∷ []) [] (goes (big ∷ []) (saysEnded 5 ∷ []) 5)
+    ∷ classed [] 2 [] [] (goes (big ∷ []) (saysEnded 5 ∷ []) 5)
+    -- "in recognition both words must have that same letter next"
+    ∷ classed [] 1 (9 ∷ []) (9 ∷ []) (goes (big ∷ big ∷ []) (saysFound 3 [] ∷ saysEnded 3 ∷ []) 6)
+    ∷ classed [] 1 (1 ∷ []) (9 ∷ []) (goes (big ∷ []) (saysEnded 5 ∷ []) 5)
+    -- "A class arc is never idle": one from state 1 to itself
+    ∷ classed (arcAs 1 65 65 1 ∷ []) 2 (1 ∷ 2 ∷ []) [] (goes (big ∷ big ∷ []) (saysFound 4 (1 ∷ 2 ∷ []) ∷ saysEnded 5 ∷ []) 9)
+    -- "an undefined class or unlike sides": "in a loaded table such faults give 20"
+    ∷ classed (arcAs 1 66 66 1 ∷ []) 2 [] [] (refusedWith 20 [])
+    ∷ classed (arcAs 1 64 65 1 ∷ []) 2 [] [] (refusedWith 20 [])
     -- "Here the first listed goes first."
     ∷ pair 5 6 (goes (big ∷ big ∷ big ∷ []) (saysFound 2 (6 ∷ []) ∷ saysFound 4 (5 ∷ []) ∷ saysEnded 2 ∷ []) 8)
     -- "two paths with the same output give it twice"

@@ -9,6 +9,7 @@ pub mod Place
 pub mod Step
 pub mod Call
 pub mod Transducer
+pub mod Classes
 pub mod Stack
 pub mod Idle
 pub mod Answer
@@ -18,4 +19,5 @@ pub mod Reading
 pub mod Demand
 pub mod Cases
 pub mod Report
+pub mod Expand
 pub mod Agree

@@ -6,6 +6,7 @@ use mathlib.Core.Logic.{_↔_}
 use mathlib.Core.Bool.{Bool, true, false}
 use mathlib.Core.List.{List, [], _∷_, _++_, List·Memᴰ}
 use Rattle.table_format.specs.Table.{Arc, Table}
+use Rattle.table_format.specs.Classes.{isPlain, rowOf, withLetter}
 use Rattle.machine.specs.Query.{Task, recognition, synthesis, analysis}
 
 infixl 60 _∘_
@@ -132,9 +133,17 @@ upperAlone a = record { source = a .source; upper = a .upper; lower = 0; target 
 abbrev pub lowerAlone : Arc → Arc
 lowerAlone a = record { source = a .source; upper = 0; lower = a .lower; target = a .target }
 
+-- Slip 6: the relation of an arc is α of it where it is plain; for a class it is the union of those of the plain arcs of its letters
+abbrev pub αIf : Bool → List ℕ → Task → Arc → Rel (Word × Word) (Word × Word)
+αIf true row k a d e = α k a d e
+αIf false row k a d e = (x : ℕ) × List·Memᴰ (suc x) row × α k (withLetter a (suc x)) d e
+
+abbrev pub αOf : List (List ℕ) → Task → Arc → Rel (Word × Word) (Word × Word)
+αOf rows k a = αIf (isPlain a) (rowOf rows (a .upper)) k a
+
 -- the machine α(A) of a table and a task
 abbrev pub kernel : Table → Task → Kernel
-kernel t k = record { Data = Word × Word; table = t; relation = α k }
+kernel t k = record { Data = Word × Word; table = t; relation = αOf (t .classes) k }
 
 -- D₋, the input set
 abbrev pub Input : Task → Type 0

@@ -1,16 +1,17 @@
--- Document 01, "Table and paths": the machine of a table and a query. Each side is read or written; its datum is how many of its
--- letters were passed.
+-- Document 01, "Table and paths", and document 02, slip 6: the machine of a table and a query. Each side is read or written; its datum is how
+-- many of its letters were passed.
 use Prim.Native.Nat.{ℕ, zero, suc, _+_, _-_, _*_}
-use mathlib.Core.Bool.{Bool, true, false, _&&_}
+use mathlib.Core.Bool.{Bool, true, false, cond, _&&_}
 use mathlib.Core.Option.{Option, none, some}
 use mathlib.Core.List.{List, [], _∷_, _++_}
 use lib.ListN.{length, getD}
 use lib.Dec.{eqb}
 use Rattle.table_format.specs.Table.{Arc, Table, noArc}
+use Rattle.table_format.specs.Classes.{isPlain, rowOf, withLetter}
 use Rattle.table_format.specs.Index.{below}
 pub use Rattle.graph.specs.Lists.{member}
 use Rattle.machine.specs.Query.{Side, upperSide, lowerSide, reads, letter, Query, word}
-use Rattle.machine.specs.Machine.{Machine}
+use Rattle.machine.specs.Machine.{Machine, bind, listed}
 
 -- "Arcs are numbered from 0 in file order"
 abbrev pub arcAt : Table → ℕ → Arc
@@ -109,6 +110,36 @@ module _ (q : Query) where
   abbrev pub writtenBy : Passed → ℕ
   writtenBy d = writtenOn upperSide d + writtenOn lowerSide d
 
+-- Slip 6. Where an arc has a class, the next letter decides which plain arc it is; the rules of the sides then hold of that arc.
+
+-- the next letter of a word that is read: of the upper one, if it is; 0 at its end
+abbrev pub nextLetter : Bool → List ℕ → List ℕ → Passed → ℕ
+nextLetter up upper lower d = cond up (getD upper (d .up) 0) (getD lower (d .low) 0)
+
+-- a letter is in a class; 0 only fills its row up
+abbrev pub inRow : ℕ → List ℕ → Bool
+inRow zero row = false
+inRow (suc x) row = member (suc x) row
+
+-- an arc of a class where x is the next letter: "it fits if the next letter is in the class", and "the letter read is written"
+abbrev pub classArc : List ℕ → Arc → ℕ → Option Arc
+classArc row a x = cond (inRow x row) (some (withLetter a x)) none
+
+-- the plain arc that an arc is where x is the next letter, if it is one
+abbrev pub plainBy : List (List ℕ) → Arc → ℕ → Option Arc
+plainBy rows a x = cond (isPlain a) (some a) (classArc (rowOf rows (a .upper)) a x)
+
+-- the same after what was passed
+abbrev pub plainAt : Table → Query → Arc → Passed → Option Arc
+plainAt t q a d = plainBy (t .classes) a (nextLetter (reads (q .task) upperSide) (q .upperWord) (q .lowerWord) d)
+
+-- what an arc makes of what was passed, and what it writes there
+abbrev pub followAt : Table → Query → Arc → Passed → Option Passed
+followAt t q a d = bind (plainAt t q a d) (λ b. followArc q b d)
+
+abbrev pub writesAt : Table → Query → Arc → Passed → List ℕ
+writesAt t q a d = listed (plainAt t q a d) (writesArc q)
+
 -- the machine of a table and a query
 abbrev pub machine : Table → Query → Machine
 machine t q =
@@ -120,8 +151,8 @@ machine t q =
       target = λ n. arcAt t n .target;
       terminal = λ s. member s (t .terminals);
       d₀ = nothingPassed;
-      follow = λ n d. followArc q (arcAt t n) d;
-      writes = λ n d. writesArc q (arcAt t n);
+      follow = λ n d. followAt t q (arcAt t n) d;
+      writes = λ n d. writesAt t q (arcAt t n) d;
       done = λ d. doneOn q upperSide d && doneOn q lowerSide d;
       same = λ d e. eqb (d .up) (e .up) && eqb (d .low) (e .low);
       limit = (lettersToRead q + 1) * t .states;

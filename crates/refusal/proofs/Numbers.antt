@@ -3,7 +3,7 @@ use Prim.Native.Nat.{ℕ}
 use mathlib.Core.Path.{_≡_, refl, sym, ap, _∙_}
 use mathlib.Core.Bool.{cond}
 use lib.Dec.{eqb}
-use Rattle.refusal.specs.declared.InputCause.the-variants.{Malformed, Misplaced, CountLimit, StateNumber, LetterLimit, StateOrder, SourceOrder, ArcRepeated, LineCount, WordFault, TaskFault, IdleCycle, ListedWord, WordOrder, StateLimit, SheetFault}
+use Rattle.refusal.specs.declared.InputCause.the-variants.{Malformed, Misplaced, CountLimit, StateNumber, LetterLimit, StateOrder, SourceOrder, ArcRepeated, LineCount, WordFault, TaskFault, IdleCycle, ListedWord, WordOrder, StateLimit, SheetFault, ClassFault}
 use Rattle.refusal.specs.declared.StateCause.the-variants.{LoadedTable, Place, StackFull, OutputFull, DestinationShort}
 use Rattle.refusal.specs.declared.Refusal.{Refusal}
 use Rattle.refusal.specs.declared.Refusal.the-variants.{Input, State}
@@ -31,7 +31,8 @@ refusalAt n =
     (cond (eqb n 24) (State DestinationShort)
     (cond (eqb n 30) (Input ListedWord)
     (cond (eqb n 31) (Input WordOrder)
-    (cond (eqb n 32) (Input StateLimit) (Input SheetFault))))))))))))))))))))
+    (cond (eqb n 32) (Input StateLimit)
+    (cond (eqb n 33) (Input SheetFault) (Input ClassFault)))))))))))))))))))))
 
 number-at : (r : Refusal) → refusalAt (numberOf r) ≡ r
 unfolding refusalAt
@@ -51,6 +52,7 @@ number-at (Input ListedWord) = refl
 number-at (Input WordOrder) = refl
 number-at (Input StateLimit) = refl
 number-at (Input SheetFault) = refl
+number-at (Input ClassFault) = refl
 number-at (State LoadedTable) = refl
 number-at (State Place) = refl
 number-at (State StackFull) = refl

@@ -2,7 +2,7 @@
 ghost use mathlib.Core.Path.{_≡_};
 ghost use Rattle.refusal.specs.Refusal.{inputNumber, stateNumber, numberOf};
 
-// Why an input is turned down: document 01's 1 to 12, and document 02's 30 to 33.
+// Why an input is turned down: document 01's 1 to 12, and document 02's 30 to 34.
 pub enum InputCause {
     Malformed,
     Misplaced,
@@ -20,6 +20,7 @@ pub enum InputCause {
     WordOrder,
     StateLimit,
     SheetFault,
+    ClassFault,
 }
 
 // Why a state is turned down, document 01's 20 to 24.
@@ -56,6 +57,7 @@ fn input_number(cause: InputCause) -> u8
         InputCause::WordOrder => 31,
         InputCause::StateLimit => 32,
         InputCause::SheetFault => 33,
+        InputCause::ClassFault => 34,
     }
 }
 

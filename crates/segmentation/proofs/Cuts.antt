@@ -48,7 +48,7 @@ module _ (ws bs : List Word) (N : Names ws bs) (w : Word) where
 
   -- what arcs tell where states tell as with c arcs more
   abbrev arcsFrom : ℕ → ℕ → ℕ → Word → ℕ → Word → List (List ℕ)
-  arcsFrom c n m p i b = listTell (synthesisOf w) (λ r e z. tells c r e z) (at n m) p (letterArcs bs i b 1 62)
+  arcsFrom c n m p i b = listTell (tableOn ws bs) (synthesisOf w) (λ r e z. tells c r e z) (at n m) p (letterArcs bs i b 1 62)
 
   next : (n x : ℕ) (v : Word) → Left w n (x ∷ v) → Left w (suc n) v
   next n x v L = record { rest = drop-tail w n x v (L .rest); count = omega (arith, L .count) }
@@ -72,10 +72,10 @@ module _ (ws bs : List Word) (N : Names ws bs) (w : Word) where
 
       miss : ((x ≤ 0) ⊎ (63 ≤ x)) → arcsFrom c n m p i b ≡ told o (cutsFrom ws (b ++ (x ∷ [])) v)
       miss h =
-          letters-miss w (λ r e z. tells c r e z) n m p bs i b 62 0 (⊎-elim (λ l. inl (omega (arith, here))) (λ l. inr (omega (arith, here))) h)
+          letters-miss (tableOn ws bs) w (λ r e z. tells c r e z) n m p bs i b 62 0 (omega arith) (⊎-elim (λ l. inl (omega (arith, here))) (λ l. inr (omega (arith, here))) h)
           ∙ sym (ap (told o) (cuts-none ws v (b ++ (x ∷ [])) (N .letters b x h)))
 
-      to : (q : Option ℕ) → placeFrom 0 (b ++ (x ∷ [])) bs ≡ q → onto w (λ r e z. tells c r e z) n m p x q ≡ told o (cutsFrom ws (b ++ (x ∷ [])) v)
+      to : (q : Option ℕ) → placeFrom 0 (b ++ (x ∷ [])) bs ≡ q → onto (tableOn ws bs) w (λ r e z. tells c r e z) n m p x q ≡ told o (cutsFrom ws (b ++ (x ∷ [])) v)
       to none f = sym (ap (told o) (cuts-none ws v (b ++ (x ∷ [])) (N .complete b x f)))
       to (some j) f =
           let R = place-found bs (b ++ (x ∷ [])) 0 j f in
@@ -85,13 +85,13 @@ module _ (ws bs : List Word) (N : Names ws bs) (w : Word) where
           ∙ ap (λ (z : Word). told o (cutsFrom ws z v)) E
 
       hit : 0 < x → x ≤ 62 → arcsFrom c n m p i b ≡ told o (cutsFrom ws (b ++ (x ∷ [])) v)
-      hit l h = letters-hit w (λ r e z. tells c r e z) n m p bs i b 62 0 x here l (omega arith) ∙ to (placeFrom 0 (b ++ (x ∷ [])) bs) refl
+      hit l h = letters-hit (tableOn ws bs) w (λ r e z. tells c r e z) n m p bs i b 62 0 x (omega arith) here l (omega arith) ∙ to (placeFrom 0 (b ++ (x ∷ [])) bs) refl
 
   -- and where none is left
   stays : (c i : ℕ) (b : Word) (n m : ℕ) (p : Word) → Left w n [] → arcsFrom c n m p i b ≡ []
   stays c i b n m p L =
       let Z : getD w n 0 ≡ 0 = List·getD-eq-default w 0 (omega (arith, L .count)) in
-      letters-miss w (λ r e z. tells c r e z) n m p bs i b 62 0 (inl (omega arith))
+      letters-miss (tableOn ws bs) w (λ r e z. tells c r e z) n m p bs i b 62 0 (omega arith) (inl (omega arith))
 
   -- a state in parts, by whether it is a word's end, whether all is read, and what its arcs by letters tell
   abbrev parts : ℕ → ℕ → ℕ → Word → Bool → Bool → List (List ℕ) → List (List ℕ)
@@ -103,10 +103,10 @@ module _ (ws bs : List Word) (N : Names ws bs) (w : Word) where
       ap₂ (λ (a b : List (List ℕ)). a ++ b)
       (ap (λ (b : Bool). readingIf M (b && (eqb n (length w) && true)) p) (ends-are (listed ws) bs k 0 k (omega arith) h))
       (state-part (arcsOf ws bs) (arcs-from ws bs) (tableOn ws bs) (synthesisOf w) bs refl (λ r e z. stateTells M c r e z) (at n m) p k h
-      ∙ list-tell-append (synthesisOf w) (λ r e z. stateTells M c r e z) (at n m) p (letterArcs bs k (name k) 1 62) _
+      ∙ list-tell-append (tableOn ws bs) (synthesisOf w) (λ r e z. stateTells M c r e z) (at n m) p (letterArcs bs k (name k) 1 62) _
       ∙ ap (λ (l : List (List ℕ)). arcsFrom c n m p k (name k) ++ l) (go (listed ws (name k))))
     where
-      go : (x : Bool) → listTell (synthesisOf w) (λ r e z. stateTells M c r e z) (at n m) p (cond x (cutArc k ∷ []) [])
+      go : (x : Bool) → listTell (tableOn ws bs) (synthesisOf w) (λ r e z. stateTells M c r e z) (at n m) p (cond x (cutArc k ∷ []) [])
           ≡ cond x (stateTells M c 0 (at n (suc m)) (p ++ (63 ∷ []))) []
       go true = append-nil _
       go false = refl

@@ -5,6 +5,7 @@ use Prim.Native.String.{String, [] as []ᶜ, _∷_ as _∷ᶜ_}
 use mathlib.Core.Path.{_≡_, refl}
 use mathlib.Core.Bool.{true}
 use mathlib.Core.List.{List, [], _∷_, map}
+use Rattle.table_format.specs.Classes.{noClasses}
 use Rattle.table_format.specs.Rules.{each}
 use Rattle.table_format.specs.Cells.{arcAs}
 use Rattle.lexicon.specs.Words.{Word, listHolds}
@@ -40,6 +41,7 @@ three = (1 ∷ []) ∷ (1 ∷ 2 ∷ []) ∷ (2 ∷ []) ∷ []
 three-table : trieTable three
     ≡ record {
       states = 4;
+      classes = noClasses;
       initials = 0 ∷ [];
       terminals = 1 ∷ 2 ∷ 3 ∷ [];
       arcs = arcAs 0 1 1 1 ∷ arcAs 0 2 2 3 ∷ arcAs 1 2 2 2 ∷ arcAs 1 0 63 0 ∷ arcAs 2 0 63 0 ∷ arcAs 3 0 63 0 ∷ [];

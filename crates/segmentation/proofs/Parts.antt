@@ -12,30 +12,30 @@ use Rattle.table_format.specs.Table.{Arc, Table, noArc}
 use Rattle.table_format.specs.Index.{below}
 use Rattle.table_format.proofs.All.{All}
 use Rattle.machine.specs.Query.{Query}
-use Rattle.machine.specs.Transducer.{Passed, followArc, writesArc, machine}
+use Rattle.machine.specs.Transducer.{Passed, followAt, writesAt, machine}
 use Rattle.machine.specs.Denotation.{ifFits, arcsTell}
 use Rattle.lexicon.specs.Words.{Word}
 use Rattle.trie_format.specs.Trie.{byState}
 
--- what the arcs of a list tell
-abbrev pub listTell : Query → (ℕ → Passed → List ℕ → List (List ℕ)) → Passed → List ℕ → List Arc → List (List ℕ)
-listTell q g d o [] = []
-listTell q g d o (a ∷ l) = ifFits (followArc q a d) (λ e. g (a .target) e (o ++ writesArc q a)) ++ listTell q g d o l
+-- what the arcs of a list tell, with the classes of a table
+abbrev pub listTell : Table → Query → (ℕ → Passed → List ℕ → List (List ℕ)) → Passed → List ℕ → List Arc → List (List ℕ)
+listTell t q g d o [] = []
+listTell t q g d o (a ∷ l) = ifFits (followAt t q a d) (λ e. g (a .target) e (o ++ writesAt t q a d)) ++ listTell t q g d o l
 
-module _ (q : Query) (g : ℕ → Passed → List ℕ → List (List ℕ)) (d : Passed) (o : List ℕ) where
-  pub list-tell-append : (l k : List Arc) → listTell q g d o (l ++ k) ≡ listTell q g d o l ++ listTell q g d o k
+module _ (t : Table) (q : Query) (g : ℕ → Passed → List ℕ → List (List ℕ)) (d : Passed) (o : List ℕ) where
+  pub list-tell-append : (l k : List Arc) → listTell t q g d o (l ++ k) ≡ listTell t q g d o l ++ listTell t q g d o k
   list-tell-append [] k = refl
   list-tell-append (a ∷ l) k = rw (list-tell-append l k, append-assoc)
 
   -- arcs that stand together
-  part-tells : (t : Table) (l before after : List Arc) → t .arcs ≡ before ++ (l ++ after) → arcsTell (machine t q) g d o (length before) (length l) ≡ listTell q g d o l
-  part-tells t [] before after e = refl
-  part-tells t (a ∷ l) before after e =
+  part-tells : (l before after : List Arc) → t .arcs ≡ before ++ (l ++ after) → arcsTell (machine t q) g d o (length before) (length l) ≡ listTell t q g d o l
+  part-tells [] before after e = refl
+  part-tells (a ∷ l) before after e =
       let n : suc (length before) ≡ length (before ++ (a ∷ [])) = omega (arith, length-append before (a ∷ [])) in
       ap₂ (λ (x y : List (List ℕ)). x ++ y)
-      (ap (λ (b : Arc). ifFits (followArc q b d) (λ f. g (b .target) f (o ++ writesArc q b)))
+      (ap (λ (b : Arc). ifFits (followAt t q b d) (λ f. g (b .target) f (o ++ writesAt t q b d)))
       (ap (λ (m : List Arc). getD m (length before) noArc) e ∙ getD-append-seam before a (l ++ after) noArc))
-      (ap (λ (k : ℕ). arcsTell (machine t q) g d o k (length l)) n ∙ part-tells t l (before ++ (a ∷ [])) after (e ∙ sym (append-assoc before (a ∷ []) (l ++ after))))
+      (ap (λ (k : ℕ). arcsTell (machine t q) g d o k (length l)) n ∙ part-tells l (before ++ (a ∷ [])) after (e ∙ sym (append-assoc before (a ∷ []) (l ++ after))))
 
 -- Arcs are counted by their sources.
 
@@ -97,9 +97,9 @@ module _ (f : ℕ → Word → List Arc) (from : (i : ℕ) (b : Word) → All (�
 
   -- so what a state's arcs tell is what their list tells
   pub state-part : (t : Table) (q : Query) (bs : List Word) → t .arcs ≡ byState f 0 bs → (g : ℕ → Passed → List ℕ → List (List ℕ)) (d : Passed) (o : List ℕ) (s : ℕ) → s < length bs
-      → arcsTell (machine t q) g d o (machine t q .first s) (machine t q .arity s) ≡ listTell q g d o (f s (getD bs s []))
+      → arcsTell (machine t q) g d o (machine t q .first s) (machine t q .arity s) ≡ listTell t q g d o (f s (getD bs s []))
   state-part t q bs e g d o s h =
       let P = part bs 0 s s (omega arith) h in
       let F : machine t q .first s ≡ length (P .before) = rw e (P .first-is) in
       let A : machine t q .arity s ≡ length (f s (getD bs s [])) = rw e (omega (arith, P .first-is, P .next-is)) in
-      ap₂ (λ (n k : ℕ). arcsTell (machine t q) g d o n k) F A ∙ part-tells q g d o t (f s (getD bs s [])) (P .before) (P .after) (e ∙ P .stand)
+      ap₂ (λ (n k : ℕ). arcsTell (machine t q) g d o n k) F A ∙ part-tells t q g d o (f s (getD bs s [])) (P .before) (P .after) (e ∙ P .stand)

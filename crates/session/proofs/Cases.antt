@@ -2,10 +2,11 @@
 use mathlib.Core.Path.{_≡_, refl}
 use mathlib.Core.List.{[], _∷_, _++_}
 use Rattle.hex.specs.Hex.{valueOf, joined, decoded, digitOf, encoded}
-use Rattle.table_format.specs.Rules.{each, countsHold, headerFaults, initialFaults, terminalFaults, arcFaults, keepsRules}
-use Rattle.table_format.specs.Loaded.{arcsCells, cellsOf, arcsIn, tableIn, loaded}
+use Rattle.table_format.specs.Classes.{noClasses}
+use Rattle.table_format.specs.Rules.{each, countsHold, headerFaults, initialFaults, terminalFaults, arcClassHolds, arcFaults, rowHolds, classesKeep, keepsRules}
+use Rattle.table_format.specs.Loaded.{arcsCells, rowsCells, cellsOf, arcsIn, rowsIn, tableIn, loaded}
 use Rattle.table_format.specs.Line.{linesOf, malformed, bytesOf, charsOf, lineText}
-use Rattle.table_format.specs.Text.{itemLines, joinLines, textOf}
+use Rattle.table_format.specs.Text.{classLines, itemLines, joinLines, textOf}
 use Rattle.table_format.specs.Parse.{itemFaults, bytesFaults, lineFaults, onward, parseFrom, parsed}
 use Rattle.machine.specs.Frames.{placeHolds}
 use Rattle.machine.specs.Step.{move, step}
@@ -22,5 +23,5 @@ use Rattle.session.specs.Session.{linesLeft, sessionLines}
 
 pub k-session : sessionLines (textOf (tableK []) ++ lineText (16 ∷ 2 ∷ 2 ∷ 1 ∷ 2 ∷ 0 ∷ []))
     ≡ (32 ∷ 0 ∷ 1 ∷ 0 ∷ 2 ∷ 1 ∷ 2 ∷ []) ∷ (32 ∷ 0 ∷ 2 ∷ 0 ∷ 3 ∷ 1 ∷ 3 ∷ 2 ∷ []) ∷ (47 ∷ 0 ∷ 2 ∷ []) ∷ []
-unfolding sessionLines linesLeft opened startedOn queryOf isQuery sizeThrough started outcome asked loaded tableIn arcsIn cellsOf arcsCells keepsRules headerFaults countsHold initialFaults terminalFaults arcFaults each hasIdleCycle call placeHolds advance step move parsed parseFrom onward lineFaults bytesFaults itemFaults textOf joinLines itemLines linesOf malformed bytesOf charsOf encoded digitOf decoded joined valueOf
+unfolding sessionLines linesLeft opened startedOn queryOf isQuery sizeThrough started outcome asked loaded tableIn arcsIn rowsIn cellsOf arcsCells rowsCells noClasses keepsRules headerFaults countsHold classesKeep rowHolds initialFaults terminalFaults arcFaults arcClassHolds each hasIdleCycle call placeHolds advance step move parsed parseFrom onward lineFaults bytesFaults itemFaults textOf joinLines itemLines classLines linesOf malformed bytesOf charsOf encoded digitOf decoded joined valueOf
 k-session = refl

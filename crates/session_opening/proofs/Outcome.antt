@@ -17,7 +17,7 @@ use Rattle.table_format.specs.Loaded.{mostCells, cellsOf}
 use Rattle.table_format.specs.Line.{Line, linesOf}
 use Rattle.table_format.specs.Parse.{Parsed, accepted, turnedDown, parsed}
 use Rattle.table.specs.Calls.{readAs, readAnswer, readCells}
-use Rattle.table_format.proofs.Rules.{table-bounded}
+use Rattle.table_format.proofs.Rules.{keeps-parts, table-bounded}
 use Rattle.table_format.proofs.Loaded.{length-cells}
 use Rattle.table_format.proofs.Determine.{read-text}
 use Rattle.table.proofs.Calls.{read-done, read-fits, read-length}
@@ -91,8 +91,9 @@ opened-by input h = ap (λ (b : Bool). cond b (unopened (Input CountLimit)) (ope
 -- a table that is read has no more cells than the largest
 pub cells-most : (text : List ℕ) (t : Table) → parsed text ≡ accepted t → length (cellsOf t) ≤ mostCells
 cells-most text t e =
-    let b = table-bounded t (read-text text t e .0) in
-    omega (arith, length-cells t, b .states, b .initials, b .terminals, b .arcs)
+    let keeps = read-text text t e .0 in
+    let b = table-bounded t keeps in
+    omega (arith, length-cells t (keeps-parts t .0 keeps .classes), b .states, b .initials, b .terminals, b .arcs)
 
 module _ (input : List ℕ) (end : ℕ) (end-is : end ≡ tableSize input) (few : length input ≤ mostInput) (zeros : List ℕ) (room : length zeros ≡ mostCells) where
   text-is : take end input ≡ tableText input

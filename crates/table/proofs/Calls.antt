@@ -19,6 +19,7 @@ use Rattle.table_format.specs.Loaded.{cellsOf, countsIn, extent, loaded}
 use Rattle.table_format.specs.Text.{textOf}
 use Rattle.table_format.specs.Parse.{Parsed, accepted, turnedDown, parsed}
 use Rattle.table.specs.Calls.{readAs, readCellsAs, readAnswer, readCells, writtenAs, writtenTextAs, writeAnswer, writeText}
+use Rattle.table_format.proofs.Rules.{keeps-parts}
 use Rattle.table_format.proofs.Loaded.{length-cells, counts-in, loaded-cells, cells-loaded}
 use Rattle.table_format.proofs.Determine.{text-read, read-text}
 use Rattle.destination.proofs.Stored.{Stored, stored-done, stored-fits, stored-short, stored-refused, stored-length}
@@ -189,9 +190,10 @@ written-cells c e d n a room = go (write-done c e n a)
         → (readAnswer (take n (writeText c e)) d ≡ Done m) × (readCells (take n (writeText c e)) d ≡ take m c ++ drop m d)
     go (t, l, s) =
         let k = cells-loaded c t l in
+        let keep = keeps-parts t .0 (k .0) .classes in
         let rest = drop (length (cellsOf t)) c in
-        let counts : countsIn c ≡ countsOf t = ap countsIn (k .1) ∙ counts-in t rest in
-        let size : m ≡ length (cellsOf t) = ap extent counts ∙ sym (length-cells t) in
+        let counts : countsIn c ≡ countsOf t = ap countsIn (k .1) ∙ counts-in t keep rest in
+        let size : m ≡ length (cellsOf t) = ap extent counts ∙ sym (length-cells t keep) in
         let front : take m c ≡ cellsOf t = ap (take m) (k .1) ∙ take-at (cellsOf t) rest m (sym size) in
         let r = read-fits (take n (writeText c e)) d t (written-read c e n t a l) (omega arith) in
         (r .0 ∙ ap Done (sym size), r .1 ∙ ap₂ (λ (y : List ℕ) (i : ℕ). y ++ drop i d) (sym front) (sym size))

@@ -3,6 +3,7 @@ use destination::Answer;
 use refusal::Refusal;
 use refusal::StateCause;
 use table_format::ARC_LINE;
+use table_format::CLASSES_AT;
 use table_format::END_KIND;
 use table_format::HEADER_LINE;
 use table_format::INITIAL_KIND;
@@ -24,8 +25,9 @@ fn text_size(cells: &[u16]) -> usize
     requires { ⌜ loaded (now cells) ≡ some (tableIn (now cells)) ⌝ }
     ensures { λ r. ⌜ r ≡ length (textOf (tableIn (now (cells .entry)))) ⌝ }
 {
+    let classes = table_printer::class_size(&cells[CLASSES_AT..INITIALS_AT]);
     let states = cells[1] as usize + cells[2] as usize;
-    HEADER_LINE + STATE_LINE * states + ARC_LINE * cells[3] as usize + STATE_LINE
+    HEADER_LINE + classes + STATE_LINE * states + ARC_LINE * cells[3] as usize + STATE_LINE
 }
 
 // The whole text of a loaded table, line by line.
@@ -34,15 +36,21 @@ fn write_table(cells: &[u16], text: &mut [u8])
     requires { ⌜ length (textOf (tableIn (now cells))) ≤ length (now text) ⌝ }
     ensures { λ _. ⌜ now (text .exit) ≡ textOf (tableIn (now (cells .entry))) ++ drop (length (textOf (tableIn (now (cells .entry))))) (now (text .entry)) ⌝ }
 {
-    let lines = 1 + cells[1] + cells[2] + cells[3];
+    let classes = table_classes::defined_count(&cells[CLASSES_AT..INITIALS_AT]);
+    let lines = 1 + classes + cells[1] + cells[2] + cells[3];
     let at = table_check::layout_of(cells);
     let terminals = at.terminals;
     let arcs = at.arcs;
     let end = at.end;
     table_printer::header_line(text, cells);
-    let initials_end = table_printer::state_lines(
+    let classes_end = table_printer::class_lines(
         text,
         HEADER_LINE,
+        &cells[CLASSES_AT..INITIALS_AT],
+    );
+    let initials_end = table_printer::state_lines(
+        text,
+        classes_end,
         INITIAL_KIND,
         &cells[INITIALS_AT..terminals],
     );

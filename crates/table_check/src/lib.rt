@@ -1,14 +1,17 @@
 // The table check: does a loaded table keep every rule, where do its parts stand, and where do each state's arcs begin?
 use table_format::ARC_WIDTH;
+use table_format::CLASSES_AT;
 use table_format::INITIALS_AT;
 use table_format::arc_at;
 use table_rules::Judged;
 ghost use mathlib.Core.Path.{_≡_};
 ghost use mathlib.Core.Bool.{true};
-ghost use Prim.Native.Nat.{_≤_};
-ghost use lib.ListN.{getD};
+ghost use mathlib.Core.List.{List};
+ghost use Prim.Native.Nat.{ℕ, _≤_};
+ghost use lib.ListN.{length, getD};
+ghost use Rattle.table_format.specs.Classes.{classCount};
 ghost use Rattle.table_format.specs.Rules.{initialsKeep, arcsKeep, keepsRules};
-ghost use Rattle.table_format.specs.Loaded.{countsIn, tableIn};
+ghost use Rattle.table_format.specs.Loaded.{classCells, rowsIn, countsIn, tableIn};
 ghost use Rattle.table_format.specs.Cells.{arcCount, arcsAs};
 ghost use Rattle.table_format.specs.Index.{firstIndex};
 ghost use Rattle.table_check.specs.Check.{layoutOf, LaidOut, checked};
@@ -49,15 +52,17 @@ fn initials_hold(list: &[u16], states: u16) -> bool
 }
 
 // Each arc judged with those before it.
-fn each_arc_holds(cells: &[u16], states: u16) -> bool
-    ensures { λ r. ⌜ r ≡ arcsKeep states (arcsAs (now (cells .entry))) ⌝ }
+fn each_arc_holds(rows: &[u16], cells: &[u16], states: u16) -> bool
+    requires { ⌜ length (now rows) ≡ classCells ⌝ }
+    ensures { λ r. ⌜ r ≡ arcsKeep states (rowsIn classCount (now (rows .entry))) (arcsAs (now (cells .entry))) ⌝ }
 {
     let count = cells.len() / ARC_WIDTH;
     let mut top: u64 = 0;
     let mut n = 0;
     while n < count {
         let arc = arc_at(cells, n);
-        let Judged::Kept = table_rules::arc_fault(&cells[..ARC_WIDTH * n], states, arc, top) else {
+        let Judged::Kept = table_rules::arc_fault(rows, &cells[..ARC_WIDTH * n], states, arc, top)
+        else {
             return false;
         };
         let key = table_rules::arc_key(arc);
@@ -70,19 +75,20 @@ fn each_arc_holds(cells: &[u16], states: u16) -> bool
 }
 
 // Arcs in order are held by one look at each, others each with those before it.
-fn arcs_hold(cells: &[u16], states: u16) -> bool
-    ensures { λ r. ⌜ r ≡ arcsKeep states (arcsAs (now (cells .entry))) ⌝ }
+fn arcs_hold(rows: &[u16], cells: &[u16], states: u16) -> bool
+    requires { ⌜ length (now rows) ≡ classCells ⌝ }
+    ensures { λ r. ⌜ r ≡ arcsKeep states (rowsIn classCount (now (rows .entry))) (arcsAs (now (cells .entry))) ⌝ }
 {
-    if table_order::arcs_rise(cells, states) {
+    if table_order::arcs_rise(rows, cells, states) {
         return true;
     }
-    each_arc_holds(cells, states)
+    each_arc_holds(rows, cells, states)
 }
 
 // The first-arc index of arcs that keep the rules: the arcs of each source are counted, then the counts are added up.
 fn first_arcs(cells: &[u16], states: u16) -> [u16; 257]
     requires { ⌜ (arcCount (now cells) ≤ 1024) × (states ≤ 256) ⌝ }
-    requires { ⌜ arcsKeep states (arcsAs (now cells)) ≡ true ⌝ }
+    requires { ⌜ ((rows : List (List ℕ)) × (arcsKeep states rows (arcsAs (now cells)) ≡ true)) ⌝ }
     ensures { λ r. ⌜ r ≡ firstIndex states (arcsAs (now (cells .entry))) ⌝ }
 {
     let mut first = [0u16; 257];
@@ -125,7 +131,7 @@ pub fn layout_of(cells: &[u16]) -> Layout
     }
 }
 
-// Rules 3 to 8 on a table that the cells hold whole.
+// Rules 3 to 8 and 34 on a table that the cells hold whole.
 fn keeps_rules(cells: &[u16], at: Layout) -> bool
     requires { ⌜ LaidOut (now cells) at ⌝ }
     ensures { λ r. ⌜ r ≡ keepsRules (tableIn (now (cells .entry))) ⌝ }
@@ -135,9 +141,11 @@ fn keeps_rules(cells: &[u16], at: Layout) -> bool
     let arcs = at.arcs;
     let end = at.end;
     if table_rules::counts_hold(states, cells[1], cells[2], cells[3]) {
-        if initials_hold(&cells[INITIALS_AT..terminals], states) {
-            if table_order::terminals_hold(&cells[terminals..arcs], states) {
-                return arcs_hold(&cells[arcs..end], states);
+        if table_classes::classes_hold(&cells[CLASSES_AT..INITIALS_AT]) {
+            if initials_hold(&cells[INITIALS_AT..terminals], states) {
+                if table_order::terminals_hold(&cells[terminals..arcs], states) {
+                    return arcs_hold(&cells[CLASSES_AT..INITIALS_AT], &cells[arcs..end], states);
+                }
             }
         }
     }

@@ -1,4 +1,4 @@
--- A text is turned down for the first bad line, with the lowest number that it earns, or for the missing end.
+-- A text is turned down for the first bad line, with the refusal of lowest rank that it earns, or for the missing end.
 use Prim.Native.Nat.{ℕ, _≤_, _<_}
 use native.Mathlib.Omega.{arith}
 use native.Mathlib.Nat.{le-refl}
@@ -8,12 +8,11 @@ use mathlib.Core.Logic.{_↔_, _⊎_, inl, inr, ⊎-elim}
 use mathlib.Core.List.{List, [], _∷_, _++_, List·Memᴰ, List·Memᴰ·head, List·Memᴰ·not-nil, List·Memᴰ·cases-cons}
 use Rattle.refusal.specs.declared.InputCause.{InputCause}
 use Rattle.refusal.specs.declared.InputCause.the-variants.{Misplaced}
-use Rattle.refusal.specs.Refusal.{inputNumber}
 use Rattle.table_format.specs.Table.{Table}
 use Rattle.table_format.specs.Line.{Line, bytesOf}
 use Rattle.table_format.specs.Parse.{Progress, opening, within, closed, lineFaults, onward, turnedDown, decide, atEnd, parseFrom}
-use Rattle.table_format.specs.FirstBad.{progressAfter, Clear, FirstBad, LineMissing}
-use Rattle.table_format.proofs.Lowest.{numbersRise, faults-rise, first-lowest}
+use Rattle.table_format.specs.FirstBad.{rankOf, progressAfter, Clear, FirstBad, LineMissing}
+use Rattle.table_format.proofs.Lowest.{ranksRise, faults-rise, first-lowest}
 
 abbrev Bad : Progress → List Line → InputCause → Type 0
 Bad p ls c = FirstBad p ls c ⊎ LineMissing p ls c
@@ -42,10 +41,10 @@ more p l ls c h =
     }))
     (λ B. inr (record { clear = (h, B .clear); unfinished = B .unfinished; cause-is = B .cause-is }))
 
-first-least : (f : InputCause) (fs : List InputCause) → numbersRise (f ∷ fs) ≡ true → (o : InputCause) → List·Memᴰ o (f ∷ fs) → inputNumber f ≤ inputNumber o
+first-least : (f : InputCause) (fs : List InputCause) → ranksRise (f ∷ fs) ≡ true → (o : InputCause) → List·Memᴰ o (f ∷ fs) → rankOf f ≤ rankOf o
 first-least f fs rise o m =
-    ⊎-elim (λ u. subst (λ (x : InputCause). inputNumber f ≤ inputNumber x) (sym u) (le-refl _))
-    (λ u. let less : inputNumber f < inputNumber o = first-lowest f fs rise o u in omega arith) (List·Memᴰ·cases-cons m)
+    ⊎-elim (λ u. subst (λ (x : InputCause). rankOf f ≤ rankOf x) (sym u) (le-refl _))
+    (λ u. let less : rankOf f < rankOf o = first-lowest f fs rise o u in omega arith) (List·Memᴰ·cases-cons m)
 
 down-bad : (p : Progress) (ls : List Line) (c : InputCause) → parseFrom p ls ≡ turnedDown c → Bad p ls c
 unfolding parseFrom
@@ -53,11 +52,11 @@ down-bad p [] c e = at-end p c e
 down-bad p (l ∷ ls) c e = go (λ k. down-bad (onward p (bytesOf (l .chars))) ls c k) (lineFaults p l) refl e (faults-rise p l)
   where
     go : (parseFrom (onward p (bytesOf (l .chars))) ls ≡ turnedDown c → Bad (onward p (bytesOf (l .chars))) ls c) → (fs : List InputCause)
-        → lineFaults p l ≡ fs → decide fs (parseFrom (onward p (bytesOf (l .chars))) ls) ≡ turnedDown c → numbersRise (lineFaults p l) ≡ true → Bad p (l ∷ ls) c
+        → lineFaults p l ≡ fs → decide fs (parseFrom (onward p (bytesOf (l .chars))) ls) ≡ turnedDown c → ranksRise (lineFaults p l) ≡ true → Bad p (l ∷ ls) c
     go later [] h k rise = more p l ls c h (later k)
     go later (f ∷ fs) h k rise =
         let same : f ≡ c = cc in
-        let least = first-least f fs (ap numbersRise (sym h) ∙ rise) in
+        let least = first-least f fs (ap ranksRise (sym h) ∙ rise) in
         inl
         (record {
           before = [];
@@ -68,25 +67,25 @@ down-bad p (l ∷ ls) c e = go (λ k. down-bad (onward p (bytesOf (l .chars))) l
           earned = subst (λ (x : List InputCause). List·Memᴰ c x) (sym h) (List·Memᴰ·head (sym same));
           lowest =
               λ o m.
-              subst (λ (x : InputCause). inputNumber x ≤ inputNumber o) same (least o (subst (λ (x : List InputCause). List·Memᴰ o x) h m));
+              subst (λ (x : InputCause). rankOf x ≤ rankOf o) same (least o (subst (λ (x : List InputCause). List·Memᴰ o x) h m));
         })
 
 -- What is of this kind turns a text down.
 
 bad-down : (p : Progress) (before : List Line) (l : Line) (behind : List Line) (c : InputCause) → Clear p before
-    → List·Memᴰ c (lineFaults (progressAfter p before) l) → ((o : InputCause) → List·Memᴰ o (lineFaults (progressAfter p before) l) → inputNumber c ≤ inputNumber o)
+    → List·Memᴰ c (lineFaults (progressAfter p before) l) → ((o : InputCause) → List·Memᴰ o (lineFaults (progressAfter p before) l) → rankOf c ≤ rankOf o)
     → parseFrom p (before ++ (l ∷ behind)) ≡ turnedDown c
 unfolding parseFrom
 bad-down p [] l behind c clear earned lowest = go (lineFaults p l) (faults-rise p l) earned lowest
   where
-    go : (fs : List InputCause) → numbersRise fs ≡ true → List·Memᴰ c fs → ((o : InputCause) → List·Memᴰ o fs → inputNumber c ≤ inputNumber o)
+    go : (fs : List InputCause) → ranksRise fs ≡ true → List·Memᴰ c fs → ((o : InputCause) → List·Memᴰ o fs → rankOf c ≤ rankOf o)
         → decide fs (parseFrom (onward p (bytesOf (l .chars))) behind) ≡ turnedDown c
     go [] rise m low = absurd (List·Memᴰ·not-nil m)
     go (f ∷ fs) rise m low =
         ⊎-elim (λ u. ap turnedDown (sym u))
         (λ u.
-        let less : inputNumber f < inputNumber c = first-lowest f fs rise c u in
-        let most : inputNumber c ≤ inputNumber f = low f (List·Memᴰ·head refl) in
+        let less : rankOf f < rankOf c = first-lowest f fs rise c u in
+        let most : rankOf c ≤ rankOf f = low f (List·Memᴰ·head refl) in
         absurd (omega arith))
         (List·Memᴰ·cases-cons m)
 bad-down p (k ∷ before) l behind c clear earned lowest =

@@ -129,9 +129,9 @@ pub counts-none : Counts [] (replicate 257 0)
 counts-none = (length-replicate {A = ℕ} 257 0, λ n h. getD-replicate 257 n 0 0 h)
 
 -- an arc that keeps the rules starts at a state
-pub source-inside : (states : ℕ) (cells : List ℕ) (m k : ℕ) → k < m → arcsKeep states (arcsIn m cells) ≡ true → arcOf cells k .source < states
-source-inside states cells m k h K =
-    omega (arith, ap (λ (a : Arc). a .source) (getD-arcs m cells k noArc h), all-at (ArcBounded states) (arcsIn m cells) k noArc (arcs-inside states (arcsIn m cells) K) (omega (arith, length-arcs m cells)) .source)
+pub source-inside : (states : ℕ) (rows : List (List ℕ)) (cells : List ℕ) (m k : ℕ) → k < m → arcsKeep states rows (arcsIn m cells) ≡ true → arcOf cells k .source < states
+source-inside states rows cells m k h K =
+    omega (arith, ap (λ (a : Arc). a .source) (getD-arcs m cells k noArc h), all-at (ArcBounded states) (arcsIn m cells) k noArc (arcs-inside states rows (arcsIn m cells) K) (omega (arith, length-arcs m cells)) .source)
 
 -- one arc is counted
 pub counts-more : (arcs : List Arc) (a : Arc) (first : List ℕ) → a .source < 256 → Counts arcs first
@@ -190,8 +190,8 @@ sums-more arcs q first h S =
     counted n g k = other n (λ z. omega arith) ∙ S .counted n (omega arith) k
 
 -- all are added up: the index
-pub sums-all : (states : ℕ) (arcs : List Arc) (first : List ℕ) → states ≤ 256 → arcsKeep states arcs ≡ true → Sums arcs states first → first ≡ firstIndex states arcs
-sums-all states arcs first h K S = ext-getD 0 first (firstIndex states arcs) (S .long ∙ sym (length-index states arcs h)) cell
+pub sums-all : (states : ℕ) (rows : List (List ℕ)) (arcs : List Arc) (first : List ℕ) → states ≤ 256 → arcsKeep states rows arcs ≡ true → Sums arcs states first → first ≡ firstIndex states arcs
+sums-all states rows arcs first h K S = ext-getD 0 first (firstIndex states arcs) (S .long ∙ sym (length-index states arcs h)) cell
   where
     cell : (n : ℕ) → n < length first → getD first n 0 ≡ getD (firstIndex states arcs) n 0
     cell n g = go (leb n states) refl
@@ -201,4 +201,4 @@ sums-all states arcs first h K S = ext-getD 0 first (firstIndex states arcs) (S 
         go false e =
             let k : states < n = leb-false n states e in
             let m : n < 257 = omega (arith, S .long) in
-            S .counted n k m ∙ ending-none states arcs n (arcs-inside states arcs K) k ∙ sym (index-above states arcs n k m)
+            S .counted n k m ∙ ending-none states arcs n (arcs-inside states rows arcs K) k ∙ sym (index-above states arcs n k m)

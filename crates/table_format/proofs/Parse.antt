@@ -2,21 +2,21 @@
 use Prim.Native.Nat.{ℕ, zero, suc, _+_, _≤_, _<_}
 use native.Mathlib.Omega.{arith}
 use mathlib.Core.Path.{_≡_, refl, sym, ap, ap₂, _∙_}
-use mathlib.Core.Bool.{Bool, true, false, cond, _&&_, and-eq-true-iff}
+use mathlib.Core.Bool.{Bool, true, false, cond, _&&_, and-eq-true-iff, and-false}
 use mathlib.Core.List.{List, [], _∷_, _++_, map, append-assoc, append-nil}
 use lib.Dec.{eqb}
-use lib.ListN.{length, length-append}
+use lib.ListN.{length, getD, length-append}
 use borrow.Author.Tests.{lt-ltb, le-ltb}
 use Rattle.refusal.specs.declared.InputCause.{InputCause}
 use Rattle.refusal.specs.declared.InputCause.the-variants.{Malformed, LineCount}
 use Rattle.table_format.specs.Table.{Arc, Table, Counts, countsOf}
-use Rattle.table_format.specs.Rules.{isEmpty, each, countsHold, headerFaults}
+use Rattle.table_format.specs.Rules.{isEmpty, each, countsHold, classHolds, headerFaults}
 use Rattle.table_format.specs.Line.{Line, malformed, bytesOf}
 use Rattle.table_format.specs.Text.{initialBytes, terminalBytes, arcBytes, linesBefore}
-use Rattle.table_format.specs.Parse.{inPlace, isHeader, LineKind, initial, terminal, arc, end, numberAt, countsFrom, arcFrom, isOf, Progress, opening, within, closed, due, emptyTable, itemFaults, kindFaults, bytesFaults, lineFaults, added, onward, Parsed, accepted, decide, atEnd, parseFrom}
+use Rattle.table_format.specs.Parse.{inPlace, isHeader, LineKind, class, initial, terminal, arc, end, codeOf, numberAt, countsFrom, arcFrom, classFrom, lettersFrom, isOf, Progress, opening, within, closed, itemDue, due, tableWith, emptyTable, itemFaults, kindFaults, bytesFaults, lineFaults, added, onward, Parsed, accepted, decide, atEnd, parseFrom}
 use Rattle.table_format.proofs.All.{All}
 use Rattle.table_format.proofs.Tests.{empty-nil}
-use Rattle.table_format.proofs.Rules.{clear-last, header-clear, initialPasses, terminalPasses, arcPasses}
+use Rattle.table_format.proofs.Rules.{clear-last, header-clear, class-clear, initialPasses, terminalPasses, arcPasses}
 use Rattle.table_format.proofs.Line.{IsByte, Bytes, lineWith, bytes-chars, line-well, line-bytes}
 use Rattle.table_format.proofs.Text.{number-value, arc-says, initial-only, terminal-only, arc-only}
 
@@ -92,20 +92,41 @@ lines-parsed p (l ∷ ls) t e =
 
 -- The kind that is due.
 
-module _ (c : Counts) (t : Table) where
-  pub due-initial : length (t .initials) < c .initials → due c t ≡ initial
-  due-initial h = simp (lt-ltb (length (t .initials)) (c .initials) h)
+-- whether a line is taken as a class's: no initial state has been read, and its first byte is a class's
+abbrev pub asClass : Table → List ℕ → Bool
+asClass t b = isEmpty (t .initials) && eqb (getD b 0 0) (codeOf class)
 
-  pub due-terminal : c .initials ≤ length (t .initials) → length (t .terminals) < c .terminals → due c t ≡ terminal
-  due-terminal h k = simp (le-ltb (length (t .initials)) (c .initials) h, lt-ltb (length (t .terminals)) (c .terminals) k)
+-- after an initial state no line is
+pub no-class : (t : Table) (b : List ℕ) → 0 < length (t .initials) → asClass t b ≡ false
+no-class t b h = go (t .initials) h
+  where
+    go : (is : List ℕ) → 0 < length is → (isEmpty is && eqb (getD b 0 0) (codeOf class)) ≡ false
+    go [] k = absurd (omega arith)
+    go (s ∷ is) k = refl
 
-  pub due-arc : c .initials ≤ length (t .initials) → c .terminals ≤ length (t .terminals) → length (t .arcs) < c .arcs → due c t ≡ arc
-  due-arc h k l =
-      simp (le-ltb (length (t .initials)) (c .initials) h, le-ltb (length (t .terminals)) (c .terminals) k, lt-ltb (length (t .arcs)) (c .arcs) l)
+module _ (c : Counts) (t : Table) (b : List ℕ) where
+  pub due-class : asClass t b ≡ true → due c t b ≡ class
+  due-class h = ap (λ (x : Bool). cond x class (itemDue c t)) h
 
-  pub due-end : c .initials ≤ length (t .initials) → c .terminals ≤ length (t .terminals) → c .arcs ≤ length (t .arcs) → due c t ≡ end
-  due-end h k l =
-      simp (le-ltb (length (t .initials)) (c .initials) h, le-ltb (length (t .terminals)) (c .terminals) k, le-ltb (length (t .arcs)) (c .arcs) l)
+  module _ (none : asClass t b ≡ false) where
+    pub due-item : due c t b ≡ itemDue c t
+    due-item = ap (λ (x : Bool). cond x class (itemDue c t)) none
+
+    pub due-initial : length (t .initials) < c .initials → due c t b ≡ initial
+    due-initial h = due-item ∙ simp (lt-ltb (length (t .initials)) (c .initials) h)
+
+    pub due-terminal : c .initials ≤ length (t .initials) → length (t .terminals) < c .terminals → due c t b ≡ terminal
+    due-terminal h k = due-item ∙ simp (le-ltb (length (t .initials)) (c .initials) h, lt-ltb (length (t .terminals)) (c .terminals) k)
+
+    pub due-arc : c .initials ≤ length (t .initials) → c .terminals ≤ length (t .terminals) → length (t .arcs) < c .arcs → due c t b ≡ arc
+    due-arc h k l =
+        due-item
+        ∙ simp (le-ltb (length (t .initials)) (c .initials) h, le-ltb (length (t .terminals)) (c .terminals) k, lt-ltb (length (t .arcs)) (c .arcs) l)
+
+    pub due-end : c .initials ≤ length (t .initials) → c .terminals ≤ length (t .terminals) → c .arcs ≤ length (t .arcs) → due c t b ≡ end
+    due-end h k l =
+        due-item
+        ∙ simp (le-ltb (length (t .initials)) (c .initials) h, le-ltb (length (t .terminals)) (c .terminals) k, le-ltb (length (t .arcs)) (c .arcs) l)
 
 -- a line in its place earns what it says
 place-clear : (x : Bool) (faults : List InputCause) → isEmpty (inPlace x faults) ≡ (x && isEmpty faults)
@@ -113,7 +134,7 @@ place-clear true faults = refl
 place-clear false faults = refl
 
 -- what a line earns at a place where its kind is due, and where it leads
-module _ (c : Counts) (t : Table) (k : LineKind) (here : due c t ≡ k) (b : List ℕ) where
+module _ (c : Counts) (t : Table) (k : LineKind) (b : List ℕ) (here : due c t b ≡ k) where
   pub faults-due : isEmpty (bytesFaults (within c t) b) ≡ (isOf k b && isEmpty (itemFaults k t b))
   unfolding bytesFaults
   faults-due = ap (λ (x : LineKind). isEmpty (kindFaults x t b)) here ∙ place-clear (isOf k b) (itemFaults k t b)
@@ -123,7 +144,7 @@ module _ (c : Counts) (t : Table) (k : LineKind) (here : due c t ≡ k) (b : Lis
   onward-due = ap (λ (x : LineKind). added x c t b) here
 
 -- The items of one kind, in lines one after the other: a table with those so far, their bytes, what bytes say, and the test that each
--- item passes.
+-- item passes. Neither their lines nor any line after one of them is taken as a class's.
 pub record Phase (c : Counts) (A : Type 0) : Type 0 where
   pub kind : LineKind
   pub count : ℕ
@@ -131,18 +152,20 @@ pub record Phase (c : Counts) (A : Type 0) : Type 0 where
   pub bytes : A → List ℕ
   pub item : List ℕ → A
   pub test : List A → A → Bool
-  pub is-due : (before : List A) → length before < count → due c (with before) ≡ kind
+  pub own : (before : List A) (x : A) → asClass (with before) (bytes x) ≡ false
+  pub later : (before : List A) (x : A) (b : List ℕ) → asClass (with (before ++ (x ∷ []))) b ≡ false
+  pub is-due : (before : List A) (b : List ℕ) → asClass (with before) b ≡ false → length before < count → due c (with before) b ≡ kind
   pub adds : (before : List A) (b : List ℕ) → added kind c (with before) b ≡ within c (with (before ++ (item b ∷ [])))
   pub judges : (before : List A) (b : List ℕ) → isEmpty (itemFaults kind (with before) b) ≡ test before (item b)
   pub is-kind : (x : A) → isOf kind (bytes x) ≡ true
   pub says : (x : A) → item (bytes x) ≡ x
   pub only : (b : List ℕ) → All IsByte b → isOf kind b ≡ true → b ≡ bytes (item b)
 
--- a table by its parts
-abbrev pub tableWith : ℕ → List ℕ → List ℕ → List Arc → Table
-tableWith states initials terminals arcs = record { states = states; initials = initials; terminals = terminals; arcs = arcs }
+-- What each kind of line is judged by.
 
--- The three kinds of items.
+pub judges-class : (t : Table) (b : List ℕ) → isEmpty (itemFaults class t b) ≡ classHolds (t .classes) (classFrom b) (lettersFrom b)
+unfolding itemFaults
+judges-class t b = class-clear (t .classes) (classFrom b) (lettersFrom b)
 
 pub judges-initial : (t : Table) (b : List ℕ) → isEmpty (itemFaults initial t b) ≡ initialPasses (t .states) (t .initials) (numberAt b 1)
 unfolding itemFaults
@@ -152,61 +175,70 @@ pub judges-terminal : (t : Table) (b : List ℕ) → isEmpty (itemFaults termina
 unfolding itemFaults
 judges-terminal t b = refl
 
-pub judges-arc : (t : Table) (b : List ℕ) → isEmpty (itemFaults arc t b) ≡ arcPasses (t .states) (t .arcs) (arcFrom b)
+pub judges-arc : (t : Table) (b : List ℕ) → isEmpty (itemFaults arc t b) ≡ arcPasses (t .states) (t .classes) (t .arcs) (arcFrom b)
 unfolding itemFaults
 judges-arc t b = refl
 
-module _ (c : Counts) (s : ℕ) where
+-- The three kinds of items.
+
+module _ (c : Counts) (s : ℕ) (rows : List (List ℕ)) where
   abbrev pub initialPhase : Phase c ℕ
   initialPhase =
       record {
         kind = initial;
         count = c .initials;
-        with = λ is. tableWith s is [] [];
+        with = λ is. tableWith s rows is [] [];
         bytes = initialBytes;
         item = λ b. numberAt b 1;
         test = initialPasses s;
-        is-due = λ is h. due-initial c (tableWith s is [] []) h;
+        own = λ is x. and-false (isEmpty is);
+        later = λ is x b. no-class (tableWith s rows (is ++ (x ∷ [])) [] []) b (omega (arith, length-append is (x ∷ [])));
+        is-due = λ is b n h. due-initial c (tableWith s rows is [] []) b n h;
         adds = λ is b. refl;
-        judges = λ is b. judges-initial (tableWith s is [] []) b;
+        judges = λ is b. judges-initial (tableWith s rows is [] []) b;
         is-kind = λ x. refl;
         says = number-value;
         only = initial-only;
       }
 
-  abbrev pub terminalPhase : (is : List ℕ) → c .initials ≤ length is → Phase c ℕ
-  terminalPhase is all =
-      record {
-        kind = terminal;
-        count = c .terminals;
-        with = λ ts. tableWith s is ts [];
-        bytes = terminalBytes;
-        item = λ b. numberAt b 1;
-        test = terminalPasses s;
-        is-due = λ ts h. due-terminal c (tableWith s is ts []) all h;
-        adds = λ ts b. refl;
-        judges = λ ts b. judges-terminal (tableWith s is ts []) b;
-        is-kind = λ x. refl;
-        says = number-value;
-        only = terminal-only;
-      }
+  module _ (is : List ℕ) (some : 0 < length is) (all : c .initials ≤ length is) where
+    abbrev pub terminalPhase : Phase c ℕ
+    terminalPhase =
+        record {
+          kind = terminal;
+          count = c .terminals;
+          with = λ ts. tableWith s rows is ts [];
+          bytes = terminalBytes;
+          item = λ b. numberAt b 1;
+          test = terminalPasses s;
+          own = λ ts x. no-class (tableWith s rows is ts []) (terminalBytes x) some;
+          later = λ ts x b. no-class (tableWith s rows is (ts ++ (x ∷ [])) []) b some;
+          is-due = λ ts b n h. due-terminal c (tableWith s rows is ts []) b n all h;
+          adds = λ ts b. refl;
+          judges = λ ts b. judges-terminal (tableWith s rows is ts []) b;
+          is-kind = λ x. refl;
+          says = number-value;
+          only = terminal-only;
+        }
 
-  abbrev pub arcPhase : (is ts : List ℕ) → c .initials ≤ length is → c .terminals ≤ length ts → Phase c Arc
-  arcPhase is ts all full =
-      record {
-        kind = arc;
-        count = c .arcs;
-        with = λ rs. tableWith s is ts rs;
-        bytes = arcBytes;
-        item = arcFrom;
-        test = arcPasses s;
-        is-due = λ rs h. due-arc c (tableWith s is ts rs) all full h;
-        adds = λ rs b. refl;
-        judges = λ rs b. judges-arc (tableWith s is ts rs) b;
-        is-kind = λ x. refl;
-        says = arc-says;
-        only = arc-only;
-      }
+    abbrev pub arcPhase : (ts : List ℕ) → c .terminals ≤ length ts → Phase c Arc
+    arcPhase ts full =
+        record {
+          kind = arc;
+          count = c .arcs;
+          with = λ rs. tableWith s rows is ts rs;
+          bytes = arcBytes;
+          item = arcFrom;
+          test = arcPasses s rows;
+          own = λ rs x. no-class (tableWith s rows is ts rs) (arcBytes x) some;
+          later = λ rs x b. no-class (tableWith s rows is ts (rs ++ (x ∷ []))) b some;
+          is-due = λ rs b n h. due-arc c (tableWith s rows is ts rs) b n all full h;
+          adds = λ rs b. refl;
+          judges = λ rs b. judges-arc (tableWith s rows is ts rs) b;
+          is-kind = λ x. refl;
+          says = arc-says;
+          only = arc-only;
+        }
 
 -- Items of a kind are read from their lines, and read lines are those of items.
 
@@ -214,13 +246,13 @@ module _ {A : Type 0} (c : Counts) (F : Phase c A) where
   abbrev pub readSoFar : List A → Progress
   readSoFar before = within c (F .with before)
 
-  item-clear : (before : List A) (b : List ℕ) → length before < F .count
-      → isEmpty (bytesFaults (readSoFar before) b) ≡ (isOf (F .kind) b && F .test before (F .item b))
-  item-clear before b h =
-      faults-due c (F .with before) (F .kind) (F .is-due before h) b ∙ ap (λ (x : Bool). isOf (F .kind) b && x) (F .judges before b)
+  module _ (before : List A) (b : List ℕ) (none : asClass (F .with before) b ≡ false) (h : length before < F .count) where
+    item-clear : isEmpty (bytesFaults (readSoFar before) b) ≡ (isOf (F .kind) b && F .test before (F .item b))
+    item-clear =
+        faults-due c (F .with before) (F .kind) b (F .is-due before b none h) ∙ ap (λ (x : Bool). isOf (F .kind) b && x) (F .judges before b)
 
-  item-onward : (before : List A) (b : List ℕ) → length before < F .count → onward (readSoFar before) b ≡ readSoFar (before ++ (F .item b ∷ []))
-  item-onward before b h = onward-due c (F .with before) (F .kind) (F .is-due before h) b ∙ F .adds before b
+    item-onward : onward (readSoFar before) b ≡ readSoFar (before ++ (F .item b ∷ []))
+    item-onward = onward-due c (F .with before) (F .kind) b (F .is-due before b none h) ∙ F .adds before b
 
   pub parse-items : (before xs : List A) (bs : List (List ℕ)) → length before + length xs ≤ F .count → each (F .test) before xs ≡ true
       → parseBytes (readSoFar before) (map (F .bytes) xs ++ bs) ≡ parseBytes (readSoFar (before ++ xs)) bs
@@ -230,9 +262,9 @@ module _ {A : Type 0} (c : Counts) (F : Phase c A) where
       let p = and-eq-true-iff (F .test before x) (each (F .test) (before ++ (x ∷ [])) xs) .0 e in
       let passes : F .test before (F .item (F .bytes x)) ≡ true = ap (F .test before) (F .says x) ∙ p .0 in
       let here : length before < F .count = omega arith in
-      parse-one (readSoFar before) (F .bytes x) _ (item-clear before (F .bytes x) here ∙ ap₂ _&&_ (F .is-kind x) passes)
+      parse-one (readSoFar before) (F .bytes x) _ (item-clear before (F .bytes x) (F .own before x) here ∙ ap₂ _&&_ (F .is-kind x) passes)
       ∙ ap (λ (q : Progress). parseBytes q (map (F .bytes) xs ++ bs))
-      (item-onward before (F .bytes x) here ∙ ap (λ (y : A). readSoFar (before ++ (y ∷ []))) (F .says x))
+      (item-onward before (F .bytes x) (F .own before x) here ∙ ap (λ (y : A). readSoFar (before ++ (y ∷ []))) (F .says x))
       ∙ parse-items (before ++ (x ∷ [])) xs bs (simp length-append (omega arith)) (p .1)
       ∙ ap (λ (l : List A). parseBytes (readSoFar l) bs) (append-assoc before (x ∷ []) xs)
 
@@ -261,10 +293,11 @@ module _ {A : Type 0} (c : Counts) (F : Phase c A) where
         parse = ap (λ (l : List A). parseBytes (readSoFar l) (r .rest)) (sym (append-assoc before (F .item b ∷ []) (r .items))) ∙ r .parse;
       }
 
-  pub items-parsed : (n : ℕ) (before : List A) (bs : List (List ℕ)) (t : Table) → length before + n ≡ F .count → All (All IsByte) bs
-      → parseBytes (readSoFar before) bs ≡ accepted t → Items before n bs t
+  -- where the first line is none of a class
+  pub items-parsed : (n : ℕ) (before : List A) (bs : List (List ℕ)) (t : Table) → asClass (F .with before) (getD bs 0 []) ≡ false
+      → length before + n ≡ F .count → All (All IsByte) bs → parseBytes (readSoFar before) bs ≡ accepted t → Items before n bs t
   unfolding each parseBytes
-  items-parsed zero before bs t h small e =
+  items-parsed zero before bs t none h small e =
       record {
         items = [];
         size = refl;
@@ -274,14 +307,14 @@ module _ {A : Type 0} (c : Counts) (F : Phase c A) where
         small = small;
         parse = ap (λ (l : List A). parseBytes (readSoFar l) bs) (append-nil before) ∙ e;
       }
-  items-parsed (suc n) before [] t h small e = let z : _≡_ {A = ℕ} 0 1 = cc in absurd (omega arith)
-  items-parsed (suc n) before (b ∷ bs) t h small e =
+  items-parsed (suc n) before [] t none h small e = let z : _≡_ {A = ℕ} 0 1 = cc in absurd (omega arith)
+  items-parsed (suc n) before (b ∷ bs) t none h small e =
       let here : length before < F .count = omega arith in
       let d = one-parsed (readSoFar before) b bs t e in
-      let k = and-eq-true-iff (isOf (F .kind) b) (F .test before (F .item b)) .0 (sym (item-clear before b here) ∙ d .0) in
+      let k = and-eq-true-iff (isOf (F .kind) b) (F .test before (F .item b)) .0 (sym (item-clear before b none here) ∙ d .0) in
       item-parsed n before b bs t (small .0) (k .0) (k .1)
-      (items-parsed n (before ++ (F .item b ∷ [])) bs t (simp length-append (omega arith)) (small .1)
-      (ap (λ (q : Progress). parseBytes q bs) (sym (item-onward before b here)) ∙ d .1))
+      (items-parsed n (before ++ (F .item b ∷ [])) bs t (F .later before (F .item b) (getD bs 0 [])) (simp length-append (omega arith)) (small .1)
+      (ap (λ (q : Progress). parseBytes q bs) (sym (item-onward before b none here)) ∙ d .1))
 
 -- The header line, and the end line after all items.
 
@@ -293,16 +326,16 @@ pub header-onward : (b : List ℕ) → onward opening b ≡ within (countsFrom b
 unfolding onward
 header-onward b = refl
 
-module _ (t : Table) (b : List ℕ) where
-  here : due (countsOf t) t ≡ end
-  here = due-end (countsOf t) t (omega arith) (omega arith) (omega arith)
+module _ (t : Table) (b : List ℕ) (some : 0 < length (t .initials)) where
+  here : due (countsOf t) t b ≡ end
+  here = due-end (countsOf t) t b (no-class t b some) (omega arith) (omega arith) (omega arith)
 
   pub end-clear : isEmpty (bytesFaults (within (countsOf t) t) b) ≡ (isOf end b && eqb (numberAt b 1) (linesBefore t))
   unfolding itemFaults
-  end-clear = faults-due (countsOf t) t end here b ∙ ap (λ (x : Bool). isOf end b && x) (clear-last (eqb (numberAt b 1) (linesBefore t)) LineCount)
+  end-clear = faults-due (countsOf t) t end b here ∙ ap (λ (x : Bool). isOf end b && x) (clear-last (eqb (numberAt b 1) (linesBefore t)) LineCount)
 
   pub end-onward : onward (within (countsOf t) t) b ≡ closed t
-  end-onward = onward-due (countsOf t) t end here b
+  end-onward = onward-due (countsOf t) t end b here
 
 -- after the end line no line is accepted
 pub closed-parsed : (u t : Table) (bs : List (List ℕ)) → parseBytes (closed u) bs ≡ accepted t → (bs ≡ []) × (u ≡ t)

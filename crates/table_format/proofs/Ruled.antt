@@ -10,12 +10,14 @@ use lib.Seq.{getD-take, length-take-le}
 use lib.Dec.{eqb, leb, ltb}
 use borrow.Author.Tests.{leb-true, ltb-true, ltb-false, eqb-true, le-leb, lt-ltb, eq-eqb, not-true}
 use Rattle.table_format.specs.Table.{Arc, Table, countsOf}
-use Rattle.table_format.specs.Rules.{any, lastIs, each, countsHold, stateHolds, letterHolds, initialIsNew, terminalRises, sourceHolds, sameArc, arcIsNew, keepsRules}
-pub use Rattle.table_format.specs.Ruled.{Differ, Rise, AtLeast, Ruled}
+use Rattle.table_format.specs.Rules.{any, lastIs, each, countsHold, stateHolds, letterHolds, arcClassHolds, initialIsNew, terminalRises, sourceHolds, sameArc, arcIsNew, keepsRules}
+pub use Rattle.table_format.specs.Ruled.{Differ, Rise, AtLeast, ClassRow, Ruled}
 use Rattle.table_format.proofs.Tests.{and-left, and-right, and-both, and-four}
-use Rattle.table_format.proofs.All.{all-mem, at-mem}
+use Rattle.table_format.proofs.All.{all-mem, all-each, at-mem}
 use Rattle.table_format.proofs.Each.{any-none, any-some, last-snoc, last-take, each-at, each-last, each-from, each-weaken}
-use Rattle.table_format.proofs.Rules.{initialPasses, terminalPasses, arcPasses, initial-clear, terminal-clear, arc-clear, Keeps, keeps-parts, Bounded, table-bounded, ArcBounded, initials-below, terminals-below, arcs-bounded, arcs-rise}
+use Rattle.table_format.specs.Classes.{isPlain}
+use Rattle.table_format.proofs.Classes.{classes-are, plain-holds, class-holds}
+use Rattle.table_format.proofs.Rules.{initialPasses, terminalPasses, arcPasses, initial-clear, terminal-clear, ArcKeeps, arc-parts, Keeps, keeps-parts, Bounded, table-bounded, ArcBounded, initials-below, terminals-below, arcs-bounded, arcs-rise}
 
 -- Elements that are none of those before them differ, and the other way round.
 
@@ -60,11 +62,14 @@ last-from test d xs f (suc i) h = last-take (λ y. test y (getD xs (suc i) d)) d
 initial-new : (states : ℕ) (before : List ℕ) (s : ℕ) → initialPasses states before s ≡ true → any (λ r. eqb r s) before ≡ false
 initial-new states before s e = not-true _ (and-right (stateHolds states s) (initialIsNew before s) (sym (initial-clear states before s) ∙ e))
 
-arc-new : (states : ℕ) (before : List Arc) (a : Arc) → arcPasses states before a ≡ true → any (λ b. sameArc b a) before ≡ false
-arc-new states before a e =
-    not-true _
-    (and-four (stateHolds states (a .source) && stateHolds states (a .target)) (letterHolds (a .upper) && letterHolds (a .lower)) (sourceHolds before a) (arcIsNew before a)
-    (sym (arc-clear states before a) ∙ e) .3)
+arc-new : (states : ℕ) (rows : List (List ℕ)) (before : List Arc) (a : Arc) → arcPasses states rows before a ≡ true → any (λ b. sameArc b a) before ≡ false
+arc-new states rows before a e = not-true _ (arc-parts states rows before a .0 e .new)
+
+-- an arc's class holds
+class-kept : (t : Table) → keepsRules t ≡ true → (a : Arc) → List·Memᴰ a (t .arcs) → arcClassHolds (t .classes) a ≡ true
+class-kept t e =
+    all-mem (λ a. arcClassHolds (t .classes) a ≡ true) (t .arcs)
+    (all-each _ (arcPasses (t .states) (t .classes)) (λ before a k. arc-parts (t .states) (t .classes) before a .0 k .class-holds) [] (t .arcs) (keeps-parts t .0 e .arcs))
 
 same-arc-refl : (a : Arc) → sameArc a a ≡ true
 same-arc-refl a = rw (eq-eqb (a .source) (a .source) refl, eq-eqb (a .upper) (a .upper) refl, eq-eqb (a .lower) (a .lower) refl, eq-eqb (a .target) (a .target) refl)
@@ -99,8 +104,12 @@ ruled t e =
       target-in = λ a m. arc a m .target;
       upper-in = λ a m. arc a m .upper;
       lower-in = λ a m. arc a m .lower;
-      rising = rises 0 [] (t .arcs) (λ a h. omega arith) (arcs-rise (t .states) (t .arcs) (k .arcs));
-      arcs-differ = each-differ sameArc _ same-arc-refl (arc-new (t .states)) (t .arcs) (k .arcs);
+      eight-rows = classes-are (t .classes) .0 (k .classes) .0;
+      row-in = classes-are (t .classes) .0 (k .classes) .1;
+      class-alike = λ a m p. class-holds (t .classes) a p .0 (class-kept t e a m) .0;
+      class-defined = λ a m p. class-holds (t .classes) a p .0 (class-kept t e a m) .1;
+      rising = rises 0 [] (t .arcs) (λ a h. omega arith) (arcs-rise (t .states) (t .classes) (t .arcs) (k .arcs));
+      arcs-differ = each-differ sameArc _ same-arc-refl (arc-new (t .states) (t .classes)) (t .arcs) (k .arcs);
       initials-differ = each-differ eqb _ (λ s. eq-eqb s s refl) (initial-new (t .states)) (t .initials) (k .initials);
     }
   where
@@ -162,20 +171,32 @@ module _ (t : Table) (R : Ruled t) where
   abbrev none : Arc
   none = record { source = 0; upper = 0; lower = 0; target = 0 }
 
-  arcs-kept : each (arcPasses (t .states)) [] (t .arcs) ≡ true
+  class-of : (a : Arc) → List·Memᴰ a (t .arcs) → arcClassHolds (t .classes) a ≡ true
+  class-of a m = go (isPlain a) refl
+    where
+      go : (b : Bool) → isPlain a ≡ b → arcClassHolds (t .classes) a ≡ true
+      go true p = plain-holds (t .classes) a p
+      go false p = class-holds (t .classes) a p .1 (R .class-alike a m p, R .class-defined a m p)
+
+  arcs-kept : each (arcPasses (t .states) (t .classes)) [] (t .arcs) ≡ true
   arcs-kept =
-      each-from (arcPasses (t .states)) none (t .arcs)
+      each-from (arcPasses (t .states) (t .classes)) none (t .arcs)
       (λ k h.
       let a = getD (t .arcs) k none in
       let m = at-mem (t .arcs) k none h in
-      arc-clear (t .states) (take k (t .arcs)) a
-      ∙ and-both (and-both (lt-ltb _ _ (R .source-in a m)) (lt-ltb _ _ (R .target-in a m)))
-      (and-both (and-both (le-leb _ _ (R .upper-in a m)) (le-leb _ _ (R .lower-in a m)))
-      (and-both (last-from (λ b c. leb (b .source) (c .source)) none (t .arcs) (λ i g. le-leb _ _ (source-next none 0 (t .arcs) (R .rising) i g)) k h)
-      (ap not (differ-new sameArc same-arc-eq (t .arcs) (R .arcs-differ) none k h)))))
+      let u : a .upper ≤ 71 = R .upper-in a m in
+      let l : a .lower ≤ 71 = R .lower-in a m in
+      arc-parts (t .states) (t .classes) (take k (t .arcs)) a .1
+      (record {
+        states-hold = and-both (lt-ltb _ _ (R .source-in a m)) (lt-ltb _ _ (R .target-in a m));
+        letters-hold = and-both (lt-ltb (a .upper) 72 (omega arith)) (lt-ltb (a .lower) 72 (omega arith));
+        class-holds = class-of a m;
+        source-holds = last-from (λ b c. leb (b .source) (c .source)) none (t .arcs) (λ i g. le-leb _ _ (source-next none 0 (t .arcs) (R .rising) i g)) k h;
+        new = ap not (differ-new sameArc same-arc-eq (t .arcs) (R .arcs-differ) none k h);
+      }))
 
 pub kept : (t : Table) → Ruled t → keepsRules t ≡ true
-kept t R = keeps-parts t .1 (record { counts = counts-kept t R; initials = initials-kept t R; terminals = terminals-kept t R; arcs = arcs-kept t R })
+kept t R = keeps-parts t .1 (record { counts = counts-kept t R; classes = classes-are (t .classes) .1 (R .eight-rows, R .row-in); initials = initials-kept t R; terminals = terminals-kept t R; arcs = arcs-kept t R })
 
 -- Both together.
 pub rules-are : (t : Table) → (keepsRules t ≡ true) ↔ Ruled t

@@ -4,13 +4,14 @@ use mathlib.Core.Path.{_≡_, refl, sym, _∙_}
 use mathlib.Core.Bool.{Bool, true, false, _&&_, and-eq-true-iff}
 use mathlib.Core.Logic.{_↔_}
 use mathlib.Core.List.{List, [], _++_}
+use native.Mathlib.Omega.{arith}
 use borrow.Author.Tests.{leb-true, ltb-true}
 use Rattle.refusal.specs.declared.InputCause.{InputCause}
-use Rattle.refusal.specs.declared.InputCause.the-variants.{CountLimit}
+use Rattle.refusal.specs.declared.InputCause.the-variants.{CountLimit, ClassFault}
 use Rattle.table_format.specs.Table.{Arc, Table, Counts, countsOf}
-use Rattle.table_format.specs.Rules.{isEmpty, each, countsHold, stateHolds, letterHolds, initialIsNew, terminalRises, sourceHolds, arcIsNew, unless, headerFaults, initialFaults, terminalFaults, arcFaults, arcsKeep, keepsRules}
+use Rattle.table_format.specs.Rules.{isEmpty, each, countsHold, stateHolds, letterHolds, classHolds, arcClassHolds, initialIsNew, terminalRises, sourceHolds, arcIsNew, unless, headerFaults, classFaults, initialFaults, terminalFaults, arcFaults, classesKeep, arcsKeep, keepsRules}
 use Rattle.table_format.proofs.All.{All, all-each}
-use Rattle.table_format.proofs.Tests.{and-four}
+use Rattle.table_format.proofs.Tests.{and-both}
 use Rattle.table_format.proofs.Each.{each-weaken}
 
 -- No refusal is earned where every test is passed.
@@ -36,12 +37,16 @@ module _ (states : ℕ) where
   unfolding terminalFaults
   terminal-clear before s = simp (clear-more, clear-last)
 
-  pub arc-clear : (before : List Arc) (a : Arc)
-      → isEmpty (arcFaults states before a)
+  pub arc-clear : (rows : List (List ℕ)) (before : List Arc) (a : Arc)
+      → isEmpty (arcFaults states rows before a)
       ≡ ((stateHolds states (a .source) && stateHolds states (a .target))
-      && ((letterHolds (a .upper) && letterHolds (a .lower)) && (sourceHolds before a && arcIsNew before a)))
+      && ((letterHolds (a .upper) && letterHolds (a .lower)) && (arcClassHolds rows a && (sourceHolds before a && arcIsNew before a))))
   unfolding arcFaults
-  arc-clear before a = simp (clear-more, clear-last)
+  arc-clear rows before a = simp (clear-more, clear-last)
+
+pub class-clear : (rows : List (List ℕ)) (c : ℕ) (letters : List ℕ) → isEmpty (classFaults rows c letters) ≡ classHolds rows c letters
+unfolding classFaults
+class-clear rows c letters = clear-last (classHolds rows c letters) ClassFault
 
 -- The parts of the rules that a table keeps: each item earns no refusal.
 
@@ -51,14 +56,39 @@ initialPasses states before s = isEmpty (initialFaults states before s)
 abbrev pub terminalPasses : ℕ → List ℕ → ℕ → Bool
 terminalPasses states before s = isEmpty (terminalFaults states before s)
 
-abbrev pub arcPasses : ℕ → List Arc → Arc → Bool
-arcPasses states before a = isEmpty (arcFaults states before a)
+abbrev pub arcPasses : ℕ → List (List ℕ) → List Arc → Arc → Bool
+arcPasses states rows before a = isEmpty (arcFaults states rows before a)
+
+-- what an arc that earns no refusal keeps
+pub record ArcKeeps (states : ℕ) (rows : List (List ℕ)) (before : List Arc) (a : Arc) : Type 0 where
+  pub states-hold : (stateHolds states (a .source) && stateHolds states (a .target)) ≡ true
+  pub letters-hold : (letterHolds (a .upper) && letterHolds (a .lower)) ≡ true
+  pub class-holds : arcClassHolds rows a ≡ true
+  pub source-holds : sourceHolds before a ≡ true
+  pub new : arcIsNew before a ≡ true
+
+pub arc-parts : (states : ℕ) (rows : List (List ℕ)) (before : List Arc) (a : Arc) → (arcPasses states rows before a ≡ true) ↔ ArcKeeps states rows before a
+arc-parts states rows before a = (to, from)
+  where
+    to : arcPasses states rows before a ≡ true → ArcKeeps states rows before a
+    to e =
+        let h = and-eq-true-iff _ _ .0 (sym (arc-clear states rows before a) ∙ e) in
+        let i = and-eq-true-iff _ _ .0 (h .1) in
+        let j = and-eq-true-iff _ _ .0 (i .1) in
+        let k = and-eq-true-iff _ _ .0 (j .1) in
+        record { states-hold = h .0; letters-hold = i .0; class-holds = j .0; source-holds = k .0; new = k .1 }
+
+    from : ArcKeeps states rows before a → arcPasses states rows before a ≡ true
+    from k =
+        arc-clear states rows before a
+        ∙ and-both (k .states-hold) (and-both (k .letters-hold) (and-both (k .class-holds) (and-both (k .source-holds) (k .new))))
 
 pub record Keeps (t : Table) : Type 0 where
   pub counts : countsHold (countsOf t) ≡ true
+  pub classes : classesKeep (t .classes) ≡ true
   pub initials : each (initialPasses (t .states)) [] (t .initials) ≡ true
   pub terminals : each (terminalPasses (t .states)) [] (t .terminals) ≡ true
-  pub arcs : each (arcPasses (t .states)) [] (t .arcs) ≡ true
+  pub arcs : each (arcPasses (t .states) (t .classes)) [] (t .arcs) ≡ true
 
 pub keeps-parts : (t : Table) → (keepsRules t ≡ true) ↔ Keeps t
 unfolding keepsRules
@@ -69,10 +99,11 @@ keeps-parts t = (to, from)
         let h = and-eq-true-iff _ _ .0 e in
         let i = and-eq-true-iff _ _ .0 (h .1) in
         let j = and-eq-true-iff _ _ .0 (i .1) in
-        record { counts = sym (header-clear (countsOf t)) ∙ h .0; initials = i .0; terminals = j .0; arcs = j .1 }
+        let k = and-eq-true-iff _ _ .0 (j .1) in
+        record { counts = sym (header-clear (countsOf t)) ∙ h .0; classes = i .0; initials = j .0; terminals = k .0; arcs = k .1 }
 
     from : Keeps t → keepsRules t ≡ true
-    from k = simp (header-clear, k .counts, k .initials, k .terminals, k .arcs)
+    from k = simp (header-clear, k .counts, k .classes, k .initials, k .terminals, k .arcs)
 
 -- Bounds.
 
@@ -102,31 +133,28 @@ counts-bounded c e =
       arcs = leb-true _ _ (l .1);
     }
 
--- an arc between states, with letters up to 63
+-- an arc between states, with letters up to 71
 pub record ArcBounded (states : ℕ) (a : Arc) : Type 0 where
   pub source : a .source < states
   pub target : a .target < states
-  pub upper : a .upper ≤ 63
-  pub lower : a .lower ≤ 63
+  pub upper : a .upper ≤ 71
+  pub lower : a .lower ≤ 71
 
-pub arcs-inside : (states : ℕ) (arcs : List Arc) → arcsKeep states arcs ≡ true → All (ArcBounded states) arcs
-arcs-inside states arcs e = all-each _ (arcPasses states) one [] arcs e
+pub arcs-inside : (states : ℕ) (rows : List (List ℕ)) (arcs : List Arc) → arcsKeep states rows arcs ≡ true → All (ArcBounded states) arcs
+arcs-inside states rows arcs e = all-each _ (arcPasses states rows) one [] arcs e
   where
-    one : (before : List Arc) (a : Arc) → arcPasses states before a ≡ true → ArcBounded states a
+    one : (before : List Arc) (a : Arc) → arcPasses states rows before a ≡ true → ArcBounded states a
     one before a e =
-        let h = and-eq-true-iff _ _ .0 (sym (arc-clear states before a) ∙ e) in
-        let s = and-eq-true-iff _ _ .0 (h .0) in
-        let l = and-eq-true-iff _ _ .0 (and-eq-true-iff _ _ .0 (h .1) .0) in
-        record { source = ltb-true _ _ (s .0); target = ltb-true _ _ (s .1); upper = leb-true _ _ (l .0); lower = leb-true _ _ (l .1) }
+        let k = arc-parts states rows before a .0 e in
+        let s = and-eq-true-iff _ _ .0 (k .states-hold) in
+        let l = and-eq-true-iff _ _ .0 (k .letters-hold) in
+        let u : a .upper < 72 = ltb-true _ _ (l .0) in
+        let d : a .lower < 72 = ltb-true _ _ (l .1) in
+        record { source = ltb-true _ _ (s .0); target = ltb-true _ _ (s .1); upper = omega arith; lower = omega arith }
 
 -- arcs that keep the rules have sources that rise
-pub arcs-rise : (n : ℕ) (arcs : List Arc) → arcsKeep n arcs ≡ true → each sourceHolds [] arcs ≡ true
-arcs-rise n arcs e =
-    each-weaken (λ before a. isEmpty (arcFaults n before a)) sourceHolds
-    (λ before a k.
-    and-four (stateHolds n (a .source) && stateHolds n (a .target)) (letterHolds (a .upper) && letterHolds (a .lower)) (sourceHolds before a) (arcIsNew before a)
-    (sym (arc-clear n before a) ∙ k) .2)
-    [] arcs e
+pub arcs-rise : (n : ℕ) (rows : List (List ℕ)) (arcs : List Arc) → arcsKeep n rows arcs ≡ true → each sourceHolds [] arcs ≡ true
+arcs-rise n rows arcs e = each-weaken (arcPasses n rows) sourceHolds (λ before a k. arc-parts n rows before a .0 k .source-holds) [] arcs e
 
 module _ (t : Table) (keeps : keepsRules t ≡ true) where
   parts : Keeps t
@@ -146,4 +174,4 @@ module _ (t : Table) (keeps : keepsRules t ≡ true) where
       (λ before s e. ltb-true _ _ (and-eq-true-iff _ _ .0 (sym (terminal-clear (t .states) before s) ∙ e) .0)) [] (t .terminals) (parts .terminals)
 
   pub arcs-bounded : All (ArcBounded (t .states)) (t .arcs)
-  arcs-bounded = arcs-inside (t .states) (t .arcs) (parts .arcs)
+  arcs-bounded = arcs-inside (t .states) (t .classes) (t .arcs) (parts .arcs)

@@ -1,5 +1,5 @@
 -- Numbers of two bytes, the bytes of each kind of line and what they say, and the length of a table's text.
-use Prim.Native.Nat.{ℕ, zero, suc, _+_, _*_, _/_, _%_, _<_}
+use Prim.Native.Nat.{ℕ, zero, suc, _+_, _*_, _/_, _%_, _<_, _≤_}
 use native.Mathlib.Omega.{arith}
 use mathlib.Core.Path.{_≡_, refl, sym, ap, ap₂, _∙_}
 use mathlib.Core.Bool.{true, and-eq-true-iff}
@@ -7,14 +7,17 @@ use mathlib.Core.List.{List, [], _∷_, _++_, map, append-assoc, append-nil}
 use lib.ListN.{length, getD, length-append}
 use borrow.Author.Tests.{eqb-true}
 use Rattle.table_format.specs.Table.{Arc, Table, Counts, countsOf}
+use Rattle.table_format.specs.Classes.{classCount}
 use Rattle.table_format.specs.Rules.{keepsRules}
 use Rattle.table_format.specs.Index.{tabulate}
 use Rattle.table_format.specs.Line.{lineText, charactersOf}
-use Rattle.table_format.specs.Text.{number, headerBytes, initialBytes, terminalBytes, arcBytes, endBytes, lineBytes, linesBefore, itemLines, joinLines, textOf}
-use Rattle.table_format.specs.Parse.{hasForm, headerKind, isHeader, LineKind, initial, terminal, arc, end, numberAt, countsFrom, arcFrom, codeOf, widthOf, isOf, headerLine, stateLine, arcLine}
+use Rattle.table_format.specs.Text.{number, headerBytes, initialBytes, terminalBytes, arcBytes, endBytes, headerWidth, lineBytes, classLines, linesBefore, itemLines, joinLines, textOf}
+use Rattle.table_format.specs.Parse.{hasForm, headerKind, isHeader, initial, terminal, arc, end, numberAt, countsFrom, arcFrom, codeOf, widthOf, isOf, headerLine, stateLine, arcLine}
 use Rattle.table_format.proofs.All.{All, all-append, all-map, all-getD}
-use Rattle.table_format.proofs.Rules.{Bounded, ArcBounded, table-bounded, initials-below, terminals-below, arcs-bounded}
+use Rattle.table_format.proofs.Rules.{keeps-parts, Bounded, ArcBounded, table-bounded, initials-below, terminals-below, arcs-bounded}
+use Rattle.table_format.proofs.Classes.{rows-hold}
 use Rattle.table_format.proofs.Line.{IsByte, Bytes, length-chars}
+use Rattle.table_format.proofs.ClassLines.{RowKeeps, few-lines, class-lines-bytes, class-lines-size}
 
 -- Numbers of two bytes.
 
@@ -67,7 +70,7 @@ module _ (b : List ℕ) (small : All IsByte b) where
 
   pub header-only : isHeader b ≡ true → b ≡ headerBytes (countsFrom b)
   header-only e =
-      let p = form-parts headerKind lineBytes b e in
+      let p = form-parts headerKind headerWidth b e in
       p .1 ∙ sym (λ i. sym (p .0) i ∷ (number-here 1 i ++ (number-here 3 i ++ (number-here 5 i ++ number-here 7 i))))
 
   pub arc-only : isOf arc b ≡ true → b ≡ arcBytes (arcFrom b)
@@ -76,19 +79,17 @@ module _ (b : List ℕ) (small : All IsByte b) where
       p .1 ∙ sym (λ i. sym (p .0) i ∷ (number-here 1 i ++ (getD b 3 0 ∷ getD b 4 0 ∷ number-here 5 i)))
 
   -- a line of one number
-  short-only : (k : LineKind) → widthOf k ≡ widthOf initial → isOf k b ≡ true → b ≡ codeOf k ∷ number (numberAt b 1)
-  short-only k w e =
-      let p = form-parts (codeOf k) (widthOf k) b e in
-      p .1 ∙ ap (tabulate (λ i. getD b i 0) 0) w ∙ sym (λ i. sym (p .0) i ∷ number-here 1 i)
+  short-only : (code : ℕ) → hasForm code (widthOf initial) b ≡ true → b ≡ code ∷ number (numberAt b 1)
+  short-only code e = let p = form-parts code (widthOf initial) b e in p .1 ∙ sym (λ i. sym (p .0) i ∷ number-here 1 i)
 
   pub initial-only : isOf initial b ≡ true → b ≡ initialBytes (numberAt b 1)
-  initial-only = short-only initial refl
+  initial-only = short-only (codeOf initial)
 
   pub terminal-only : isOf terminal b ≡ true → b ≡ terminalBytes (numberAt b 1)
-  terminal-only = short-only terminal refl
+  terminal-only = short-only (codeOf terminal)
 
   pub end-only : isOf end b ≡ true → b ≡ endBytes (numberAt b 1)
-  end-only = short-only end refl
+  end-only = short-only (codeOf end)
 
 -- The lines of a table that keeps the rules say bytes.
 
@@ -114,8 +115,22 @@ module _ (t : Table) (keeps : keepsRules t ≡ true) where
       let b = bounds in
       all-map (ArcBounded (t .states)) Bytes arcBytes (λ a h. record { some = refl; small = omega arith }) (t .arcs) (arcs-bounded t keeps)
 
+  rows-keep : (length (t .classes) ≡ classCount) × All RowKeeps (t .classes)
+  rows-keep = rows-hold (t .classes) .0 (keeps-parts t .0 keeps .classes)
+
+  classes-bytes : All Bytes (classLines 0 (t .classes))
+  classes-bytes = let h : length (t .classes) ≡ classCount = rows-keep .0 in class-lines-bytes 0 (t .classes) (omega arith) (rows-keep .1)
+
   pub lines-below : linesBefore t < 65536
-  lines-below = let b = bounds in omega arith
+  lines-below = let b = bounds in let h : length (t .classes) ≡ classCount = rows-keep .0 in omega (arith, few-lines 0 (t .classes))
+
+  -- "there are 0 to 8"
+  pub classes-few : length (classLines 0 (t .classes)) ≤ classCount
+  classes-few = let h : length (t .classes) ≡ classCount = rows-keep .0 in omega (arith, few-lines 0 (t .classes))
+
+  -- the characters of the class lines
+  pub classes-size : length (joinLines (classLines 0 (t .classes))) ≤ classCount * charactersOf lineBytes
+  classes-size = let h : length (t .classes) ≡ classCount = rows-keep .0 in omega (arith, class-lines-size 0 (t .classes) (rows-keep .1))
 
   end-bytes : Bytes (endBytes (linesBefore t))
   end-bytes = let h : linesBefore t < 65536 = lines-below in record { some = refl; small = omega arith }
@@ -124,9 +139,10 @@ module _ (t : Table) (keeps : keepsRules t ≡ true) where
   unfolding itemLines
   lines-bytes = (
     header-bytes,
-    all-append Bytes (map initialBytes (t .initials)) _ initials-bytes
+    all-append Bytes (classLines 0 (t .classes)) _ classes-bytes
+        (all-append Bytes (map initialBytes (t .initials)) _ initials-bytes
         (all-append Bytes (map terminalBytes (t .terminals)) _ terminals-bytes
-        (all-append Bytes (map arcBytes (t .arcs)) (endBytes (linesBefore t) ∷ []) arcs-bytes (end-bytes, tt))),
+        (all-append Bytes (map arcBytes (t .arcs)) (endBytes (linesBefore t) ∷ []) arcs-bytes (end-bytes, tt)))),
   )
 
 -- The parts of a table's text, and its length.
@@ -139,17 +155,20 @@ join-append (b ∷ bs) cs = ap (λ (l : List ℕ). lineText b ++ l) (join-append
 pub text-parts : (t : Table)
     → textOf t
     ≡ lineText (headerBytes (countsOf t))
+    ++ (joinLines (classLines 0 (t .classes))
     ++ (joinLines (map initialBytes (t .initials))
-    ++ (joinLines (map terminalBytes (t .terminals)) ++ (joinLines (map arcBytes (t .arcs)) ++ lineText (endBytes (linesBefore t)))))
+    ++ (joinLines (map terminalBytes (t .terminals)) ++ (joinLines (map arcBytes (t .arcs)) ++ lineText (endBytes (linesBefore t))))))
 unfolding textOf itemLines joinLines
 text-parts t =
     ap (λ (l : List ℕ). lineText (headerBytes (countsOf t)) ++ l)
+    (join-append (classLines 0 (t .classes)) _
+    ∙ ap (λ (l : List ℕ). joinLines (classLines 0 (t .classes)) ++ l)
     (join-append (map initialBytes (t .initials)) _
     ∙ ap (λ (l : List ℕ). joinLines (map initialBytes (t .initials)) ++ l)
     (join-append (map terminalBytes (t .terminals)) _
     ∙ ap (λ (l : List ℕ). joinLines (map terminalBytes (t .terminals)) ++ l)
     (join-append (map arcBytes (t .arcs)) _
-    ∙ ap (λ (l : List ℕ). joinLines (map arcBytes (t .arcs)) ++ l) (append-nil (lineText (endBytes (linesBefore t)))))))
+    ∙ ap (λ (l : List ℕ). joinLines (map arcBytes (t .arcs)) ++ l) (append-nil (lineText (endBytes (linesBefore t))))))))
 
 pub length-lines : {A : Type 0} (f : A → List ℕ) (w : ℕ) → ((x : A) → length (f x) ≡ w) → (xs : List A)
     → length (joinLines (map f xs)) ≡ charactersOf w * length xs
@@ -157,7 +176,7 @@ unfolding joinLines
 length-lines f w law [] = omega arith
 length-lines f w law (x ∷ xs) = simp (length-append, length-chars, law, length-lines f w law xs) (omega arith)
 
-pub length-text : (t : Table) → length (textOf t) ≡ headerLine + stateLine * length (t .initials) + stateLine * length (t .terminals) + arcLine * length (t .arcs) + stateLine
+pub length-text : (t : Table) → length (textOf t) ≡ headerLine + length (joinLines (classLines 0 (t .classes))) + stateLine * length (t .initials) + stateLine * length (t .terminals) + arcLine * length (t .arcs) + stateLine
 length-text t =
     let is : length (joinLines (map initialBytes (t .initials))) ≡ stateLine * length (t .initials) = length-lines initialBytes (widthOf initial) (λ s. refl) (t .initials) in
     let ts : length (joinLines (map terminalBytes (t .terminals))) ≡ stateLine * length (t .terminals) = length-lines terminalBytes (widthOf terminal) (λ s. refl) (t .terminals) in

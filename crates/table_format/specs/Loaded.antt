@@ -1,5 +1,5 @@
--- A loaded table: a list of cells that begins with the four counts, the initial states, the terminal states, and four cells an arc
--- (source, upper letter, lower letter, target). The list may be longer than the table.
+-- A loaded table: a list of cells that begins with the four counts, the eight rows of the classes, the initial states, the terminal states,
+-- and four cells an arc (source, upper letter, lower letter, target). The list may be longer than the table.
 use Prim.Native.Nat.{ℕ, zero, suc, _+_, _*_}
 use mathlib.Core.Bool.{cond, _&&_}
 use mathlib.Core.Option.{Option, none, some}
@@ -7,15 +7,24 @@ use mathlib.Core.List.{List, [], _∷_, _++_}
 use lib.Dec.{leb}
 use lib.ListN.{length, getD, take, drop}
 use Rattle.table_format.specs.Table.{Arc, Table, Counts, countsOf}
+use Rattle.table_format.specs.Classes.{classCount, rowWidth}
 use Rattle.table_format.specs.Rules.{keepsRules}
 
 -- the cells of an arc
 abbrev pub arcWidth : ℕ
 arcWidth = 4
 
--- where the initial states begin, after the counts
+-- where the classes begin, after the counts
+abbrev pub classesAt : ℕ
+classesAt = 4
+
+-- the cells of the classes
+abbrev pub classCells : ℕ
+classCells = classCount * rowWidth
+
+-- where the initial states begin, after the classes
 abbrev pub initialsAt : ℕ
-initialsAt = 4
+initialsAt = classesAt + classCells
 
 -- the most cells of a table: 256 initial states, 256 terminal states, 1,024 arcs
 abbrev pub mostCells : ℕ
@@ -33,8 +42,13 @@ unfoldable pub arcsCells : List Arc → List ℕ
 arcsCells [] = []
 arcsCells (a ∷ rest) = arcCells a ++ arcsCells rest
 
+-- rows one after another
+unfoldable pub rowsCells : List (List ℕ) → List ℕ
+rowsCells [] = []
+rowsCells (row ∷ rows) = row ++ rowsCells rows
+
 unfoldable pub cellsOf : Table → List ℕ
-cellsOf t = countCells (countsOf t) ++ (t .initials ++ (t .terminals ++ arcsCells (t .arcs)))
+cellsOf t = countCells (countsOf t) ++ (rowsCells (t .classes) ++ (t .initials ++ (t .terminals ++ arcsCells (t .arcs))))
 
 -- From cells to the table that they begin with.
 
@@ -47,6 +61,15 @@ arcIn cells = record { source = getD cells 0 0; upper = getD cells 1 0; lower = 
 unfoldable pub arcsIn : ℕ → List ℕ → List Arc
 arcsIn zero cells = []
 arcsIn (suc n) cells = arcIn cells ∷ arcsIn n (drop arcWidth cells)
+
+-- n rows
+unfoldable pub rowsIn : ℕ → List ℕ → List (List ℕ)
+rowsIn zero cells = []
+rowsIn (suc n) cells = take rowWidth cells ∷ rowsIn n (drop rowWidth cells)
+
+-- the classes of a loaded table
+abbrev pub classesIn : List ℕ → List (List ℕ)
+classesIn cells = rowsIn classCount (drop classesAt cells)
 
 -- where the terminal states and the arcs begin, and how many cells there are in all
 abbrev pub terminalsAt : Counts → ℕ
@@ -62,6 +85,7 @@ unfoldable pub tableIn : List ℕ → Table
 tableIn cells =
     record {
       states = countsIn cells .states;
+      classes = classesIn cells;
       initials = take (countsIn cells .initials) (drop initialsAt cells);
       terminals = take (countsIn cells .terminals) (drop (terminalsAt (countsIn cells)) cells);
       arcs = arcsIn (countsIn cells .arcs) (drop (arcsAt (countsIn cells)) cells);

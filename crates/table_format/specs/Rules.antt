@@ -1,12 +1,15 @@
--- Document 01, "Turned down for the input", 3 to 8: for a header and for each item of a table, the refusals that it earns, lowest
--- number first. An item is judged by the table's states and by the items of its kind before it.
+-- Document 01, "Turned down for the input", 3 to 8, and document 02's 34: for a header and for each item of a table, the refusals that it
+-- earns, by rising number but for 34, which is "looked for right after 5". An item is judged by the table's states and classes and by the
+-- items of its kind before it.
 use Prim.Native.Nat.{ℕ}
 use mathlib.Core.Bool.{Bool, true, false, not, _&&_, _||_}
 use mathlib.Core.List.{List, [], _∷_, _++_}
 use lib.Dec.{eqb, leb, ltb}
+use lib.ListN.{length, drop}
 use Rattle.refusal.specs.declared.InputCause.{InputCause}
-use Rattle.refusal.specs.declared.InputCause.the-variants.{CountLimit, StateNumber, LetterLimit, StateOrder, SourceOrder, ArcRepeated}
+use Rattle.refusal.specs.declared.InputCause.the-variants.{CountLimit, StateNumber, LetterLimit, StateOrder, SourceOrder, ArcRepeated, ClassFault}
 use Rattle.table_format.specs.Table.{Arc, Table, Counts, countsOf}
+use Rattle.table_format.specs.Classes.{classCount, rowWidth, lettersIn, isDefined, isPlain, rowOf}
 
 -- Tests on lists.
 
@@ -42,9 +45,22 @@ countsHold c =
 abbrev pub stateHolds : ℕ → ℕ → Bool
 stateHolds states s = ltb s states
 
--- 5: an arc's letter is at most 63
+-- 5: "begins at 72"
 abbrev pub letterHolds : ℕ → Bool
-letterHolds x = leb x 63
+letterHolds x = ltb x 72
+
+-- 34: letters from 1 to 63, the first above m, each other above the one before it
+abbrev pub lettersRise : ℕ → List ℕ → Bool
+lettersRise m [] = true
+lettersRise m (x ∷ xs) = (ltb m x && leb x 63) && lettersRise x xs
+
+-- 34: a class is one of 0 to 7, none of those from it on is defined yet ("by rising class"), and its letters rise
+unfoldable pub classHolds : List (List ℕ) → ℕ → List ℕ → Bool
+classHolds rows c letters = ltb c classCount && (not (any isDefined (drop c rows)) && lettersRise 0 letters)
+
+-- 34: an arc has no class, or a defined one, the same on both sides
+unfoldable pub arcClassHolds : List (List ℕ) → Arc → Bool
+arcClassHolds rows a = isPlain a || (eqb (a .upper) (a .lower) && isDefined (rowOf rows (a .upper)))
 
 -- 6: an initial state is not among those before it
 abbrev pub initialIsNew : List ℕ → ℕ → Bool
@@ -80,16 +96,31 @@ initialFaults states before s = unless (stateHolds states s) StateNumber ++ unle
 unfoldable pub terminalFaults : ℕ → List ℕ → ℕ → List InputCause
 terminalFaults states before s = unless (stateHolds states s) StateNumber ++ unless (terminalRises before s) StateOrder
 
--- what an arc earns, by whether its states, its letters and its source hold, and whether it is new
-abbrev pub arcEarns : Bool → Bool → Bool → Bool → List InputCause
-arcEarns states letters source new = unless states StateNumber ++ (unless letters LetterLimit ++ (unless source SourceOrder ++ unless new ArcRepeated))
+unfoldable pub classFaults : List (List ℕ) → ℕ → List ℕ → List InputCause
+classFaults rows c letters = unless (classHolds rows c letters) ClassFault
 
-unfoldable pub arcFaults : ℕ → List Arc → Arc → List InputCause
-arcFaults states before a =
-    arcEarns (stateHolds states (a .source) && stateHolds states (a .target)) (letterHolds (a .upper) && letterHolds (a .lower)) (sourceHolds before a)
-    (arcIsNew before a)
+-- what an arc earns, by whether its states, its letters, its class and its source hold, and whether it is new
+abbrev pub arcEarns : Bool → Bool → Bool → Bool → Bool → List InputCause
+arcEarns states letters class source new =
+    unless states StateNumber ++ (unless letters LetterLimit ++ (unless class ClassFault ++ (unless source SourceOrder ++ unless new ArcRepeated)))
 
--- A table keeps the rules where its counts and items earn no refusal.
+unfoldable pub arcFaults : ℕ → List (List ℕ) → List Arc → Arc → List InputCause
+arcFaults states rows before a =
+    arcEarns (stateHolds states (a .source) && stateHolds states (a .target)) (letterHolds (a .upper) && letterHolds (a .lower)) (arcClassHolds rows a)
+    (sourceHolds before a) (arcIsNew before a)
+
+-- A table keeps the rules where its rows hold classes and its counts and other items earn no refusal.
+
+-- only 0
+abbrev pub isBlank : List ℕ → Bool
+isBlank cells = not (any (λ x. ltb 0 x) cells)
+
+-- a row holds letters that rise, sixteen at most, and is filled up with 0
+unfoldable pub rowHolds : List ℕ → Bool
+rowHolds row = eqb (length row) rowWidth && (lettersRise 0 (lettersIn row) && isBlank (drop (length (lettersIn row)) row))
+
+unfoldable pub classesKeep : List (List ℕ) → Bool
+classesKeep rows = eqb (length rows) classCount && each (λ before row. rowHolds row) [] rows
 
 abbrev pub initialsKeep : ℕ → List ℕ → Bool
 initialsKeep states = each (λ before s. isEmpty (initialFaults states before s)) []
@@ -97,10 +128,11 @@ initialsKeep states = each (λ before s. isEmpty (initialFaults states before s)
 abbrev pub terminalsKeep : ℕ → List ℕ → Bool
 terminalsKeep states = each (λ before s. isEmpty (terminalFaults states before s)) []
 
-abbrev pub arcsKeep : ℕ → List Arc → Bool
-arcsKeep states = each (λ before a. isEmpty (arcFaults states before a)) []
+abbrev pub arcsKeep : ℕ → List (List ℕ) → List Arc → Bool
+arcsKeep states rows = each (λ before a. isEmpty (arcFaults states rows before a)) []
 
 unfoldable pub keepsRules : Table → Bool
 keepsRules t =
     isEmpty (headerFaults (countsOf t))
-    && (initialsKeep (t .states) (t .initials) && (terminalsKeep (t .states) (t .terminals) && arcsKeep (t .states) (t .arcs)))
+    && (classesKeep (t .classes)
+    && (initialsKeep (t .states) (t .initials) && (terminalsKeep (t .states) (t .terminals) && arcsKeep (t .states) (t .classes) (t .arcs))))

@@ -1,4 +1,4 @@
--- Document 01, "Table and paths": a table. Arcs are numbered from 0 in the order of the list; letter 0 is no letter.
+-- Document 01, "Table and paths", and document 02, slip 6: a table. Arcs are numbered from 0 in the order of the list; letter 0 is no letter.
 use Prim.Native.Nat.{ℕ}
 use mathlib.Core.List.{List}
 use lib.ListN.{length}
@@ -13,9 +13,10 @@ pub record Arc : Type 0 where
 abbrev pub noArc : Arc
 noArc = record { source = 0; upper = 0; lower = 0; target = 0 }
 
--- states are numbered from 0; the initial states are in order, the terminal ones rise
+-- states are numbered from 0; the classes are rows of letters (Classes); the initial states are in order, the terminal ones rise
 pub record Table : Type 0 where
   pub states : ℕ
+  pub classes : List (List ℕ)
   pub initials : List ℕ
   pub terminals : List ℕ
   pub arcs : List Arc

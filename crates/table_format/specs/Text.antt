@@ -1,9 +1,11 @@
--- Document 01, "Lines of the text": the text of a table. One item a line; a line's first byte is its kind; numbers of two bytes, high
--- byte first.
-use Prim.Native.Nat.{ℕ, _+_, _/_, _%_}
+-- Document 01, "Lines of the text", and document 02, slip 6: the text of a table. One item a line; a line's first byte is its kind; numbers of
+-- two bytes, high byte first.
+use Prim.Native.Nat.{ℕ, suc, _+_, _/_, _%_}
+use mathlib.Core.Bool.{cond}
 use mathlib.Core.List.{List, [], _∷_, _++_, map}
 use lib.ListN.{length}
 use Rattle.table_format.specs.Table.{Arc, Table, Counts, countsOf}
+use Rattle.table_format.specs.Classes.{rowWidth, lettersIn, isDefined}
 use Rattle.table_format.specs.Line.{lineText}
 
 abbrev pub number : ℕ → List ℕ
@@ -13,6 +15,10 @@ number n = n / 256 ∷ n % 256 ∷ []
 
 abbrev pub headerBytes : Counts → List ℕ
 headerBytes c = 1 ∷ (number (c .states) ++ (number (c .initials) ++ (number (c .terminals) ++ number (c .arcs))))
+
+-- "kind `06`, class (one byte), letters"
+abbrev pub classBytes : ℕ → List ℕ → List ℕ
+classBytes c row = 6 ∷ c ∷ lettersIn row
 
 abbrev pub initialBytes : ℕ → List ℕ
 initialBytes s = 2 ∷ number s
@@ -26,18 +32,29 @@ arcBytes a = 4 ∷ (number (a .source) ++ (a .upper ∷ a .lower ∷ number (a .
 abbrev pub endBytes : ℕ → List ℕ
 endBytes n = 5 ∷ number n
 
--- the most bytes of a line: the header's
-abbrev pub lineBytes : ℕ
-lineBytes = 9
+-- the bytes of the header line
+abbrev pub headerWidth : ℕ
+headerWidth = 9
 
--- how many lines stand before the end line
+-- the most bytes of a line: those of a class of sixteen letters
+abbrev pub lineBytes : ℕ
+lineBytes = 2 + rowWidth
+
+-- the lines of the defined ones of some classes, numbered from c on: "by rising class"
+unfoldable pub classLines : ℕ → List (List ℕ) → List (List ℕ)
+classLines c [] = []
+classLines c (row ∷ rows) = cond (isDefined row) (classBytes c row ∷ classLines (suc c) rows) (classLines (suc c) rows)
+
+-- how many lines stand before the end line: "there are 0 to 8 [class lines] and the end line counts them"
 abbrev pub linesBefore : Table → ℕ
-linesBefore t = 1 + length (t .initials) + length (t .terminals) + length (t .arcs)
+linesBefore t = 1 + length (classLines 0 (t .classes)) + length (t .initials) + length (t .terminals) + length (t .arcs)
 
 -- the lines after the header's, and the text
 
 unfoldable pub itemLines : Table → List (List ℕ)
-itemLines t = map initialBytes (t .initials) ++ (map terminalBytes (t .terminals) ++ (map arcBytes (t .arcs) ++ (endBytes (linesBefore t) ∷ [])))
+itemLines t =
+    classLines 0 (t .classes)
+    ++ (map initialBytes (t .initials) ++ (map terminalBytes (t .terminals) ++ (map arcBytes (t .arcs) ++ (endBytes (linesBefore t) ∷ []))))
 
 unfoldable pub joinLines : List (List ℕ) → List ℕ
 joinLines [] = []

@@ -6,11 +6,23 @@ ghost use Rattle.table_format.specs.Cells.{arcCount, arcOf, arcHeld};
 // The cells of an arc.
 pub const ARC_WIDTH: usize = 4;
 
-// Where the initial states of a loaded table begin, after its counts.
-pub const INITIALS_AT: usize = 4;
+// The letter classes of a table, each a row of letters.
+pub const CLASS_COUNT: usize = 8;
+
+// The cells of a row.
+pub const ROW_WIDTH: usize = 16;
+
+// The letter of an arc that means class 0.
+pub const FIRST_CLASS: u16 = 64;
+
+// Where the classes of a loaded table begin, after its counts.
+pub const CLASSES_AT: usize = 4;
+
+// Where its initial states begin, after the classes.
+pub const INITIALS_AT: usize = CLASSES_AT + CLASS_COUNT * ROW_WIDTH;
 
 // The most cells of a table: 256 initial states, 256 terminal states, 1,024 arcs.
-pub const MOST_CELLS: usize = 4612;
+pub const MOST_CELLS: usize = 4740;
 
 // The first byte of the header line.
 pub const HEADER_KIND: u8 = 1;
@@ -27,8 +39,17 @@ pub const ARC_KIND: u8 = 4;
 // Of the end line.
 pub const END_KIND: u8 = 5;
 
-// The most bytes of a line of a table's text: the header's.
-pub const LINE_BYTES: usize = 9;
+// Of a class's line.
+pub const CLASS_KIND: u8 = 6;
+
+// The bytes of the header line.
+pub const HEADER_BYTES: usize = 9;
+
+// The most bytes of a line of a table's text: a class's of sixteen letters.
+pub const LINE_BYTES: usize = 2 + ROW_WIDTH;
+
+// The fewest bytes of a class's line.
+pub const CLASS_BYTES: usize = 3;
 
 // The bytes of the line of a state, and of the end line.
 pub const STATE_BYTES: usize = 3;
@@ -37,7 +58,7 @@ pub const STATE_BYTES: usize = 3;
 pub const ARC_BYTES: usize = 7;
 
 // The characters of the header line, with its line feed.
-pub const HEADER_LINE: usize = 2 * LINE_BYTES + 1;
+pub const HEADER_LINE: usize = 2 * HEADER_BYTES + 1;
 
 // The characters of the line of a state, and of the end line, with its line feed.
 pub const STATE_LINE: usize = 2 * STATE_BYTES + 1;

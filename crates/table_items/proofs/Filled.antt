@@ -1,14 +1,15 @@
--- Cells filled up with 0: how many they are, their front and its counts, and more cells put behind it.
+-- Cells filled up with 0: how many they are, their front and its counts, and cells put behind it or in it.
 use Prim.Native.Nat.{ℕ, zero, suc, _+_, _-_, _≤_}
 use native.Mathlib.Omega.{arith}
-use mathlib.Core.Path.{_≡_, refl, ap₂, _∙_}
-use mathlib.Core.List.{List, _++_}
-use lib.ListN.{length, take, drop, replicate, length-append, length-replicate}
-use lib.Seq.{sets, sets-eq, take-at, take-append-seam, drop-append-add, drop-nil}
+use mathlib.Core.Path.{_≡_, refl, sym, ap, ap₂, _∙_}
+use mathlib.Core.List.{List, _++_, append-assoc}
+use lib.ListN.{length, take, drop, replicate, length-append, length-replicate, replicate-append-replicate}
+use lib.Seq.{sets, sets-eq, length-sets, take-at, take-append-seam, drop-append-add, drop-nil}
 use Rattle.table_format.specs.Table.{Counts}
 use Rattle.table_format.specs.Loaded.{mostCells, countCells, countsIn}
 use Rattle.table_items.specs.Draft.{filledUp}
 use Rattle.table_format.proofs.Arcs.{at-equal}
+use Rattle.table_items.proofs.Parts.{sets-left}
 
 abbrev zeros : ℕ → List ℕ
 zeros n = replicate n 0
@@ -38,3 +39,18 @@ sets-filled d more h =
     ∙ ap₂ (λ (x y : List ℕ). (x ++ more) ++ y) (take-append-seam d rest)
     (drop-append-add d rest (length more) ∙ drop-zeros (length more) (mostCells - length d)
     ∙ at-equal zeros (mostCells - length d - length more) (mostCells - length (d ++ more)) (omega (arith, length-append d more)))
+
+-- cells put in the place of others before the 0
+pub sets-within : (d : List ℕ) (i : ℕ) (vs : List ℕ) → i + length vs ≤ length d → sets (filledUp d) i vs ≡ filledUp (sets d i vs)
+unfolding filledUp
+sets-within d i vs h =
+    sets-left vs d (zeros (mostCells - length d)) i h ∙ ap (λ (n : ℕ). sets d i vs ++ zeros (mostCells - n)) (sym (length-sets d i vs))
+
+-- cells that end with 0
+pub filled-zeros : (d : List ℕ) (n : ℕ) → length d + n ≤ mostCells → filledUp (d ++ zeros n) ≡ filledUp d
+unfolding filledUp
+filled-zeros d n h =
+    let size : length (d ++ zeros n) ≡ length d + n = length-append d (zeros n) ∙ ap (λ (k : ℕ). length d + k) (length-replicate {A = ℕ} n 0) in
+    append-assoc d (zeros n) (zeros (mostCells - length (d ++ zeros n)))
+    ∙ ap (λ (l : List ℕ). d ++ l)
+    (replicate-append-replicate n (mostCells - length (d ++ zeros n)) 0 ∙ at-equal zeros (n + (mostCells - length (d ++ zeros n))) (mostCells - length d) (omega arith))

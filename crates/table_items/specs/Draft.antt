@@ -1,15 +1,16 @@
 -- What the code of the reader holds of a table while it reads the lines after the header's.
-use Prim.Native.Nat.{ℕ, _+_, _-_, _≤_, _<_}
+use Prim.Native.Nat.{ℕ, _+_, _-_, _*_, _≤_, _<_}
 use mathlib.Core.Path.{_≡_}
-use mathlib.Core.Bool.{true, cond}
+use mathlib.Core.Bool.{Bool, true, cond, _&&_}
 use mathlib.Core.List.{List, [], _∷_, _++_}
-use lib.Dec.{leb}
-use lib.ListN.{length, replicate}
-use Rattle.table_format.specs.Table.{Table, Counts}
-use Rattle.table_format.specs.Rules.{countsHold, initialsKeep, terminalsKeep, arcsKeep}
-use Rattle.table_format.specs.Loaded.{mostCells, countCells, arcCells, arcsCells}
+use lib.Dec.{eqb, ltb}
+use lib.ListN.{length, getD, take, drop, replicate}
+use Rattle.table_format.specs.Table.{Arc, Table, Counts}
+use Rattle.table_format.specs.Classes.{rowWidth, rowWith}
+use Rattle.table_format.specs.Rules.{countsHold, classesKeep, initialsKeep, terminalsKeep, arcsKeep}
+use Rattle.table_format.specs.Loaded.{arcWidth, classesAt, initialsAt, mostCells, countCells, rowsCells, arcCells, arcsCells, countsIn, classesIn, terminalsAt, arcsAt, extent}
 use Rattle.table_format.specs.Text.{linesBefore}
-use Rattle.table_format.specs.Parse.{LineKind, initial, terminal, arc, end, codeOf, due, numberAt, arcFrom}
+use Rattle.table_format.specs.Parse.{LineKind, class, initial, terminal, arc, end, codeOf, due, numberAt, arcFrom, classFrom, lettersFrom}
 use Rattle.table_format.specs.Cells.{arcsAs}
 use Rattle.table_rules.specs.Judge.{largest, stateKey, arcKey}
 
@@ -19,24 +20,50 @@ filledUp cells = cells ++ replicate (mostCells - length cells) 0
 
 -- the cells of the counts and of the items so far
 unfoldable pub draftCells : Counts → Table → List ℕ
-draftCells c t = countCells c ++ (t .initials ++ (t .terminals ++ arcsCells (t .arcs)))
+draftCells c t = countCells c ++ (rowsCells (t .classes) ++ (t .initials ++ (t .terminals ++ arcsCells (t .arcs))))
 
--- the first byte of the next line, by the counts and the lines so far
-unfoldable pub kindAfter : Counts → ℕ → ℕ
-kindAfter c lines =
+-- a line is taken as a class's where its first byte is a class's and no initial state has been read
+abbrev pub takenAsClass : ℕ → ℕ → Bool
+takenAsClass filled first = eqb filled initialsAt && eqb first (codeOf class)
+
+-- the first byte that the next line is to have, by the counts, the cells so far and the first byte that it has
+unfoldable pub kindAfter : Counts → ℕ → ℕ → ℕ
+kindAfter c filled first =
     codeOf
-    (cond (leb lines (c .initials)) initial
-    (cond (leb lines (c .initials + c .terminals)) terminal (cond (leb lines (c .initials + c .terminals + c .arcs)) arc end)))
+    (cond (takenAsClass filled first) class
+    (cond (ltb filled (terminalsAt c)) initial (cond (ltb filled (arcsAt c)) terminal (cond (ltb filled (extent c)) arc end))))
 
 -- the kinds of items
 abbrev pub IsItem : LineKind → Type 0
+IsItem class = Unit {0}
 IsItem initial = Unit {0}
 IsItem terminal = Unit {0}
 IsItem arc = Unit {0}
 IsItem end = ⊥
 
--- the cells that a line of a kind adds
+-- where the row of a class line stands
+abbrev pub rowAt : List ℕ → ℕ
+rowAt b = classesAt + rowWidth * classFrom b
+
+-- where a line of a kind puts its cells, where some were filled: behind them, but a class at its place
+abbrev pub placeOf : LineKind → List ℕ → ℕ → ℕ
+placeOf class b filled = rowAt b
+placeOf initial b filled = filled
+placeOf terminal b filled = filled
+placeOf arc b filled = filled
+placeOf end b filled = filled
+
+-- how many cells are filled then; the rows of the classes always are
+abbrev pub filledAfter : LineKind → List ℕ → ℕ → ℕ
+filledAfter class b filled = filled
+filledAfter initial b filled = filled + 1
+filledAfter terminal b filled = filled + 1
+filledAfter arc b filled = filled + arcWidth
+filledAfter end b filled = filled
+
+-- the cells that a line of a kind puts
 abbrev pub itemCells : LineKind → List ℕ → List ℕ
+itemCells class b = rowWith (lettersFrom b)
 itemCells initial b = numberAt b 1 ∷ []
 itemCells terminal b = numberAt b 1 ∷ []
 itemCells arc b = arcCells (arcFrom b)
@@ -44,6 +71,7 @@ itemCells end b = []
 
 -- the key by which a line's item is seen to be new
 abbrev pub itemKey : LineKind → List ℕ → ℕ
+itemKey class b = 0
 itemKey initial b = stateKey (numberAt b 1)
 itemKey terminal b = 0
 itemKey arc b = arcKey (arcFrom b)
@@ -61,9 +89,10 @@ pub record Tracks (c : Counts) (t : Table) (lines filled top : ℕ) (cells : Lis
   pub lines-is : lines ≡ linesBefore t
   pub filled-is : filled ≡ length (draftCells c t)
   pub cells-are : cells ≡ filledUp (draftCells c t)
+  pub classes-keep : classesKeep (t .classes) ≡ true
   pub initials-keep : initialsKeep (t .states) (t .initials) ≡ true
   pub terminals-keep : terminalsKeep (t .states) (t .terminals) ≡ true
-  pub arcs-keep : arcsKeep (t .states) (t .arcs) ≡ true
+  pub arcs-keep : arcsKeep (t .states) (t .classes) (t .arcs) ≡ true
   pub top-states : largest stateKey (t .initials) ≤ top
   pub top-arcs : largest arcKey (t .arcs) ≤ top
 
@@ -71,9 +100,17 @@ pub record Tracks (c : Counts) (t : Table) (lines filled top : ℕ) (cells : Lis
 pub record Drafted (lines filled top : ℕ) (cells : List ℕ) (kind : ℕ) : Type 0 where
   pub counts : Counts
   pub table : Table
+  pub bytes : List ℕ
   pub tracks : Tracks counts table lines filled top cells
-  pub kind-is : kind ≡ codeOf (due counts table)
+  pub kind-is : kind ≡ codeOf (due counts table bytes)
 
--- what the code of the rules asks of the arcs before one
-abbrev pub ArcsReady : ℕ → List ℕ → ℕ → Type 0
-ArcsReady states before top = (arcsKeep states (arcsAs before) ≡ true) × (largest arcKey (arcsAs before) ≤ top)
+-- the arcs in the cells so far
+abbrev pub arcsHeld : List ℕ → ℕ → List Arc
+arcsHeld cells filled = arcsAs (take (filled - arcsAt (countsIn cells)) (drop (arcsAt (countsIn cells)) cells))
+
+-- what the code of the rules asks of the arcs before one: their place, that they keep the rules, and that no key of theirs is above the top
+pub record ArcsReady (cells : List ℕ) (filled top : ℕ) : Type 0 where
+  pub from : arcsAt (countsIn cells) ≤ filled
+  pub inside : filled ≤ length cells
+  pub keep : arcsKeep (getD cells 0 0) (classesIn cells) (arcsHeld cells filled) ≡ true
+  pub top-arcs : largest arcKey (arcsHeld cells filled) ≤ top

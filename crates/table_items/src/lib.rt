@@ -1,12 +1,16 @@
-// One line of a text after the header's: its kind, what it earns, its item behind the cells so far, and the item's key.
+// One line of a text after the header's: its kind, what it earns, its item put where it belongs in the cells, and the item's key.
 use refusal::InputCause;
 use table_format::ARC_BYTES;
 use table_format::ARC_KIND;
 use table_format::ARC_WIDTH;
+use table_format::CLASS_BYTES;
+use table_format::CLASS_KIND;
+use table_format::CLASSES_AT;
 use table_format::END_KIND;
 use table_format::INITIAL_KIND;
 use table_format::INITIALS_AT;
 use table_format::LINE_BYTES;
+use table_format::ROW_WIDTH;
 use table_format::STATE_BYTES;
 use table_format::TERMINAL_KIND;
 use table_rules::Judged;
@@ -14,43 +18,74 @@ use table_scanner::arc_in;
 use table_scanner::number_at;
 ghost use mathlib.Core.Path.{_≡_};
 ghost use mathlib.Core.List.{List};
-ghost use Prim.Native.Nat.{ℕ, _≤_, _+_};
-ghost use lib.ListN.{length};
+ghost use Prim.Native.Nat.{ℕ, _≤_, _<_, _+_};
+ghost use lib.ListN.{length, getD, drop};
 ghost use lib.Seq.{sets};
 ghost use Rattle.table_format.specs.Table.{Table, Counts};
-ghost use Rattle.table_format.specs.Rules.{arcFaults};
-ghost use Rattle.table_format.specs.Loaded.{initialsAt, arcWidth, countsIn};
-ghost use Rattle.table_format.specs.Cells.{arcsAs};
-ghost use Rattle.table_format.specs.Parse.{LineKind, codeOf, due, arcFrom, kindFaults};
+ghost use Rattle.table_format.specs.Classes.{classCount};
+ghost use Rattle.table_format.specs.Rules.{classFaults, arcFaults};
+ghost use Rattle.table_format.specs.Loaded.{initialsAt, arcWidth, countsIn, classesIn};
+ghost use Rattle.table_format.specs.Text.{lineBytes};
+ghost use Rattle.table_format.specs.Parse.{LineKind, class, arc, codeOf, inPlace, isOf, due, arcFrom, classFrom, lettersFrom, kindFaults};
 ghost use Rattle.table_rules.specs.Judge.{judged};
 ghost use Rattle.table_scanner.specs.Scan.{padded};
-ghost use Rattle.table_items.specs.Draft.{kindAfter, IsItem, Tracks, Drafted, ArcsReady, itemCells, itemKey};
+ghost use Rattle.table_items.specs.Draft.{kindAfter, IsItem, Tracks, Drafted, arcsHeld, ArcsReady, rowAt, placeOf, filledAfter, itemCells, itemKey};
 
-// The kind of the next line, from the counts and the lines so far.
-pub fn kind_due(cells: &[u16], lines: usize) -> u8
+// The kind of the next line, from the counts, the cells so far and the line's first byte.
+pub fn kind_due(cells: &[u16], filled: usize, first: u8) -> u8
     requires { ⌜ initialsAt ≤ length (now cells) ⌝ }
-    ensures { λ r. ⌜ r ≡ kindAfter (countsIn (now (cells .entry))) lines ⌝ }
+    ensures { λ r. ⌜ r ≡ kindAfter (countsIn (now (cells .entry))) filled first ⌝ }
 {
-    let initials = widen::cell_as_index(cells[1]);
-    if lines <= initials {
+    if filled == INITIALS_AT {
+        if first == CLASS_KIND {
+            return CLASS_KIND;
+        }
+    }
+    let terminals = INITIALS_AT + widen::cell_as_index(cells[1]);
+    if filled < terminals {
         return INITIAL_KIND;
     }
-    let terminals = initials + widen::cell_as_index(cells[2]);
-    if lines <= terminals {
+    let arcs = terminals + widen::cell_as_index(cells[2]);
+    if filled < arcs {
         return TERMINAL_KIND;
     }
-    if lines <= terminals + widen::cell_as_index(cells[3]) {
+    if filled < arcs + ARC_WIDTH * widen::cell_as_index(cells[3]) {
         return ARC_KIND;
     }
     END_KIND
 }
 
-// What an arc line earns, after the arcs before it.
-fn arc_item(before: &[u16], states: u16, bytes: [u8; LINE_BYTES], top: u64) -> Judged
-    requires { ⌜ ArcsReady states (now before) top ⌝ }
-    ensures { λ r. ⌜ r ≡ judged (arcFaults states (arcsAs (now (before .entry))) (arcFrom bytes)) ⌝ }
+// What a class line earns, after the classes before it.
+fn class_item(cells: &[u16], bytes: [u8; LINE_BYTES], count: usize) -> Judged
+    requires { ⌜ initialsAt ≤ length (now cells) ⌝ }
+    ensures { λ r. ⌜ ((b : List ℕ) → bytes ≡ padded b → count ≡ length b → getD b 0 0 ≡ codeOf class
+        → r ≡ judged (inPlace (isOf class b) (classFaults (classesIn (now (cells .entry))) (classFrom b) (lettersFrom b)))) ⌝ }
 {
-    table_rules::arc_fault(before, states, arc_in(bytes), top)
+    if count < CLASS_BYTES {
+        return Judged::Broken(InputCause::Misplaced);
+    }
+    if LINE_BYTES < count {
+        return Judged::Broken(InputCause::Misplaced);
+    }
+    if table_classes::class_holds(&cells[CLASSES_AT..INITIALS_AT], bytes[1], &bytes[2..count]) {
+        Judged::Kept
+    } else {
+        Judged::Broken(InputCause::ClassFault)
+    }
+}
+
+// What an arc line earns, after the arcs before it.
+fn arc_item(cells: &[u16], bytes: [u8; LINE_BYTES], count: usize, filled: usize, top: u64) -> Judged
+    requires { ⌜ ArcsReady (now cells) filled top ⌝ }
+    ensures { λ r. ⌜ ((b : List ℕ) → bytes ≡ padded b → count ≡ length b → getD b 0 0 ≡ codeOf arc
+        → r ≡ judged (inPlace (isOf arc b) (arcFaults (getD (now (cells .entry)) 0 0) (classesIn (now (cells .entry))) (arcsHeld (now (cells .entry)) filled) (arcFrom b)))) ⌝ }
+{
+    if count != ARC_BYTES {
+        return Judged::Broken(InputCause::Misplaced);
+    }
+    let from = INITIALS_AT + widen::cell_as_index(cells[1]) + widen::cell_as_index(cells[2]);
+    let rows = &cells[CLASSES_AT..INITIALS_AT];
+    table_rules::arc_fault(rows, &cells[from..filled], cells[0], arc_in(bytes), top)
 }
 
 // What a line earns, of the kind that is due.
@@ -64,18 +99,17 @@ pub fn item_fault(
     top: u64,
 ) -> Judged
     requires { ⌜ Drafted lines filled top (now cells) kind ⌝ }
-    ensures { λ r. ⌜ ((c : Counts) (t : Table) (b : List ℕ) → Tracks c t lines filled top (now (cells .entry)) → kind ≡ codeOf (due c t)
-        → bytes ≡ padded b → count ≡ length b → r ≡ judged (kindFaults (due c t) t b)) ⌝ }
+    ensures { λ r. ⌜ ((c : Counts) (t : Table) (b : List ℕ) → Tracks c t lines filled top (now (cells .entry)) → kind ≡ codeOf (due c t b)
+        → bytes ≡ padded b → count ≡ length b → r ≡ judged (kindFaults (due c t b) t b)) ⌝ }
 {
     if bytes[0] != kind {
         return Judged::Broken(InputCause::Misplaced);
     }
+    if kind == CLASS_KIND {
+        return class_item(cells, bytes, count);
+    }
     if kind == ARC_KIND {
-        if count != ARC_BYTES {
-            return Judged::Broken(InputCause::Misplaced);
-        }
-        let from = INITIALS_AT + widen::cell_as_index(cells[1]) + widen::cell_as_index(cells[2]);
-        return arc_item(&cells[from..filled], cells[0], bytes, top);
+        return arc_item(cells, bytes, count, filled, top);
     }
     if count != STATE_BYTES {
         return Judged::Broken(InputCause::Misplaced);
@@ -95,12 +129,30 @@ pub fn item_fault(
     }
 }
 
-// The line's item, behind the cells so far; how many there are then.
-pub fn append(cells: &mut [u16], kind: u8, bytes: [u8; LINE_BYTES], filled: usize) -> usize
-    requires { ⌜ filled + arcWidth ≤ length (now cells) ⌝ }
-    ensures { λ r. ⌜ ((k : LineKind) (b : List ℕ) → kind ≡ codeOf k → IsItem k → bytes ≡ padded b
-        → (r ≡ filled + length (itemCells k b)) × (now (cells .exit) ≡ sets (now (cells .entry)) filled (itemCells k b))) ⌝ }
+// The row of a class line's letters, at its place.
+fn put_class(cells: &mut [u16], bytes: [u8; LINE_BYTES])
+    requires { ⌜ (getD bytes 1 0 < classCount) × (initialsAt ≤ length (now cells)) ⌝ }
+    ensures { λ _. ⌜ now (cells .exit) ≡ sets (now (cells .entry)) (rowAt bytes) (drop 2 bytes) ⌝ }
 {
+    let at = CLASSES_AT + ROW_WIDTH * widen::byte_as_index(bytes[1]);
+    let mut k = 0;
+    while k < ROW_WIDTH {
+        cells[at + k] = widen::byte_as_cell(bytes[k + 2]);
+        k += 1;
+    }
+}
+
+// The line's item: a class at its place, others behind the cells so far; how many there are then.
+pub fn append(cells: &mut [u16], kind: u8, bytes: [u8; LINE_BYTES], filled: usize) -> usize
+    requires { ⌜ (filled + arcWidth ≤ length (now cells)) × (initialsAt ≤ length (now cells)) ⌝ }
+    requires { ⌜ (kind ≡ codeOf class → getD bytes 1 0 < classCount) ⌝ }
+    ensures { λ r. ⌜ ((k : LineKind) (b : List ℕ) → kind ≡ codeOf k → IsItem k → bytes ≡ padded b → length b ≤ lineBytes
+        → (r ≡ filledAfter k b filled) × (now (cells .exit) ≡ sets (now (cells .entry)) (placeOf k b filled) (itemCells k b))) ⌝ }
+{
+    if kind == CLASS_KIND {
+        put_class(cells, bytes);
+        return filled;
+    }
     if kind != ARC_KIND {
         cells[filled] = number_at(bytes, 1);
         return filled + 1;

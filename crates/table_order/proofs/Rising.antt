@@ -1,97 +1,103 @@
--- Arcs in the order of their keys: they keep the rules, and a loop goes through them with the largest key so far.
-use Prim.Native.Nat.{ℕ, _+_, _*_, _<_, _≤_}
+-- Arcs in the order of their keys: they keep the rules, and a loop goes through them from the last one back.
+use Prim.Native.Nat.{ℕ, suc, _+_, _-_, _*_, _<_, _≤_}
 use native.Mathlib.Omega.{arith}
 use mathlib.Core.Path.{_≡_, refl, sym, ap, ap₂, _∙_}
-use mathlib.Core.Bool.{Bool, true, false, _&&_}
-use mathlib.Core.List.{List, [], _∷_, _++_}
+use mathlib.Core.Bool.{Bool, true, false, _&&_, _||_, and-comm, and-eq-true-iff}
+use mathlib.Core.List.{List, [], _∷_, _++_, reverse, reverse-cons, reverse-append, reverse-reverse}
 use lib.Bits.{bitOr}
-use lib.Dec.{leb, ltb}
-use borrow.Author.Tests.{ltb-true, leb-true, le-leb}
+use lib.Dec.{leb}
+use lib.ListN.{length}
+use borrow.Author.Tests.{ltb-true, le-leb}
 use Rattle.table_format.specs.Table.{Arc}
-use Rattle.table_format.specs.Rules.{each, stateHolds, letterHolds, sourceHolds, sameArc, arcFaults, arcsKeep}
+use Rattle.table_format.specs.Classes.{classCount}
+use Rattle.table_format.specs.Rules.{each, arcClassHolds, sourceHolds, sameArc, arcFaults, arcsKeep}
 use Rattle.table_format.specs.Loaded.{arcsIn}
 use Rattle.table_format.specs.Cells.{arcOf}
 use Rattle.table_rules.specs.Judge.{largest, repeated}
-use Rattle.table_order.specs.Order.{joinedLetters, joinedHold, orderKey, rises, eachRises, lettersHold, arcsRise}
-use Rattle.table_format.proofs.Tests.{and-left, and-right, and-both}
+use Rattle.table_order.specs.Order.{joinedLetters, joinedPlain, orderKey, isBelow, keysFall, arcClassesHold, arcsRise}
+use Rattle.table_format.proofs.Tests.{and-both}
 use Rattle.table_format.proofs.Rules.{arcPasses}
-use Rattle.table_format.proofs.Arcs.{arcs-next, arcs-fail}
-use Rattle.table_format.proofs.Each.{each-snoc}
+use Rattle.table_format.proofs.Classes.{plain-holds, class-letters}
+use Rattle.table_format.proofs.Arcs.{at-equal, arcs-snoc}
+use Rattle.table_format.proofs.Each.{each-snoc, last-snoc, any-append}
 use Rattle.table_order.proofs.Joined.{joined-more}
-use Rattle.table_rules.proofs.Turn.{kept-empty, largest-snoc}
+use Rattle.table_rules.proofs.Turn.{kept-empty}
 use Rattle.table_rules.proofs.Faults.{new-by-key, same-fields, arc-new}
 
-abbrev rising : ℕ → List Arc → Arc → Bool
-rising n before a = rises n (largest orderKey before) a
+-- a test of each arc, with the last one apart
+each-back : (test : List Arc → Arc → Bool) (a : Arc) (back : List Arc) → each test [] (reverse (a ∷ back)) ≡ (each test [] (reverse back) && test (reverse back) a)
+each-back test a back = ap (each test []) (reverse-cons a back) ∙ each-snoc test (reverse back) a
 
-abbrev lettered : List Arc → Arc → Bool
-lettered before a = letterHolds (a .upper) && letterHolds (a .lower)
+module _ (n : ℕ) where
+  -- what the last of arcs in order keeps to
+  last-falls : (bound : ℕ) (a : Arc) (back : List Arc) → keysFall n bound (a ∷ back) ≡ true → (a .target < n) × (orderKey a < bound) × (keysFall n (orderKey a) back ≡ true)
+  unfolding keysFall
+  last-falls bound a back e =
+      let p = and-eq-true-iff _ _ .0 e in
+      let q = and-eq-true-iff _ _ .0 (p .0) in
+      (ltb-true _ _ (q .0), ltb-true _ _ (q .1), p .1)
 
--- a key above those before it, of an arc with letters, shows rule 7
-source-held : (before : List Arc) (a : Arc) → a .upper ≤ 63 → a .lower ≤ 63 → largest orderKey before < orderKey a → sourceHolds before a ≡ true
-unfolding largest
-source-held [] a u l h = refl
-source-held (b ∷ []) a u l h = le-leb (b .source) (a .source) (omega arith)
-source-held (b ∷ d ∷ rest) a u l h = source-held (d ∷ rest) a u l (omega arith)
+  -- an arc with letters shows rule 7 where the keys before it fall from its own
+  source-held : (a : Arc) (back : List Arc) → a .upper < 72 → a .lower < 72 → keysFall n (orderKey a) back ≡ true → sourceHolds (reverse back) a ≡ true
+  source-held a [] u l e = refl
+  source-held a (b ∷ back) u l e =
+      ap (λ (arcs : List Arc). sourceHolds arcs a) (reverse-cons b back) ∙ last-snoc (λ b. leb (b .source) (a .source)) (reverse back) b
+      ∙ le-leb (b .source) (a .source) (omega (arith, last-falls (orderKey a) b back e .1))
 
--- and rule 8
-arc-unseen : (before : List Arc) (a : Arc) → largest orderKey before < orderKey a → repeated before a ≡ false
-arc-unseen before a h = new-by-key orderKey (λ b. sameArc b a) (orderKey a) (λ b e. ap orderKey (same-fields b a e)) before h
+  -- and rule 8
+  arc-unseen : (a : Arc) (bound : ℕ) (back : List Arc) → bound ≤ orderKey a → keysFall n bound back ≡ true → repeated (reverse back) a ≡ false
+  unfolding largest
+  arc-unseen a bound [] h e = refl
+  arc-unseen a bound (b ∷ back) h e =
+      let f = last-falls bound b back e in
+      ap (λ (arcs : List Arc). repeated arcs a) (reverse-cons b back) ∙ any-append (λ b. sameArc b a) (reverse back) (b ∷ [])
+      ∙ ap₂ (λ (x y : Bool). x || y) (arc-unseen a (orderKey b) back (omega arith) (f .2))
+      (new-by-key orderKey (λ b. sameArc b a) (orderKey a) (λ b e. ap orderKey (same-fields b a e)) (b ∷ []) (omega arith))
 
--- with a key at most that of any arc of the last state, its source is a state too
-rising-passes : (n : ℕ) (before : List Arc) (a : Arc) → rises n (largest orderKey before) a ≡ true → (letterHolds (a .upper) && letterHolds (a .lower)) ≡ true
-    → orderKey a ≤ n * 4294967296 → arcPasses n before a ≡ true
-unfolding rises
-rising-passes n before a e f g =
-    let u = leb-true (a .upper) 63 (and-left (letterHolds (a .upper)) (letterHolds (a .lower)) f) in
-    let l = leb-true (a .lower) 63 (and-right (letterHolds (a .upper)) (letterHolds (a .lower)) f) in
-    let t = ltb-true (a .target) n (and-left (stateHolds n (a .target)) (ltb (largest orderKey before) (orderKey a)) e) in
-    let k = ltb-true (largest orderKey before) (orderKey a) (and-right (stateHolds n (a .target)) (ltb (largest orderKey before) (orderKey a)) e) in
-    kept-empty (arcFaults n before a) (arc-new n before a (omega arith) t u l (source-held before a u l k) (arc-unseen before a k))
+  module _ (rows : List (List ℕ)) (eight : length rows ≡ classCount) where
+    -- the bound shows that the sources are states, and the classes that the letters are in their limit
+    falling-keep : (bound : ℕ) (back : List Arc) → bound ≤ n * 4294967296 → keysFall n bound back ≡ true → arcClassesHold rows (reverse back) ≡ true → arcsKeep n rows (reverse back) ≡ true
+    unfolding each
+    falling-keep bound [] h e f = refl
+    falling-keep bound (a ∷ back) h e f =
+        let r = last-falls bound a back e in
+        let c = and-eq-true-iff _ _ .0 (sym (each-back (λ before b. arcClassHolds rows b) a back) ∙ f) in
+        let k = class-letters rows a (omega arith) (c .1) in
+        let l = and-eq-true-iff _ _ .0 k in
+        each-back (arcPasses n rows) a back
+        ∙ and-both (falling-keep (orderKey a) back (omega arith) (r .2) (c .0))
+        (kept-empty (arcFaults n rows (reverse back) a)
+        (arc-new n rows (reverse back) a (omega arith) (r .0) k (c .1) (source-held a back (ltb-true _ _ (l .0)) (ltb-true _ _ (l .1)) (r .2))
+        (arc-unseen a (orderKey a) back (omega arith) (r .2))))
 
-each-passes : (n : ℕ) (before arcs : List Arc) → each (rising n) before arcs ≡ true → each lettered before arcs ≡ true → largest orderKey arcs ≤ n * 4294967296
-    → each (arcPasses n) before arcs ≡ true
-unfolding each largest
-each-passes n before [] e f h = refl
-each-passes n before (a ∷ arcs) e f h =
-    and-both (rising-passes n before a (and-left (rising n before a) _ e) (and-left (lettered before a) _ f) (omega arith))
-    (each-passes n (before ++ (a ∷ [])) arcs (and-right (rising n before a) (each (rising n) (before ++ (a ∷ [])) arcs) e)
-    (and-right (lettered before a) (each lettered (before ++ (a ∷ [])) arcs) f) (omega arith))
-
-pub rising-keep : (n : ℕ) (arcs : List Arc) → arcsRise n arcs ≡ true → arcsKeep n arcs ≡ true
+pub rising-keep : (n : ℕ) (rows : List (List ℕ)) (arcs : List Arc) → length rows ≡ classCount → arcsRise n rows arcs ≡ true → arcsKeep n rows arcs ≡ true
 unfolding arcsRise
-rising-keep n arcs e =
-    let f = and-right (eachRises n arcs) _ e in
-    each-passes n [] arcs (and-left (eachRises n arcs) _ e) (and-left (lettersHold arcs) _ f) (leb-true (largest orderKey arcs) (n * 4294967296) (and-right (lettersHold arcs) _ f))
+rising-keep n rows arcs eight e =
+    let p = and-eq-true-iff _ _ .0 e in
+    sym (ap (arcsKeep n rows) (reverse-reverse arcs))
+    ∙ falling-keep n rows eight (n * 4294967296) (reverse arcs) (omega arith) (p .0) (ap (arcClassesHold rows) (reverse-reverse arcs) ∙ p .1)
 
--- One turn of the loop, at arc k.
+-- One turn of a loop from the last of m arcs back.
 
-module _ (n : ℕ) (cells : List ℕ) (k top : ℕ) (is : top ≡ largest orderKey (arcsIn k cells)) where
-  here : rising n (arcsIn k cells) (arcOf cells k) ≡ rises n top (arcOf cells k)
-  here = ap (λ (m : ℕ). rises n m (arcOf cells k)) (sym is)
+module _ (cells : List ℕ) (m : ℕ) (some : 0 < m) where
+  last-arc : arcsIn m cells ≡ arcsIn (m - 1) cells ++ (arcOf cells (m - 1) ∷ [])
+  last-arc = at-equal (λ k. arcsIn k cells) m (suc (m - 1)) (omega arith) ∙ arcs-snoc (m - 1) cells
 
-  pub rise-more : eachRises n (arcsIn k cells) ≡ true → rises n top (arcOf cells k) ≡ true → eachRises n (arcsIn (k + 1) cells) ≡ true
-  rise-more r t = ap (eachRises n) (arcs-next k cells) ∙ each-snoc (rising n) (arcsIn k cells) (arcOf cells k) ∙ and-both r (here ∙ t)
+  -- the last arc's test, and those of the arcs left
+  pub fall-turn : (n bound : ℕ) (b : Bool) → isBelow n bound (arcOf cells (m - 1) .target) (orderKey (arcOf cells (m - 1))) ≡ b
+      → keysFall n bound (reverse (arcsIn m cells)) ≡ (b && keysFall n (orderKey (arcOf cells (m - 1))) (reverse (arcsIn (m - 1) cells)))
+  unfolding keysFall
+  fall-turn n bound b e =
+      ap (λ (arcs : List Arc). keysFall n bound (reverse arcs)) last-arc ∙ ap (keysFall n bound) (reverse-append (arcsIn (m - 1) cells) (arcOf cells (m - 1) ∷ []))
+      ∙ ap (λ (x : Bool). x && keysFall n (orderKey (arcOf cells (m - 1))) (reverse (arcsIn (m - 1) cells))) e
 
-  pub rise-fails : (m : ℕ) → k < m → rises n top (arcOf cells k) ≡ false → arcsRise n (arcsIn m cells) ≡ false
-  unfolding arcsRise
-  rise-fails m g t =
-      ap (λ (b : Bool). b && (lettersHold (arcsIn m cells) && leb (largest orderKey (arcsIn m cells)) (n * 4294967296))) (arcs-fail (rising n) cells m k g (here ∙ t))
+  module _ (rows : List (List ℕ)) where
+    pub class-turn : (b : Bool) → arcClassHolds rows (arcOf cells (m - 1)) ≡ b → arcClassesHold rows (arcsIn m cells) ≡ (b && arcClassesHold rows (arcsIn (m - 1) cells))
+    class-turn b e =
+        ap (arcClassesHold rows) last-arc ∙ each-snoc (λ before a. arcClassHolds rows a) (arcsIn (m - 1) cells) (arcOf cells (m - 1))
+        ∙ and-comm (arcClassesHold rows (arcsIn (m - 1) cells)) _ ∙ ap (λ (x : Bool). x && arcClassesHold rows (arcsIn (m - 1) cells)) e
 
-  pub rise-top : rises n top (arcOf cells k) ≡ true → orderKey (arcOf cells k) ≡ largest orderKey (arcsIn (k + 1) cells)
-  unfolding rises
-  rise-top t =
-      let a = arcOf cells k in
-      omega (arith, ltb-true top (orderKey a) (and-right (stateHolds n (a .target)) (ltb top (orderKey a)) t), ap (largest orderKey) (arcs-next k cells), largest-snoc orderKey (arcsIn k cells) a, is)
-
-  module _ (joined : ℕ) (J : joinedHold joined ≡ lettersHold (arcsIn k cells)) where
-    pub letters-more : arcOf cells k .upper < 65536 → joinedHold (bitOr joined (joinedLetters (arcOf cells k))) ≡ lettersHold (arcsIn (k + 1) cells)
-    letters-more h =
-        joined-more joined (arcOf cells k) h ∙ ap (λ (b : Bool). b && lettered [] (arcOf cells k)) J
-        ∙ sym (ap lettersHold (arcs-next k cells) ∙ each-snoc lettered (arcsIn k cells) (arcOf cells k))
-
-    pub rise-ends : eachRises n (arcsIn k cells) ≡ true → arcsRise n (arcsIn k cells) ≡ (joinedHold joined && leb top (n * 4294967296))
-    unfolding arcsRise
-    rise-ends r =
-        ap (λ (b : Bool). b && (lettersHold (arcsIn k cells) && leb (largest orderKey (arcsIn k cells)) (n * 4294967296))) r
-        ∙ ap₂ (λ (b : Bool) (m : ℕ). b && leb m (n * 4294967296)) (sym J) (sym is)
+    -- where the letters joined so far mean no class, the classes of all arcs hold if those of the arcs left do
+    pub plain-turn : (joined : ℕ) (all : Bool) → (joinedPlain joined ≡ true → all ≡ arcClassesHold rows (arcsIn m cells)) → arcOf cells (m - 1) .upper < 65536
+        → joinedPlain (bitOr joined (joinedLetters (arcOf cells (m - 1)))) ≡ true → all ≡ arcClassesHold rows (arcsIn (m - 1) cells)
+    plain-turn joined all J h e = let p = joined-more joined (arcOf cells (m - 1)) h e in J (p .0) ∙ class-turn true (plain-holds rows (arcOf cells (m - 1)) (p .1))

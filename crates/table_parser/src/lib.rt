@@ -1,6 +1,7 @@
 // The lines of a text to the cells of a table: each line is scanned, judged and appended.
 use refusal::InputCause;
 use table_format::END_KIND;
+use table_format::HEADER_BYTES;
 use table_format::HEADER_KIND;
 use table_format::INITIALS_AT;
 use table_format::LINE_BYTES;
@@ -69,7 +70,7 @@ fn read_items(text: &[u8], start: usize, counted: [u16; MOST_CELLS]) -> Gathered
         let Scanned::Says { count, next } = line else {
             return refused(InputCause::Malformed);
         };
-        let kind = table_items::kind_due(&cells, lines);
+        let kind = table_items::kind_due(&cells, filled, bytes[0]);
         let judged = table_items::item_fault(&cells, kind, bytes, count, lines, filled, top);
         if let Judged::Broken(fault) = judged {
             return refused(fault);
@@ -118,7 +119,7 @@ pub fn read_table(text: &[u8]) -> Gathered
     let Scanned::Says { count, next } = line else {
         return refused(InputCause::Malformed);
     };
-    if count != LINE_BYTES {
+    if count != HEADER_BYTES {
         return refused(InputCause::Misplaced);
     }
     if bytes[0] != HEADER_KIND {

@@ -1,21 +1,27 @@
 -- Runs of stored characters: byte after byte, the line that they make, and line after line.
-use Prim.Native.Nat.{ℕ, _+_, _*_, _<_, _≤_}
+use Prim.Native.Nat.{ℕ, suc, _+_, _*_, _<_, _≤_}
 use native.Mathlib.Omega.{arith}
 use native.Mathlib.Numerals.{add-one}
 use mathlib.Core.Path.{_≡_, refl, sym, ap, _∙_}
-use mathlib.Core.List.{List, [], _∷_, map}
-use lib.ListN.{length, getD, drop, set, drop-of-length-le}
-use lib.Seq.{sets, drop-cons}
+use mathlib.Core.Bool.{Bool, true, false}
+use mathlib.Core.List.{List, [], _∷_, _++_, map}
+use lib.Dec.{ltb}
+use lib.ListN.{length, getD, take, drop, set, length-append, drop-of-length-le, List·getD-eq-default}
+use lib.Seq.{sets, drop-cons, take-suc, take-suc-set}
+use borrow.Author.Tests.{ltb-true, ltb-false}
 use Rattle.hex.specs.declared.Digits.{Digits}
 use Rattle.hex.specs.Hex.{encoded}
 use Rattle.table_format.specs.Table.{Arc, noArc}
-use Rattle.table_format.specs.Line.{charsOf, lineText}
-use Rattle.table_format.specs.Text.{arcBytes, joinLines}
+use Rattle.table_format.specs.Classes.{classCount, rowWidth, lettersIn}
+use Rattle.table_format.specs.Loaded.{classCells}
+use Rattle.table_format.specs.Line.{charsOf, lineText, charactersOf}
+use Rattle.table_format.specs.Text.{classBytes, arcBytes, joinLines}
 use Rattle.table_format.specs.Parse.{arcLine}
 use Rattle.table_format.specs.Cells.{arcCount, arcOf, arcsAs}
 use Rattle.table_format.proofs.Arcs.{length-arcs, getD-arcs}
 use Rattle.table_format.proofs.Line.{length-chars}
 use Rattle.table_format.proofs.Stores.{then, byte-stored}
+use Rattle.table_classes.proofs.Letters.{letters-open, rowFrom, linesFrom, row-long, row-cell, lines-defined, lines-undefined, lines-none}
 
 -- The elements left of a list: the one looked at, and those after it.
 
@@ -69,3 +75,54 @@ pub arcs-turn : (l m : List ℕ) (at : ℕ) (cells : List ℕ) (n : ℕ) → n <
 unfolding charsOf
 arcs-turn l m at cells n h p =
     lines-turn arcBytes noArc l m at (at + arcLine) (arcsAs cells) n (omega (arith, length-arcs (arcCount cells) cells)) (p ∙ ap (λ (a : Arc). sets l at (lineText (arcBytes a))) (sym (getD-arcs (arcCount cells) cells n noArc h))) refl
+
+-- The lines of classes.
+
+-- how many characters a line has
+pub length-line : (b : List ℕ) → length (lineText b) ≡ charactersOf (length b)
+length-line b = length-append (charsOf b) (10 ∷ []) ∙ omega (arith, length-chars b)
+
+-- bytes that begin with the kind, the class and the first letters of a row: one letter more, and all of them
+module _ (class : ℕ) (row bytes : List ℕ) (k : ℕ) (front : take (k + 2) bytes ≡ 6 ∷ class ∷ take k row) where
+  pub letter-put : k < length row → k + 2 < length bytes → take (k + 1 + 2) (set bytes (k + 2) (getD row k 0)) ≡ 6 ∷ class ∷ take (k + 1) row
+  letter-put h i =
+      ap (λ (n : ℕ). take n (set bytes (k + 2) (getD row k 0))) {x = k + 1 + 2} {y = suc (k + 2)} (omega arith)
+      ∙ take-suc-set bytes (k + 2) (getD row k 0) i
+      ∙ ap (λ (l : List ℕ). l ++ (getD row k 0 ∷ [])) front
+      ∙ ap (λ (l : List ℕ). 6 ∷ class ∷ l) (sym (take-suc row k 0 h) ∙ ap (λ (n : ℕ). take n row) (sym (add-one k)))
+
+  pub letters-put : (count : ℕ) → count ≡ k → k ≡ length (lettersIn row) → take (count + 2) bytes ≡ classBytes class row
+  letters-put count e a =
+      ap (λ (n : ℕ). take (n + 2) bytes) e ∙ front ∙ ap (λ (l : List ℕ). 6 ∷ class ∷ l) (ap (λ (n : ℕ). take n row) a ∙ letters-open row)
+
+module _ (cells : List ℕ) (c : ℕ) where
+  -- the letters of a row of bytes are bytes
+  pub row-bytes : length cells ≡ classCells → c < classCount → ((i : ℕ) → getD cells i 0 < 256) → (i : ℕ) → getD (rowFrom c cells) i 0 < 256
+  row-bytes e h f i = go (ltb i rowWidth) refl
+    where
+      go : (b : Bool) → ltb i rowWidth ≡ b → getD (rowFrom c cells) i 0 < 256
+      go true p = omega (arith, row-cell cells c i (ltb-true i rowWidth p), f (rowWidth * c + i))
+      go false p = omega (arith, List·getD-eq-default (rowFrom c cells) 0 {n = i} (omega (arith, ltb-false i rowWidth p, row-long cells c e h)))
+
+  -- where class c is defined, its line is the first of those left
+  pub class-turn : (l m : List ℕ) (at to : ℕ) → c < classCount → (getD cells (rowWidth * c) 0 ≡ 0 → ⊥) → m ≡ sets l at (lineText (classBytes c (rowFrom c cells)))
+      → to ≡ at + length (lineText (classBytes c (rowFrom c cells))) → sets m to (joinLines (linesFrom (c + 1) cells)) ≡ sets l at (joinLines (linesFrom c cells))
+  class-turn l m at to h n p e =
+      turn l m at to (classBytes c (rowFrom c cells)) (linesFrom (c + 1) cells) p e ∙ ap (λ (bs : List (List ℕ)). sets l at (joinLines bs)) (sym (lines-defined cells c h n))
+
+  -- so many characters more
+  pub class-size : c < classCount → (getD cells (rowWidth * c) 0 ≡ 0 → ⊥)
+      → length (joinLines (linesFrom c cells)) ≡ length (lineText (classBytes c (rowFrom c cells))) + length (joinLines (linesFrom (c + 1) cells))
+  unfolding joinLines
+  class-size h n =
+      ap (λ (bs : List (List ℕ)). length (joinLines bs)) (lines-defined cells c h n)
+      ∙ length-append (lineText (classBytes c (rowFrom c cells))) (joinLines (linesFrom (c + 1) cells))
+
+  -- where it is not, those left are the same
+  pub class-skip : c < classCount → getD cells (rowWidth * c) 0 ≡ 0 → joinLines (linesFrom c cells) ≡ joinLines (linesFrom (c + 1) cells)
+  class-skip h e = ap joinLines (lines-undefined cells c h e)
+
+  -- no line is left
+  pub classes-end : classCount ≤ c → joinLines (linesFrom c cells) ≡ []
+  unfolding joinLines
+  classes-end h = ap joinLines (lines-none cells c h)

@@ -3,7 +3,11 @@ use table_format::ARC_KIND;
 use table_format::ARC_LINE;
 use table_format::ARC_WIDTH;
 use table_format::Arc;
+use table_format::CLASS_COUNT;
+use table_format::CLASS_KIND;
 use table_format::HEADER_KIND;
+use table_format::LINE_BYTES;
+use table_format::ROW_WIDTH;
 use table_format::STATE_LINE;
 use table_format::arc_at;
 ghost use mathlib.Core.Path.{_≡_};
@@ -11,9 +15,10 @@ ghost use mathlib.Core.List.{_∷_, map};
 ghost use Prim.Native.Nat.{ℕ, _+_, _*_, _/_, _%_, _≤_, _<_};
 ghost use lib.ListN.{length, getD};
 ghost use lib.Seq.{sets};
-ghost use Rattle.table_format.specs.Loaded.{initialsAt, countsIn};
+ghost use Rattle.table_format.specs.Classes.{classCount, rowWidth};
+ghost use Rattle.table_format.specs.Loaded.{initialsAt, classCells, rowsIn, countsIn};
 ghost use Rattle.table_format.specs.Line.{charsOf, lineText, charactersOf};
-ghost use Rattle.table_format.specs.Text.{number, headerBytes, arcBytes, joinLines};
+ghost use Rattle.table_format.specs.Text.{number, headerBytes, classBytes, classLines, arcBytes, joinLines};
 ghost use Rattle.table_format.specs.Parse.{headerLine, stateLine, arcLine};
 ghost use Rattle.table_format.specs.Cells.{arcCount, arcSaid, arcsAs};
 
@@ -110,6 +115,59 @@ fn arc_line(text: &mut [u8], at: usize, arc: Arc)
             low(arc.target),
         ],
     );
+}
+
+// A class's line, and the place after it.
+fn class_line(text: &mut [u8], at: usize, class: u8, row: &[u16]) -> usize
+    requires { ⌜ (length (now row) ≡ rowWidth) × ((i : ℕ) → getD (now row) i 0 < 256) ⌝ }
+    requires { ⌜ at + length (lineText (classBytes class (now row))) ≤ length (now text) ⌝ }
+    ensures { λ r. ⌜ (r ≡ at + length (lineText (classBytes class (now (row .entry))))) × (now (text .exit) ≡ sets (now (text .entry)) at (lineText (classBytes class (now (row .entry))))) ⌝ }
+{
+    let mut bytes = [0u8; LINE_BYTES];
+    bytes[0] = CLASS_KIND;
+    bytes[1] = class;
+    let count = table_classes::letters_in(row);
+    let mut k = 0;
+    while k < count {
+        bytes[k + 2] = row[k] as u8;
+        k += 1;
+    }
+    put_line(text, at, &bytes[..count + 2])
+}
+
+// The lines of the defined classes, and the place after them.
+pub fn class_lines(text: &mut [u8], at: usize, rows: &[u16]) -> usize
+    requires { ⌜ (length (now rows) ≡ classCells) × ((i : ℕ) → getD (now rows) i 0 < 256) ⌝ }
+    requires { ⌜ at + length (joinLines (classLines 0 (rowsIn classCount (now rows)))) ≤ length (now text) ⌝ }
+    ensures { λ r. ⌜ (r ≡ at + length (joinLines (classLines 0 (rowsIn classCount (now (rows .entry)))))) × (now (text .exit) ≡ sets (now (text .entry)) at (joinLines (classLines 0 (rowsIn classCount (now (rows .entry)))))) ⌝ }
+{
+    let mut to = at;
+    let mut c = 0;
+    while c < CLASS_COUNT {
+        let from = ROW_WIDTH * c;
+        if rows[from] != 0 {
+            to = class_line(text, to, c as u8, &rows[from..from + ROW_WIDTH]);
+        }
+        c += 1;
+    }
+    to
+}
+
+// How many characters the lines of the defined classes have.
+pub fn class_size(rows: &[u16]) -> usize
+    requires { ⌜ length (now rows) ≡ classCells ⌝ }
+    ensures { λ r. ⌜ r ≡ length (joinLines (classLines 0 (rowsIn classCount (now (rows .entry))))) ⌝ }
+{
+    let mut size = 0;
+    let mut c = 0;
+    while c < CLASS_COUNT {
+        let at = ROW_WIDTH * c;
+        if rows[at] != 0 {
+            size += 2 * (2 + table_classes::letters_in(&rows[at..at + ROW_WIDTH])) + 1;
+        }
+        c += 1;
+    }
+    size
 }
 
 // The lines of a list of states, and the place after them.

@@ -6,11 +6,11 @@ use mathlib.Core.Bool.{Bool, true, false, _&&_, _||_, or-false}
 use mathlib.Core.List.{List, [], _∷_}
 use lib.Dec.{eqb, leb, ltb}
 use lib.ListN.{length, getD}
-use borrow.Author.Tests.{ltb-true, ltb-false, leb-true, eqb-true, lt-ltb, le-ltb, le-leb, ne-eqb}
-use Rattle.refusal.specs.declared.InputCause.the-variants.{StateNumber, LetterLimit, StateOrder, SourceOrder, ArcRepeated}
+use borrow.Author.Tests.{ltb-true, ltb-false, leb-true, eqb-true, lt-ltb, le-ltb, ne-eqb}
+use Rattle.refusal.specs.declared.InputCause.the-variants.{StateNumber, LetterLimit, StateOrder, SourceOrder, ArcRepeated, ClassFault}
 use Rattle.table_rules.specs.declared.Judged.the-variants.{Kept, Broken}
 use Rattle.table_format.specs.Table.{Arc, noArc}
-use Rattle.table_format.specs.Rules.{any, lastIs, each, letterHolds, sourceHolds, sameArc, initialFaults, terminalFaults, arcFaults}
+use Rattle.table_format.specs.Rules.{any, lastIs, each, letterHolds, arcClassHolds, sourceHolds, sameArc, initialFaults, terminalFaults, arcFaults}
 use Rattle.table_format.specs.Loaded.{arcsIn}
 use Rattle.table_rules.specs.Judge.{judged, hasState, repeated, largest, stateKey, arcKey, lastSource, SourcesRise}
 use Rattle.table_format.specs.Cells.{arcCount, arcOf, arcsAs}
@@ -136,29 +136,34 @@ module _ (n s : ℕ) (before : List ℕ) where
   unfolding terminalFaults
   terminal-falls h e = simp (lt-ltb s n h, e)
 
-module _ (n : ℕ) (before : List Arc) (a : Arc) where
-  pub arc-source-out : n ≤ a .source → judged (arcFaults n before a) ≡ Broken StateNumber
+module _ (n : ℕ) (rows : List (List ℕ)) (before : List Arc) (a : Arc) where
+  pub arc-source-out : n ≤ a .source → judged (arcFaults n rows before a) ≡ Broken StateNumber
   unfolding arcFaults
   arc-source-out h = simp (le-ltb (a .source) n h)
 
-  pub arc-target-out : a .source < n → n ≤ a .target → judged (arcFaults n before a) ≡ Broken StateNumber
+  pub arc-target-out : a .source < n → n ≤ a .target → judged (arcFaults n rows before a) ≡ Broken StateNumber
   unfolding arcFaults
   arc-target-out g h = simp (lt-ltb (a .source) n g, le-ltb (a .target) n h)
 
   module _ (g : a .source < n) (h : a .target < n) where
-    pub arc-letter-out : (letterHolds (a .upper) && letterHolds (a .lower)) ≡ false → judged (arcFaults n before a) ≡ Broken LetterLimit
+    pub arc-letter-out : (letterHolds (a .upper) && letterHolds (a .lower)) ≡ false → judged (arcFaults n rows before a) ≡ Broken LetterLimit
     unfolding arcFaults
     arc-letter-out e = simp (lt-ltb (a .source) n g, lt-ltb (a .target) n h, e)
 
-    module _ (k : a .upper ≤ 63) (l : a .lower ≤ 63) where
-      pub arc-falls : sourceHolds before a ≡ false → judged (arcFaults n before a) ≡ Broken SourceOrder
+    module _ (l : (letterHolds (a .upper) && letterHolds (a .lower)) ≡ true) where
+      pub arc-class-out : arcClassHolds rows a ≡ false → judged (arcFaults n rows before a) ≡ Broken ClassFault
       unfolding arcFaults
-      arc-falls e = simp (lt-ltb (a .source) n g, lt-ltb (a .target) n h, le-leb (a .upper) 63 k, le-leb (a .lower) 63 l, e)
+      arc-class-out k = simp (lt-ltb (a .source) n g, lt-ltb (a .target) n h, l, k)
 
-      pub arc-new : sourceHolds before a ≡ true → repeated before a ≡ false → judged (arcFaults n before a) ≡ Kept
-      unfolding arcFaults
-      arc-new e f = simp (lt-ltb (a .source) n g, lt-ltb (a .target) n h, le-leb (a .upper) 63 k, le-leb (a .lower) 63 l, e, f)
+      module _ (k : arcClassHolds rows a ≡ true) where
+        pub arc-falls : sourceHolds before a ≡ false → judged (arcFaults n rows before a) ≡ Broken SourceOrder
+        unfolding arcFaults
+        arc-falls e = simp (lt-ltb (a .source) n g, lt-ltb (a .target) n h, l, k, e)
 
-      pub arc-old : sourceHolds before a ≡ true → repeated before a ≡ true → judged (arcFaults n before a) ≡ Broken ArcRepeated
-      unfolding arcFaults
-      arc-old e f = simp (lt-ltb (a .source) n g, lt-ltb (a .target) n h, le-leb (a .upper) 63 k, le-leb (a .lower) 63 l, e, f)
+        pub arc-new : sourceHolds before a ≡ true → repeated before a ≡ false → judged (arcFaults n rows before a) ≡ Kept
+        unfolding arcFaults
+        arc-new e f = simp (lt-ltb (a .source) n g, lt-ltb (a .target) n h, l, k, e, f)
+
+        pub arc-old : sourceHolds before a ≡ true → repeated before a ≡ true → judged (arcFaults n rows before a) ≡ Broken ArcRepeated
+        unfolding arcFaults
+        arc-old e f = simp (lt-ltb (a .source) n g, lt-ltb (a .target) n h, l, k, e, f)

@@ -57,12 +57,12 @@ module _ {A : Type 0} (key : A → ℕ) where
 
 -- The same for arcs in cells, at arc k.
 
-module _ (n : ℕ) (cells : List ℕ) (k : ℕ) where
-  pub keep-arc : arcsKeep n (arcsIn k cells) ≡ true → judged (arcFaults n (arcsIn k cells) (arcOf cells k)) ≡ Kept → arcsKeep n (arcsIn (k + 1) cells) ≡ true
-  keep-arc K e = ap (arcsKeep n) (arcs-next k cells) ∙ keep-snoc (arcFaults n) (arcsIn k cells) (arcOf cells k) K e
+module _ (n : ℕ) (rows : List (List ℕ)) (cells : List ℕ) (k : ℕ) where
+  pub keep-arc : arcsKeep n rows (arcsIn k cells) ≡ true → judged (arcFaults n rows (arcsIn k cells) (arcOf cells k)) ≡ Kept → arcsKeep n rows (arcsIn (k + 1) cells) ≡ true
+  keep-arc K e = ap (arcsKeep n rows) (arcs-next k cells) ∙ keep-snoc (arcFaults n rows) (arcsIn k cells) (arcOf cells k) K e
 
-  pub fail-arc : (f : InputCause) (m : ℕ) → k < m → judged (arcFaults n (arcsIn k cells) (arcOf cells k)) ≡ Broken f → arcsKeep n (arcsIn m cells) ≡ false
-  fail-arc f m h e = arcs-fail (λ before a. isEmpty (arcFaults n before a)) cells m k h (broken-some (arcFaults n (arcsIn k cells) (arcOf cells k)) f e)
+  pub fail-arc : (f : InputCause) (m : ℕ) → k < m → judged (arcFaults n rows (arcsIn k cells) (arcOf cells k)) ≡ Broken f → arcsKeep n rows (arcsIn m cells) ≡ false
+  fail-arc f m h e = arcs-fail (λ before a. isEmpty (arcFaults n rows before a)) cells m k h (broken-some (arcFaults n rows (arcsIn k cells) (arcOf cells k)) f e)
 
   pub top-arc : (top : ℕ) → largest arcKey (arcsIn k cells) ≤ top → arcKey (arcOf cells k) ≤ top → largest arcKey (arcsIn (k + 1) cells) ≤ top
   top-arc top l g = omega (arith, ap (largest arcKey) (arcs-next k cells), top-snoc arcKey (arcsIn k cells) (arcOf cells k) top l g)

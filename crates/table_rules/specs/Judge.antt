@@ -11,7 +11,7 @@ use Rattle.table_format.specs.Table.{Arc}
 use Rattle.table_format.specs.Rules.{any, each, sourceHolds, sameArc}
 use Rattle.table_format.specs.Cells.{arcsAs}
 
--- the lowest refusal of those that an item earns
+-- the first refusal of those that an item earns
 abbrev pub judged : List InputCause → Judged
 judged [] = Kept
 judged (f ∷ fs) = Broken f

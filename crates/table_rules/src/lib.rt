@@ -1,16 +1,20 @@
-// The rules of a table, 3 to 8, on a header and on one item, with the items of its kind before it.
+// The rules of a table, 3 to 8 and 34, on a header and on one item, with the items of its kind before it.
 use refusal::InputCause;
+use table_classes::arc_class_holds;
 use table_format::ARC_WIDTH;
 use table_format::Arc;
 use table_format::arc_at;
 ghost use mathlib.Core.Path.{_≡_};
 ghost use Prim.Native.Nat.{_≤_};
 ghost use mathlib.Core.Bool.{true};
+ghost use lib.ListN.{length};
+ghost use Rattle.table_format.specs.Classes.{classCount};
+ghost use Rattle.table_format.specs.Loaded.{classCells, rowsIn};
 ghost use Rattle.table_format.specs.Rules.{countsHold, initialFaults, terminalFaults, arcFaults, arcsKeep};
 ghost use Rattle.table_rules.specs.Judge.{judged, hasState, largest, stateKey, arcKey, lastSource, SourcesRise, repeated};
 ghost use Rattle.table_format.specs.Cells.{countsAs, arcSaid, arcsAs};
 
-// How a rule judges an item: kept, or the lowest refusal that it earns.
+// How a rule judges an item: kept, or the first refusal that it earns.
 pub enum Judged {
     Kept,
     Broken(InputCause),
@@ -142,10 +146,11 @@ fn is_repeated(before: &[u16], arc: Arc) -> bool
 }
 
 // An arc, after arcs that keep the rules. One whose key is above `top`, which no key before it is, is new.
-pub fn arc_fault(before: &[u16], states: u16, arc: Arc, top: u64) -> Judged
-    requires { ⌜ arcsKeep states (arcsAs (now before)) ≡ true ⌝ }
+pub fn arc_fault(rows: &[u16], before: &[u16], states: u16, arc: Arc, top: u64) -> Judged
+    requires { ⌜ length (now rows) ≡ classCells ⌝ }
+    requires { ⌜ arcsKeep states (rowsIn classCount (now rows)) (arcsAs (now before)) ≡ true ⌝ }
     requires { ⌜ largest arcKey (arcsAs (now before)) ≤ top ⌝ }
-    ensures { λ r. ⌜ r ≡ judged (arcFaults states (arcsAs (now (before .entry))) (arcSaid arc)) ⌝ }
+    ensures { λ r. ⌜ r ≡ judged (arcFaults states (rowsIn classCount (now (rows .entry))) (arcsAs (now (before .entry))) (arcSaid arc)) ⌝ }
 {
     if states <= arc.source {
         return Judged::Broken(InputCause::StateNumber);
@@ -153,11 +158,14 @@ pub fn arc_fault(before: &[u16], states: u16, arc: Arc, top: u64) -> Judged
     if states <= arc.target {
         return Judged::Broken(InputCause::StateNumber);
     }
-    if 63 < arc.upper {
+    if 71 < arc.upper {
         return Judged::Broken(InputCause::LetterLimit);
     }
-    if 63 < arc.lower {
+    if 71 < arc.lower {
         return Judged::Broken(InputCause::LetterLimit);
+    }
+    if !arc_class_holds(rows, arc) {
+        return Judged::Broken(InputCause::ClassFault);
     }
     if arc.source < last_source(before) {
         return Judged::Broken(InputCause::SourceOrder);

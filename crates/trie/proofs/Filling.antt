@@ -4,11 +4,13 @@ use native.Mathlib.Omega.{arith}
 use mathlib.Core.Path.{_≡_, refl, sym, ap, ap₂, _∙_}
 use mathlib.Core.Bool.{Bool, cond}
 use mathlib.Core.List.{List, [], _∷_, _++_, map}
-use lib.ListN.{length, getD, set}
+use lib.ListN.{length, getD, set, replicate}
 use lib.Seq.{sets, set-comm, length-sets}
 use lib.Dec.{eqb}
 use Rattle.table_format.specs.Table.{Arc, Table}
-use Rattle.table_format.specs.Loaded.{arcWidth, mostCells, arcsCells, cellsOf}
+use Rattle.table_format.specs.Classes.{noClasses}
+use Rattle.table_format.specs.Loaded.{arcWidth, mostCells, arcsCells, rowsCells, cellsOf}
+use Rattle.table_format.proofs.Classes.{no-classes-keep}
 use Rattle.table_format.proofs.Loaded.{length-cells}
 use Rattle.table_format.proofs.Stores.{then}
 use Rattle.lexicon.specs.Words.{Word, listed}
@@ -19,7 +21,7 @@ use Rattle.lexicon.proofs.Beginnings.{beginnings-rise}
 use Rattle.trie_format.specs.Trie.{byState, letterArcs, cutArc, trieTable}
 use Rattle.trie_states.specs.Tree.{Tree, overStates, children, Linked, childArc}
 use Rattle.trie_states.proofs.Rows.{children-are}
-use Rattle.trie.specs.Cells.{Chains, marked, stateArcs, countsBefore}
+use Rattle.trie.specs.Cells.{Chains, marked, stateArcs, terminalsBegin, front, countsBefore}
 use Rattle.trie_format.proofs.Headlines.{trie-cells}
 
 -- a store before a run of them
@@ -28,14 +30,24 @@ store-first [] l i k v h = refl
 store-first (x ∷ vs) l i k v h =
     store-first vs (set l i x) (suc i) k v (omega arith) ∙ ap (λ (c : List ℕ). sets c (suc i) vs) (set-comm l i k x v (λ e. omega arith))
 
--- counts before the run of what they count
-store-counts : (l vs : List ℕ) (a b c d e : ℕ) → sets (sets l 5 vs) 0 (a ∷ b ∷ c ∷ d ∷ e ∷ []) ≡ sets l 0 (a ∷ b ∷ c ∷ d ∷ e ∷ vs)
-store-counts l vs a b c d e =
-    ap (λ (m : List ℕ). sets m 1 (b ∷ c ∷ d ∷ e ∷ [])) (store-first vs l 5 0 a (omega arith))
-    ∙ ap (λ (m : List ℕ). sets m 2 (c ∷ d ∷ e ∷ [])) (store-first vs (set l 0 a) 5 1 b (omega arith))
-    ∙ ap (λ (m : List ℕ). sets m 3 (d ∷ e ∷ [])) (store-first vs (set (set l 0 a) 1 b) 5 2 c (omega arith))
-    ∙ ap (λ (m : List ℕ). set m 4 e) (store-first vs (set (set (set l 0 a) 1 b) 2 c) 5 3 d (omega arith))
-    ∙ store-first vs (set (set (set (set l 0 a) 1 b) 2 c) 3 d) 5 4 e (omega arith)
+-- what stands before a run, stored after it
+store-before : (xs vs l : List ℕ) (at i : ℕ) → i ≡ at + length xs → sets (sets l i vs) at xs ≡ sets l at (xs ++ vs)
+store-before [] vs l at i e = let f : i ≡ at = omega arith in ap (λ (k : ℕ). sets l k vs) f
+store-before (x ∷ xs) vs l at i e =
+    ap (λ (m : List ℕ). sets m (suc at) xs) (store-first vs l i at x (omega arith)) ∙ store-before xs vs (set l at x) (suc at) i (omega arith)
+
+-- cells are set to 0 one after another: with those to come, from at on, all of them are
+pub record Clearing (old : List ℕ) (from to : ℕ) (cells : List ℕ) (at : ℕ) : Type 0 where
+  pub stored : sets cells at (replicate (to - at) 0) ≡ sets old from (replicate (to - from) 0)
+
+pub clearing-more : (old : List ℕ) (from to : ℕ) (cells : List ℕ) (at : ℕ) → Clearing old from to cells at → at < to → Clearing old from to (set cells at 0) (at + 1)
+clearing-more old from to cells at C h =
+    let e : suc (to - (at + 1)) ≡ to - at = omega arith in
+    let f : at + 1 ≡ suc at = omega arith in
+    record { stored = ap (λ (k : ℕ). sets (set cells at 0) k (replicate (to - (at + 1)) 0)) f ∙ ap (λ (n : ℕ). sets cells at (replicate n 0)) e ∙ C .stored }
+
+pub cleared : (old : List ℕ) (from to : ℕ) (cells : List ℕ) (at : ℕ) → Clearing old from to cells at → to ≤ at → cells ≡ sets old from (replicate (to - from) 0)
+cleared old from to cells at C h = let e : 0 ≡ to - at = omega arith in ap (λ (n : ℕ). sets cells at (replicate n 0)) e ∙ C .stored
 
 -- by beginnings, or by numbers alone
 by-over : {A : Type 0} (g : ℕ → Word → List A) (f : ℕ → List A) (bs : List Word) (i : ℕ) → ((s k : ℕ) → s ≡ i + k → k < length bs → g s (getD bs k []) ≡ f s) → byState g i bs ≡ overStates f i (length bs)
@@ -82,22 +94,22 @@ module _ (ws : List Word) (K : Kept ws) (parents letters ends first next : List 
           ∙ ap (λ (n : ℕ). map (childArc (λ j. getD letters j 0) s) (children (λ j. getD parents j 0) s 1 (n - 1))) (sym states-are))
           (sym (T .marks k h) ∙ ap (λ (j : ℕ). eqb (getD ends j 0) 1) f)
 
-  cells-are : cellsOf t ≡ states ∷ 1 ∷ length terminals ∷ length arcs ∷ 0 ∷ (terminals ++ arcsCells arcs)
-  unfolding cellsOf
+  cells-are : cellsOf t ≡ front states (length terminals) (length arcs) ++ (terminals ++ arcsCells arcs)
+  unfolding cellsOf rowsCells noClasses
   cells-are =
-      ap₂ (λ (u : List ℕ) (v : List Arc). length (beginnings ws) ∷ 1 ∷ length u ∷ length v ∷ 0 ∷ (u ++ arcsCells v)) terminals-are arcs-are
-      ∙ ap (λ (n : ℕ). n ∷ 1 ∷ length terminals ∷ length arcs ∷ 0 ∷ (terminals ++ arcsCells arcs)) (sym states-are)
+      ap₂ (λ (u : List ℕ) (v : List Arc). front (length (beginnings ws)) (length u) (length v) ++ (u ++ arcsCells v)) terminals-are arcs-are
+      ∙ ap (λ (n : ℕ). front n (length terminals) (length arcs) ++ (terminals ++ arcsCells arcs)) (sym states-are)
 
-  size : length (cellsOf t) ≡ 5 + length terminals + arcWidth * length arcs
-  size = length-cells t ∙ ap₂ (λ (u : List ℕ) (v : List Arc). 5 + length u + arcWidth * length v) terminals-are arcs-are
+  size : length (cellsOf t) ≡ terminalsBegin + length terminals + arcWidth * length arcs
+  size = length-cells t no-classes-keep ∙ ap₂ (λ (u : List ℕ) (v : List Arc). terminalsBegin + length u + arcWidth * length v) terminals-are arcs-are
 
-  pub room : 5 + length terminals + arcWidth * length arcs ≤ 2300
+  pub room : terminalsBegin + length terminals + arcWidth * length arcs ≤ 2428
   room = omega (arith, size, trie-cells ws K)
 
   -- what the terminal states leave, and what the arcs then may take
-  module _ (cells cells′ : List ℕ) (to : ℕ) (told : (to ≡ 5 + length terminals) × (cells′ ≡ sets cells 5 terminals)) (all : length cells ≡ mostCells) where
+  module _ (cells cells′ : List ℕ) (to : ℕ) (told : (to ≡ terminalsBegin + length terminals) × (cells′ ≡ sets cells terminalsBegin terminals)) (all : length cells ≡ mostCells) where
     cells-length : length cells′ ≡ mostCells
-    cells-length = ap length (told .1) ∙ length-sets cells 5 terminals ∙ all
+    cells-length = ap length (told .1) ∙ length-sets cells terminalsBegin terminals ∙ all
 
     pub arcs-lent : (below : ℕ → List ℕ) × Chains first next states below × (to + arcWidth * length (overStates (stateArcs letters ends below) 0 states) ≤ length cells′)
     arcs-lent = (below, chains, omega (arith, room, told .0, cells-length))
@@ -110,9 +122,9 @@ module _ (ws : List Word) (K : Kept ws) (parents letters ends first next : List 
       laid = put below chains
 
       pub record Sizes : Type 0 where
-        pub terminals-at : 5 ≤ to
+        pub terminals-at : terminalsBegin ≤ to
         pub arcs-at : to ≤ end
-        pub most : end ≤ 2300
+        pub most : end ≤ 2428
         pub cells-all : length cells″ ≡ mostCells
 
       pub sizes : Sizes
@@ -126,12 +138,13 @@ module _ (ws : List Word) (K : Kept ws) (parents letters ends first next : List 
 
       pub filled : (cells‴ : List ℕ) → cells‴ ≡ sets cells″ 0 (countsBefore states to end) → (end ≡ length (cellsOf t)) × (cells‴ ≡ sets cells 0 (cellsOf t))
       filled cells‴ e =
-          let T-is : to - 5 ≡ length terminals = omega (arith, told .0) in
+          let T-is : to - terminalsBegin ≡ length terminals = omega (arith, told .0) in
           let A-is : (end - to) / arcWidth ≡ length arcs = omega (arith, laid .0) in (
             omega (arith, size, told .0, laid .0),
-            e ∙ ap₂ (λ (x y : ℕ). sets cells″ 0 (states ∷ 1 ∷ x ∷ y ∷ 0 ∷ [])) T-is A-is
-                ∙ ap (λ (m : List ℕ). sets m 0 (states ∷ 1 ∷ length terminals ∷ length arcs ∷ 0 ∷ [])) (then cells cells′ cells″ 5 to terminals (arcsCells arcs) (told .1) (told .0) (laid .1))
-                ∙ store-counts cells (terminals ++ arcsCells arcs) states 1 (length terminals) (length arcs) 0 ∙ ap (sets cells 0) (sym cells-are),
+            e ∙ ap₂ (λ (x y : ℕ). sets cells″ 0 (front states x y)) T-is A-is
+                ∙ ap (λ (m : List ℕ). sets m 0 (front states (length terminals) (length arcs)))
+                (then cells cells′ cells″ terminalsBegin to terminals (arcsCells arcs) (told .1) (told .0) (laid .1))
+                ∙ store-before (front states (length terminals) (length arcs)) (terminals ++ arcsCells arcs) cells 0 terminalsBegin refl ∙ ap (sets cells 0) (sym cells-are),
           )
 
 -- bytes are taken as one list of words

@@ -2,10 +2,10 @@
 use Prim.Native.Nat.{ℕ, _+_, _-_, _/_, _<_}
 use mathlib.Core.Bool.{cond}
 use mathlib.Core.List.{List, [], _∷_, _++_, map}
-use lib.ListN.{getD}
+use lib.ListN.{getD, replicate}
 use lib.Dec.{eqb}
 use Rattle.table_format.specs.Table.{Arc}
-use Rattle.table_format.specs.Loaded.{arcWidth, initialsAt}
+use Rattle.table_format.specs.Loaded.{arcWidth, classCells, initialsAt}
 use Rattle.trie_format.specs.Trie.{cutArc}
 use Rattle.trie_states.specs.Tree.{passing, Chain, childArc}
 
@@ -25,10 +25,14 @@ stateArcs letters ends below i = map (childArc (λ j. getD letters j 0) i) (belo
 abbrev pub Chains : List ℕ → List ℕ → ℕ → (ℕ → List ℕ) → Type 0
 Chains first next states below = (i : ℕ) → i < states → Chain next (getD first i 0) (below i)
 
--- where the terminal states begin, after the counts and one initial state
+-- where the terminal states begin, after the counts, the classes and one initial state
 abbrev pub terminalsBegin : ℕ
 terminalsBegin = initialsAt + 1
 
--- what stands before them, where the arcs begin and end at such places
+-- what stands before them: the counts, and 0 in every cell of the classes and for the initial state, the root
+abbrev pub front : ℕ → ℕ → ℕ → List ℕ
+front states terminals arcs = states ∷ 1 ∷ terminals ∷ arcs ∷ replicate (classCells + 1) 0
+
+-- the same, where the arcs begin and end at such places
 abbrev pub countsBefore : ℕ → ℕ → ℕ → List ℕ
-countsBefore states arcsFrom end = states ∷ 1 ∷ (arcsFrom - terminalsBegin) ∷ ((end - arcsFrom) / arcWidth) ∷ 0 ∷ []
+countsBefore states arcsFrom end = front states (arcsFrom - terminalsBegin) ((end - arcsFrom) / arcWidth)

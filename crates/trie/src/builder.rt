@@ -7,6 +7,7 @@ use lexicon::Listing;
 use lexicon::MOST_STATES;
 use refusal::Refusal;
 use table_format::ARC_WIDTH;
+use table_format::CLASSES_AT;
 use table_format::INITIALS_AT;
 use table_format::MOST_CELLS;
 use trie_states::children::NONE;
@@ -29,7 +30,7 @@ ghost use Rattle.trie.specs.Calls.{buildAnswer, buildCells};
 // Where the terminal states begin, after one initial state.
 const TERMINALS_AT: usize = INITIALS_AT + 1;
 
-// The counts and the initial state, before the terminal states and the arcs.
+// The counts, and 0 in the cells of the classes and of the initial state, before the terminal states and the arcs.
 fn put_counts(cells: &mut [u16], states: usize, arcs: usize, end: usize)
     requires { ⌜ (states ≤ mostStates) × (terminalsBegin ≤ arcs) × (arcs ≤ end) × (end ≤ mostCells) × (length (now cells) ≡ mostCells) ⌝ }
     ensures { λ _. ⌜ now (cells .exit) ≡ sets (now (cells .entry)) 0 (countsBefore states arcs end) ⌝ }
@@ -38,7 +39,11 @@ fn put_counts(cells: &mut [u16], states: usize, arcs: usize, end: usize)
     cells[1] = 1;
     cells[2] = (arcs - TERMINALS_AT) as u16;
     cells[3] = ((end - arcs) / ARC_WIDTH) as u16;
-    cells[4] = 0;
+    let mut at = CLASSES_AT;
+    while at < TERMINALS_AT {
+        cells[at] = 0;
+        at += 1;
+    }
 }
 
 // The cells of the table of a list that holds; how many there are.

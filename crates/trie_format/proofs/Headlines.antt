@@ -7,6 +7,7 @@ use mathlib.Core.Option.{some}
 use mathlib.Core.List.{List, [], _∷_, _++_, List·Memᴰ}
 use lib.ListN.{length, getD}
 use Rattle.table_format.specs.Table.{Arc}
+use Rattle.table_format.specs.Classes.{noClasses}
 use Rattle.table_format.specs.Rules.{keepsRules}
 use Rattle.table_format.specs.Loaded.{cellsOf, loaded}
 use Rattle.table_format.proofs.Loaded.{loaded-cells}
@@ -28,8 +29,8 @@ module _ (ws : List Word) (K : Kept ws) where
   pub trie-rules : keepsRules (trieTable ws) ≡ true
   trie-rules = rules.rules ws (beginnings ws) (names ws (K .holds)) (rising-distinct (beginnings ws) (beginnings-rise ws (K .holds))) (K .few)
 
-  -- It has at most 2,300 cells.
-  pub trie-cells : length (cellsOf (trieTable ws)) ≤ 2300
+  -- It has at most 2,428 cells.
+  pub trie-cells : length (cellsOf (trieTable ws)) ≤ 2428
   trie-cells = rules.few-cells ws (beginnings ws) (names ws (K .holds)) (rising-distinct (beginnings ws) (beginnings-rise ws (K .holds))) (K .few)
 
   -- Cells that begin with the table's are loaded as it.
@@ -60,6 +61,6 @@ module _ (ws : List Word) (holds : listHolds ws ≡ true) where
   arcs-only = arcs.arcs-only ws holds
 
 -- An empty list gives the table of one state.
-pub empty-list : trieTable [] ≡ record { states = 1; initials = 0 ∷ []; terminals = []; arcs = [] }
+pub empty-list : trieTable [] ≡ record { states = 1; classes = noClasses; initials = 0 ∷ []; terminals = []; arcs = [] }
 unfolding beginnings letterArcs
 empty-list = refl

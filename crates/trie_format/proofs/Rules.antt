@@ -3,14 +3,18 @@ use Prim.Native.Nat.{ℕ, suc, _+_, _*_, _≤_, _<_}
 use native.Mathlib.Omega.{arith}
 use mathlib.Core.Path.{_≡_, refl, sym, ap, subst, _∙_}
 use mathlib.Core.Logic.{inl, inr, ⊎-elim}
-use mathlib.Core.Bool.{Bool, true, false, cond}
+use mathlib.Core.Bool.{Bool, true, false, cond, true≢false}
 use mathlib.Core.List.{List, [], _∷_, _++_, map, append-nil, List·Memᴰ, List·Memᴰ·not-nil, List·Memᴰ·cases-cons, Memᴰ·of-map}
 use lib.ListN.{length, getD, length-append, length-map}
+use borrow.Author.Tests.{lt-ltb}
 use Rattle.table_format.specs.Table.{Arc}
+use Rattle.table_format.specs.Classes.{isPlain, noClasses}
 use Rattle.table_format.specs.Rules.{keepsRules}
 use Rattle.table_format.specs.Ruled.{AtLeast}
 use Rattle.table_format.specs.Loaded.{cellsOf}
+use Rattle.table_format.proofs.Tests.{and-both}
 use Rattle.table_format.proofs.All.{All, all-mem}
+use Rattle.table_format.proofs.Classes.{classes-are, no-classes-keep}
 use Rattle.table_format.proofs.Ruled.{kept}
 use Rattle.table_format.proofs.Loaded.{length-cells}
 use Rattle.graph.specs.Lists.{Distinct}
@@ -129,6 +133,10 @@ module _ (ws bs : List Word) where
     arc-inside : (a : Arc) → List·Memᴰ a (tableOn ws bs .arcs) → (a .source < length bs) × (a .target < length bs) × (a .upper ≤ 63) × (a .lower ≤ 63)
     arc-inside a m = inside a (all-mem (TreeArc ws bs) (tableOn ws bs .arcs) (arcs-shape ws bs) a m)
 
+    -- so none has a class
+    plain : (a : Arc) → List·Memᴰ a (tableOn ws bs .arcs) → isPlain a ≡ true
+    plain a m = let h = arc-inside a m in and-both (lt-ltb (a .upper) 64 (omega (arith, h .2))) (lt-ltb (a .lower) 64 (omega (arith, h .3)))
+
     pub rules : length bs ≤ 256 → keepsRules (tableOn ws bs) ≡ true
     rules few =
         kept (tableOn ws bs)
@@ -144,10 +152,14 @@ module _ (ws bs : List Word) where
           terminals-rise = between-rise (ends (listed ws) 0 bs) 0 (0 + length bs) ends-rise;
           few-arcs = omega (arith, few-arcs);
           rising = at-least (tableOn ws bs .arcs) 0 0 (length bs * 64) (omega arith) (arcs-between ws bs) (low (tableOn ws bs .arcs) (arcs-shape ws bs));
+          eight-rows = classes-are noClasses .0 no-classes-keep .0;
+          row-in = classes-are noClasses .0 no-classes-keep .1;
           source-in = λ a m. arc-inside a m .0;
           target-in = λ a m. arc-inside a m .1;
-          upper-in = λ a m. arc-inside a m .2;
-          lower-in = λ a m. arc-inside a m .3;
+          upper-in = λ a m. omega (arith, arc-inside a m .2);
+          lower-in = λ a m. omega (arith, arc-inside a m .3);
+          class-alike = λ a m e. absurd (true≢false (sym (plain a m) ∙ e));
+          class-defined = λ a m e. absurd (true≢false (sym (plain a m) ∙ e));
           arcs-differ = distinct-differ (tableOn ws bs .arcs) (ranked-distinct rank (tableOn ws bs .arcs) (0, length bs * 64, arcs-between ws bs));
         })
       where
@@ -155,6 +167,6 @@ module _ (ws bs : List Word) where
         low [] p = tt
         low (a ∷ l) p = (inside a (p .0) .3, low l (p .1))
 
-    -- at most 4 + 1 + 255 + 4 × 510 cells
-    pub few-cells : length bs ≤ 256 → length (cellsOf (tableOn ws bs)) ≤ 2300
-    few-cells few = omega (arith, length-cells (tableOn ws bs), few-ends, few-arcs)
+    -- at most 4 + 128 + 1 + 255 + 4 × 510 cells
+    pub few-cells : length bs ≤ 256 → length (cellsOf (tableOn ws bs)) ≤ 2428
+    few-cells few = omega (arith, length-cells (tableOn ws bs) no-classes-keep, few-ends, few-arcs)

@@ -7,6 +7,7 @@ use mathlib.Core.Option.{Option, none, some}
 use mathlib.Core.List.{List, [], _∷_, _++_}
 use lib.ListN.{length}
 use Rattle.table_format.specs.Table.{Arc, Table}
+use Rattle.table_format.specs.Classes.{noClasses}
 use Rattle.lexicon.specs.Words.{Word, same, listed}
 use Rattle.lexicon.specs.Beginnings.{beginnings}
 
@@ -47,6 +48,7 @@ abbrev pub tableOn : List Word → List Word → Table
 tableOn ws bs =
     record {
       states = length bs;
+      classes = noClasses;
       initials = 0 ∷ [];
       terminals = byState (λ i b. cond (listed ws b) (i ∷ []) []) 0 bs;
       arcs = byState (arcsOf ws bs) 0 bs;

@@ -1,4 +1,6 @@
-//! Random tables and words. Alphabets are small, so that words have many readings. And random lists of readings with faces for a sheet.
+//! Random tables, about half of them with classes, and words. Alphabets are small, so that words have many readings. And random lists of
+//! readings with faces for a sheet.
+pub mod classes;
 pub mod lists;
 
 use crate::query;
@@ -19,6 +21,10 @@ struct Plan {
     arcs: usize,
     /// One letter in so many is 0.
     blank: usize,
+    /// So many classes are defined.
+    classes: usize,
+    /// Where there are classes, one arc in so many has one.
+    classed: usize,
 }
 
 fn plan(random: &mut Random) -> Plan {
@@ -38,6 +44,12 @@ fn plan(random: &mut Random) -> Plan {
         letters: random.within(1, 3),
         arcs: random.below(3 * states + 3),
         blank: random.within(2, 4),
+        classes: match random.below(6) {
+            0..=2 => 0,
+            3 | 4 => random.within(1, 3),
+            _ => random.within(4, 8),
+        },
+        classed: random.within(1, 5),
     }
 }
 
@@ -135,6 +147,8 @@ fn drawn(random: &mut Random, plan: Plan, task: u32, falling: bool) -> Table {
     terminals.sort();
     let way_in = !falling && !corner.is_empty() && random.one_in(2);
     let mut arcs = arcs(random, task, plan, &order, falling || way_in);
+    let classes = classes::some(random, plan.classes);
+    classes::put(random, &classes, &mut arcs, plan.classed);
     if random.one_in(2) {
         arcs.extend(ring(corner));
     }
@@ -145,6 +159,7 @@ fn drawn(random: &mut Random, plan: Plan, task: u32, falling: bool) -> Table {
     }
     Table {
         states: plan.states as u16,
+        classes,
         initials,
         terminals,
         arcs: listed(random, arcs),
@@ -183,7 +198,8 @@ fn walked(random: &mut Random, table: &Table, most: usize) -> (Vec<u8>, Vec<u8>)
         if arcs.is_empty() {
             break;
         }
-        let arc = *random.pick(arcs);
+        let arcs = table.plain_arcs(*random.pick(arcs));
+        let arc = *random.pick(&arcs);
         upper.extend((arc.upper != 0).then_some(arc.upper as u8));
         lower.extend((arc.lower != 0).then_some(arc.lower as u8));
         state = arc.target;
@@ -205,6 +221,10 @@ pub fn words(random: &mut Random, table: &Table, task: u32) -> (Vec<u8>, Vec<u8>
     } else {
         walked(random, table, most)
     };
+    if random.one_in(6) && !lower.is_empty() {
+        let at = random.below(lower.len()); // another letter of a class, perhaps
+        lower[at] = random.within(1, 4) as u8;
+    }
     let (reads_upper, reads_lower) = query::sides(task).expect("a task");
     upper.truncate(if reads_upper { 64 } else { 0 });
     lower.truncate(if reads_lower { 64 } else { 0 });

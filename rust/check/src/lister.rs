@@ -55,13 +55,21 @@ impl Lister<'_> {
         self.entry()
     }
 
-    /// The entry of an arc at the end of a path, and what follows if it fits.
+    /// The entry of an arc at the end of a path, and what follows if it fits: if one of the plain arcs does that it stands for. No two do,
+    /// since a class arc reads a letter.
     fn longer(&mut self, arc: &Arc, upper: &[u8], lower: &[u8]) -> Result<(), Cut> {
-        let upper_left = left(self.reads_upper, upper, arc.upper as u8);
-        let lower_left = left(self.reads_lower, lower, arc.lower as u8);
-        let (Some(upper), Some(lower)) = (upper_left, lower_left) else {
-            return self.entry();
-        };
+        for arc in self.table.plain_arcs(*arc) {
+            let upper_left = left(self.reads_upper, upper, arc.upper as u8);
+            let lower_left = left(self.reads_lower, lower, arc.lower as u8);
+            if let (Some(upper), Some(lower)) = (upper_left, lower_left) {
+                return self.follow(&arc, upper, lower);
+            }
+        }
+        self.entry()
+    }
+
+    /// The path that goes on with a plain arc, and what is left of each word then.
+    fn follow(&mut self, arc: &Arc, upper: &[u8], lower: &[u8]) -> Result<(), Cut> {
         let written = self.output.len();
         if !self.reads_upper && arc.upper != 0 {
             self.output.push(arc.upper as u8);

@@ -5,7 +5,7 @@ use crate::engine::{Engine, Next, Sheet, Sheets, Start, Texts, Trees};
 use crate::idle;
 use crate::query;
 use crate::sheet;
-use crate::table::{Arc, Table};
+use crate::table::{self, Arc, Table};
 use crate::text;
 use crate::words;
 use readings::limits::FRAME_CELLS;
@@ -96,8 +96,23 @@ impl<'a> Search<'a> {
         }
     }
 
+    /// An arc as it reads after a frame: with the next letter, if it has a class; none where that is not in the class.
+    fn as_read(&self, frame: Frame, arc: Arc) -> Option<Arc> {
+        let Some(class) = table::class(&self.table.classes, arc.upper) else {
+            return Some(arc);
+        };
+        let (word, at) = if self.reads_upper {
+            (self.upper, frame.upper)
+        } else {
+            (self.lower, frame.lower)
+        };
+        let letter = u16::from(*word.get(at as usize)?);
+        class.contains(&letter).then(|| arc.with_letter(letter))
+    }
+
     /// The frame that an arc makes by fitting.
     fn follow(&self, frame: Frame, arc: Arc) -> Option<Frame> {
+        let arc = self.as_read(frame, arc)?;
         let upper = passed(self.reads_upper, self.upper, arc.upper, frame.upper)?;
         let lower = passed(self.reads_lower, self.lower, arc.lower, frame.lower)?;
         Some(self.new_frame(arc.target, upper, lower))
@@ -183,11 +198,11 @@ impl<'a> Search<'a> {
         Ok(Some(output))
     }
 
-    /// The arcs just tried in the used frames: the path to the top frame's last tried arc.
+    /// The arcs just tried in the used frames, as they read: the path to the top frame's last tried arc.
     fn tried(&self, run: Run, stack: &[u32]) -> Vec<Arc> {
-        (0..run.depth as usize)
-            .map(|i| self.table.arcs[frame_at(stack, i).next as usize - 1])
-            .collect()
+        let frames = (0..run.depth as usize).map(|i| frame_at(stack, i));
+        let arcs = frames.map(|f| self.as_read(f, self.table.arcs[f.next as usize - 1]));
+        arcs.map(|arc| arc.expect("an arc that fits")).collect()
     }
 
     /// One step, where the end is not reached.
@@ -221,7 +236,7 @@ impl<'a> Search<'a> {
                 ..*run
             };
             let mut path = self.tried(below, stack);
-            path.push(arc);
+            path.extend(self.as_read(frame, arc));
             path
         } else {
             Vec::new()

@@ -1,5 +1,12 @@
-//! A table of states and arcs, and its loaded form, a list of cells.
+//! A table of states, classes and arcs, and its loaded form, a list of cells.
 use crate::rules;
+use readings::limits::CLASS_LETTERS;
+
+/// What stands on an arc for class 0; class k is k more.
+pub const FIRST_CLASS: u16 = 64;
+
+/// The letters of classes 0 to 7; a class without letters is not defined.
+pub type Classes = [Vec<u16>; 8];
 
 #[derive(Clone, Copy, Debug, PartialEq, Eq, PartialOrd, Ord)]
 pub struct Arc {
@@ -12,6 +19,7 @@ pub struct Arc {
 #[derive(Clone, Debug, Default, PartialEq, Eq)]
 pub struct Table {
     pub states: u16,
+    pub classes: Classes,
     pub initials: Vec<u16>,
     pub terminals: Vec<u16>,
     pub arcs: Vec<Arc>,
@@ -26,10 +34,44 @@ impl Arc {
             target,
         }
     }
+
+    /// An arc of a class.
+    pub fn of_class(source: u16, class: u16, target: u16) -> Arc {
+        let letter = FIRST_CLASS + class;
+        Arc::new(source, letter, letter, target)
+    }
+
+    /// No side has a class.
+    pub fn is_plain(&self) -> bool {
+        self.upper < FIRST_CLASS && self.lower < FIRST_CLASS
+    }
+
+    /// The same with one letter on both sides.
+    pub fn with_letter(self, letter: u16) -> Arc {
+        Arc::new(self.source, letter, letter, self.target)
+    }
+}
+
+/// The letters of the class that a letter of an arc means, as far as it is defined.
+pub fn class(classes: &Classes, letter: u16) -> Option<&[u16]> {
+    let number = letter.checked_sub(FIRST_CLASS)?;
+    let letters = classes.get(usize::from(number))?;
+    (!letters.is_empty()).then_some(letters)
+}
+
+/// The cells of the classes: a row for each, its letters filled up with 0.
+pub fn class_cells(classes: &Classes) -> Vec<u16> {
+    let row = |letters: &Vec<u16>| {
+        let mut row = letters.clone();
+        row.resize(CLASS_LETTERS, 0);
+        row
+    };
+    classes.iter().flat_map(row).collect()
 }
 
 impl Table {
-    /// The four counts, the initial states, the terminal states, then four cells an arc.
+    /// The four counts, the rows of the eight classes, the initial states, the terminal states, then four
+    /// cells an arc.
     pub fn cells(&self) -> Vec<u16> {
         let mut cells = vec![
             self.states,
@@ -37,6 +79,7 @@ impl Table {
             self.terminals.len() as u16,
             self.arcs.len() as u16,
         ];
+        cells.extend(class_cells(&self.classes));
         cells.extend(&self.initials);
         cells.extend(&self.terminals);
         for arc in &self.arcs {
@@ -55,6 +98,11 @@ impl Table {
             states,
             ..Table::default()
         };
+        for letters in &mut table.classes {
+            let row: Option<Vec<u16>> = (0..CLASS_LETTERS).map(|_| cell()).collect();
+            *letters = unfilled(row?);
+            fault = fault.or(rules::letters(letters));
+        }
         for _ in 0..initials {
             let state = cell()?;
             fault = fault.or(rules::initial(states, &table.initials, state));
@@ -67,10 +115,18 @@ impl Table {
         }
         for _ in 0..arcs {
             let arc = Arc::new(cell()?, cell()?, cell()?, cell()?);
-            fault = fault.or_else(|| rules::arc(states, &table.arcs, arc));
+            fault = fault.or_else(|| rules::arc(&table, arc, rules::ORDER));
             table.arcs.push(arc);
         }
         fault.is_none().then_some(table)
+    }
+
+    /// The arcs without a class that an arc stands for, by rising letter: itself where it has none.
+    pub fn plain_arcs(&self, arc: Arc) -> Vec<Arc> {
+        match class(&self.classes, arc.upper) {
+            None => vec![arc],
+            Some(letters) => letters.iter().map(|x| arc.with_letter(*x)).collect(),
+        }
     }
 
     /// How many arcs have a source below a state: the number of its first arc.
@@ -87,4 +143,12 @@ impl Table {
     pub fn is_terminal(&self, state: u16) -> bool {
         self.terminals.contains(&state)
     }
+}
+
+/// A row without the zeros at its end. A 0 before a letter stays, and breaks a rule.
+fn unfilled(mut row: Vec<u16>) -> Vec<u16> {
+    while row.last() == Some(&0) {
+        row.pop();
+    }
+    row
 }

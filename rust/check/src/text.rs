@@ -1,7 +1,8 @@
 //! A table's text, read and written: one item a line, two capital digits a byte, a line feed after each.
 use crate::answer::Answer;
 use crate::rules;
-use crate::table::{Arc, Table};
+use crate::table::{Arc, Classes, Table};
+use std::iter::Peekable;
 
 /// The text of document 01's table K.
 pub const K: &str = "010003000100020005\n020000\n030001\n030002\n\
@@ -62,14 +63,44 @@ fn kept(fault: Option<u32>) -> Result<(), u32> {
     fault.map_or(Ok(()), Err)
 }
 
+/// The classes of the next lines, as many as have this kind: 2 for a line's length, then 34.
+fn classes<'a>(lines: &mut Peekable<impl Iterator<Item = &'a [u8]>>) -> Result<Classes, u32> {
+    let mut classes = Classes::default();
+    while let Some(bytes) = lines.peek().and_then(|line| line_bytes(line))
+        && bytes[0] == 6
+    {
+        if !(3..=18).contains(&bytes.len()) {
+            return Err(2);
+        }
+        let number = u16::from(bytes[1]);
+        let letters: Vec<u16> = bytes[2..].iter().map(|x| u16::from(*x)).collect();
+        kept(rules::class(&classes, number, &letters))?;
+        classes[usize::from(number)] = letters;
+        lines.next();
+    }
+    Ok(classes)
+}
+
+/// How many lines stand before the end line.
+fn lines_before(table: &Table) -> usize {
+    let defined = table.classes.iter().filter(|letters| !letters.is_empty());
+    1 + defined.count() + table.initials.len() + table.terminals.len() + table.arcs.len()
+}
+
 /// A text's table, or the number that its first bad line earns.
 pub fn parse(text: &[u8]) -> Result<Table, u32> {
-    let mut lines = lines(text);
+    parse_in(text, rules::ORDER)
+}
+
+/// The same, where the numbers of an arc are looked for in this order.
+pub fn parse_in(text: &[u8], order: [u32; 5]) -> Result<Table, u32> {
+    let mut lines = lines(text).peekable();
     let header = item(&mut lines, 1, 9)?;
     let count = |k: usize| number(&header, 1 + 2 * k);
     kept(rules::counts(count(0), count(1), count(2), count(3)))?;
     let mut table = Table {
         states: count(0),
+        classes: classes(&mut lines)?,
         ..Table::default()
     };
     for _ in 0..count(1) {
@@ -86,11 +117,11 @@ pub fn parse(text: &[u8]) -> Result<Table, u32> {
         let bytes = item(&mut lines, 4, 7)?;
         let letters = (bytes[3].into(), bytes[4].into());
         let arc = Arc::new(number(&bytes, 1), letters.0, letters.1, number(&bytes, 5));
-        kept(rules::arc(table.states, &table.arcs, arc))?;
+        kept(rules::arc(&table, arc, order))?;
         table.arcs.push(arc);
     }
     let end = item(&mut lines, 5, 3)?;
-    if number(&end, 1) != 1 + count(1) + count(2) + count(3) {
+    if usize::from(number(&end, 1)) != lines_before(&table) {
         return Err(9);
     }
     match lines.next() {
@@ -118,6 +149,12 @@ pub fn print(table: &Table) -> Vec<u8> {
         header.extend((count as u16).to_be_bytes());
     }
     let mut text = line(&header);
+    for (class, letters) in (0..).zip(&table.classes) {
+        if !letters.is_empty() {
+            let letters = letters.iter().map(|x| *x as u8);
+            text.extend(line(&Vec::from_iter([6, class].into_iter().chain(letters))));
+        }
+    }
     for state in &table.initials {
         text.extend(numbered(2, *state));
     }
@@ -131,8 +168,7 @@ pub fn print(table: &Table) -> Vec<u8> {
         bytes.extend(arc.target.to_be_bytes());
         text.extend(line(&bytes));
     }
-    let before = 1 + counts[1] + counts[2] + counts[3];
-    text.extend(numbered(5, before as u16));
+    text.extend(numbered(5, lines_before(table) as u16));
     text
 }
 
@@ -149,7 +185,12 @@ pub fn deliver<T: Copy>(all: &[T], destination: &mut [T]) -> Answer {
 
 /// Text to cells: the text's refusals, then 24.
 pub fn read(text: &[u8], destination: &mut [u16]) -> Answer {
-    match parse(text) {
+    read_in(text, rules::ORDER, destination)
+}
+
+/// The same, where the numbers of an arc are looked for in this order.
+pub fn read_in(text: &[u8], order: [u32; 5], destination: &mut [u16]) -> Answer {
+    match parse_in(text, order) {
         Err(number) => Answer::refused(number, 0),
         Ok(table) => deliver(&table.cells(), destination),
     }

@@ -77,6 +77,7 @@ fn largest(engine: &impl Engine) {
         initials: vec![0],
         terminals: vec![0],
         arcs: (1..256).map(|s| Arc::new(s, 0, 0, next(s))).collect(),
+        ..Table::default()
     };
     let others: Vec<u16> = (1..256).collect();
     tells(engine, &table, None);
@@ -93,6 +94,7 @@ fn farthest(engine: &impl Engine) {
             .filter(|s| Some(*s) != missing)
             .map(|s| Arc::new(s, 7, 8, s - 1))
             .collect(),
+        ..Table::default()
     };
     let round = Arc::new(0, 0, 0, 0);
     tells(engine, &chain(None), None);

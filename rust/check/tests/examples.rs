@@ -27,7 +27,7 @@ fn examples() -> Vec<(PathBuf, PathBuf)> {
 #[test]
 fn the_program_prints_what_stands_beside() {
     let examples = examples();
-    assert!(examples.len() >= 6, "{examples:?}");
+    assert!(examples.len() >= 7, "{examples:?}");
     for (input, output) in examples {
         let text = fs::read(&input).expect("an example");
         let expected = fs::read_to_string(&output).expect("its output");

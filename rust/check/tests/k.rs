@@ -132,6 +132,7 @@ fn idle_cycles(engine: &impl Engine) {
         initials: vec![0],
         terminals: vec![],
         arcs: vec![arc],
+        ..Table::default()
     };
     let in_k = |arc: Arc| {
         let mut table = k();
@@ -221,14 +222,15 @@ fn text_of(states: u16, letter: u8) -> Vec<u8> {
 #[test]
 fn limits_of_texts() {
     for texts in [&Library as &dyn Texts, &Model] {
-        let mut table = [0; 64];
-        assert_eq!(texts.read(&text_of(256, 63), &mut table), Answer::done(9));
+        let mut table = [0; 200];
+        let read = Answer::done(137);
+        assert_eq!(texts.read(&text_of(256, 63), &mut table), read);
         assert_eq!(
             texts.read(&text_of(257, 63), &mut table),
             Answer::refused(3, 0)
         );
         assert_eq!(
-            texts.read(&text_of(256, 64), &mut table),
+            texts.read(&text_of(256, 72), &mut table),
             Answer::refused(5, 0)
         );
         let mut text = [0; 256];

@@ -16,17 +16,19 @@ use std::thread;
 /// Steps to the first reading of the deepest search: a push for each frame, and the arc of the upper letter tried in vain 64 times.
 const FIRST: usize = MOST + 64;
 
-/// Every state initial and terminal, and four arcs from each.
+/// Eight classes of 16 letters, every state initial and terminal, and four arcs from each, two of them of a class.
 fn largest() -> Table {
     let states: Vec<u16> = (0..256).collect();
     let mut arcs = Vec::new();
     for source in 0..256 {
-        for k in 0..4 {
+        for k in 0..2 {
             arcs.push(Arc::new(source, 60 + k, 63 - k, (source + k) % 256));
+            arcs.push(Arc::of_class(source, (source + k) % 8, 255 - source));
         }
     }
     Table {
         states: 256,
+        classes: std::array::from_fn(|k| (1..=16).map(|x| x + 6 * k as u16).collect()),
         initials: states.iter().rev().copied().collect(),
         terminals: states,
         arcs,
@@ -37,13 +39,13 @@ fn largest() -> Table {
 fn the_largest_table() {
     let (cells, source) = (largest().cells(), text::print(&largest()));
     assert_eq!((cells.len(), source.len()), (TABLE_CELLS, TEXT_BYTES));
-    for length in [4_611, 4_612, 4_613] {
+    for length in [4_739, 4_740, 4_741] {
         let answer = texts::read(&Library, &source, length).unwrap();
-        assert_eq!(answer.is_refused(), length < 4_612);
+        assert_eq!(answer.is_refused(), length < 4_740);
     }
-    for length in [18_969, 18_970, 18_971] {
+    for length in [19_265, 19_266, 19_267] {
         let answer = texts::write(&Library, &cells, length).unwrap();
-        assert_eq!(answer.is_refused(), length < 18_970);
+        assert_eq!(answer.is_refused(), length < 19_266);
     }
 }
 
@@ -67,6 +69,7 @@ fn chain() -> Table {
         initials: vec![0],
         terminals: vec![255],
         arcs,
+        ..Table::default()
     }
 }
 
@@ -122,6 +125,7 @@ fn looping(depth: usize, frames: usize) -> Call {
         initials: vec![0],
         terminals: vec![],
         arcs: vec![Arc::new(0, 0, 1, 0)],
+        ..Table::default()
     };
     Call {
         table: table.cells(),
@@ -159,7 +163,7 @@ fn no_more_frames_are_used() {
 fn the_largest_tables_of_word_lists() {
     for (list, bytes) in [(listed::short(255), 760), (listed::longest(), 14_556)] {
         let lent = packed(&list);
-        assert_eq!((lent.len(), TREE_CELLS), (bytes, 2_300));
+        assert_eq!((lent.len(), TREE_CELLS), (bytes, 2_428));
         for cells in [TREE_CELLS - 1, TREE_CELLS, TREE_CELLS + 1] {
             let answer = words::compare(&Library, &lent, cells).unwrap();
             assert_eq!(answer.is_refused(), cells < TREE_CELLS);

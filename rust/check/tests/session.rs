@@ -119,6 +119,46 @@ fn tables_turned_down() {
     }
 }
 
+/// Reads 14, a letter of class 0 and 10, and writes 10, that letter and 14.
+const VOWEL: &str = "010004000100010003\n06000105090F15\n020000\n030003\n\
+                     04000014100001\n04000140400002\n04000210140003\n050007\n";
+
+#[test]
+fn a_class() {
+    for (query, lines) in [
+        ("10020314091000\n", "2000010003100914\n2F0001\n"),
+        ("10020314151000\n", "2000010003101514\n2F0001\n"),
+        ("10020314021000\n", "2F0000\n"),
+        ("10030003100914\n", "2000010003140910\n2F0001\n"),
+        ("10010314091003100914\n", "2000010000\n2F0001\n"),
+        ("10010314091003100114\n", "2F0000\n"),
+        ("10020314401000\n", "2E0A\n"),
+    ] {
+        prints(format!("{VOWEL}{query}"), lines);
+    }
+}
+
+#[test]
+fn classes_turned_down() {
+    let class = "06000105090F15\n";
+    for (old, new, line) in [
+        (class, "", "2E22\n"),
+        (class, "0600\n", "2E02\n"),
+        (class, "060000\n", "2E22\n"),
+        (class, "060801\n", "2E22\n"),
+        (class, "06000105\n06000105\n", "2E22\n"),
+        (class, "06000105\n06010105\n", "2E09\n"),
+        ("020000\n", "020000\n060105\n", "2E02\n"),
+        ("4040", "4140", "2E22\n"),
+        ("4040", "4100", "2E22\n"),
+        ("4040", "4840", "2E05\n"),
+        ("050007", "050006", "2E09\n"),
+    ] {
+        let text = VOWEL.replace(old, new);
+        prints(format!("{text}10020314091000\n"), line);
+    }
+}
+
 #[test]
 fn idle_cycles_are_refused() {
     let mut table = text::parse(K.as_bytes()).expect("table K");
@@ -152,6 +192,7 @@ fn fan(readings: u16) -> Table {
         initials: vec![0],
         terminals: (1..17).collect(),
         arcs: arcs.collect(),
+        ..Table::default()
     }
 }
 
@@ -179,6 +220,7 @@ fn a_table_of_256_states() {
         initials: (0..256).rev().collect(),
         terminals: (0..256).collect(),
         arcs,
+        ..Table::default()
     };
     for length in [0, 1, 63, 64] {
         agrees(&Model, &input(&table, 2, &vec![1; length], &[]), None);
@@ -194,6 +236,7 @@ fn chain(states: u16) -> Table {
         initials: vec![0],
         terminals: vec![states - 1],
         arcs: (0..states).map(arc).collect(),
+        ..Table::default()
     }
 }
 
@@ -229,6 +272,7 @@ fn a_refusal_after_a_reading() {
         initials: vec![255, 0],
         terminals: vec![255],
         arcs,
+        ..Table::default()
     };
     prints(input(&table, 2, &[1; 16], &[]), "2000010000\n2E16\n");
 }
@@ -262,6 +306,7 @@ fn long_search(steps: u64) -> Table {
         initials,
         terminals: vec![],
         arcs,
+        ..Table::default()
     }
 }
 

@@ -41,6 +41,7 @@ fn idle_table(states: u16, initial: u16, arcs: impl IntoIterator<Item = (u16, u1
         initials: vec![initial],
         terminals: vec![],
         arcs,
+        ..Table::default()
     }
 }
 

@@ -1,7 +1,8 @@
 //! The comparison that the library is put to finds nothing in the benchmark's twin, and finds each planted fault.
 use readings_check::answer::Answer;
 use readings_check::compare::fixed;
-use readings_check::engine::{Engine, Sheets, Trees};
+use readings_check::engine::{Engine, Sheets, Texts, Trees};
+use readings_check::text;
 use readings_check::twin::{PLAIN, SOUND, Twin, fault};
 
 /// A fault is noticed, and so is said of it.
@@ -73,14 +74,17 @@ fn the_allowance_before_the_end_is_noticed() {
 
 #[test]
 fn idle_cycles_of_the_wrong_task_are_noticed() {
-    found(&Twin::<{ fault::RECOGNITION_CYCLES }>, "number: 12");
+    found(
+        &Twin::<{ fault::RECOGNITION_CYCLES }>,
+        "cycle is [10], expected [2, 10, 5], rival Some(Shorter)",
+    );
 }
 
 #[test]
 fn a_frame_dropped_too_early_is_noticed() {
     found(
         &Twin::<{ fault::DROPPED_EARLY }>,
-        "steps: 3, length: 0 }, expected Answer { kind: 1, number: 0, steps: 3, length: 1 }",
+        "steps: 19, length: 0 }, expected Answer { kind: 3, number: 0, steps: 21, length: 0 }",
     );
 }
 
@@ -94,14 +98,14 @@ fn every_state_as_reached_is_noticed() {
 
 #[test]
 fn the_initial_states_alone_as_reached_are_noticed() {
-    found(&Twin::<{ fault::INITIALS_REACHED }>, "rival Some(Turned)");
+    found(&Twin::<{ fault::INITIALS_REACHED }>, "rival Some(Higher)");
 }
 
 #[test]
 fn reach_by_idle_arcs_alone_is_noticed() {
     found(
         &Twin::<{ fault::IDLE_REACHED }>,
-        "expected Answer { kind: 4, number: 12, steps: 0, length: 0 }, loops None",
+        "cycle is [1], expected [0], rival Some(Higher), loops None",
     );
 }
 
@@ -141,6 +145,67 @@ fn the_right_cycle_from_another_state_is_noticed() {
     found(&Twin::<{ fault::BEGUN_ELSEWHERE }>, "rival Some(Turned)");
 }
 
+#[test]
+fn a_letter_of_a_class_not_written_is_noticed() {
+    found(
+        &Twin::<{ fault::CLASS_UNWRITTEN }>,
+        "length: 5 }, expected Answer { kind: 1, number: 0, steps: 1, length: 7 }",
+    );
+}
+
+#[test]
+fn a_class_written_for_its_letter_is_noticed() {
+    found(
+        &Twin::<{ fault::CLASS_WRITTEN }>,
+        "output: cell 2 is 65, expected 4",
+    );
+}
+
+#[test]
+fn two_letters_of_a_class_in_recognition_are_noticed() {
+    found(
+        &Twin::<{ fault::UNLIKE_IN_CLASS }>,
+        "run: cell 0 is Run { task: 1, ",
+    );
+}
+
+#[test]
+fn a_0_as_a_letter_of_a_class_is_noticed() {
+    found(
+        &Twin::<{ fault::NOUGHT_IN_CLASS }>,
+        "answer is Answer { kind: 4, number: 22",
+    );
+}
+
+/// A reader of texts that looks for the numbers of an arc in another order.
+struct Misordered([u32; 5]);
+
+impl Texts for Misordered {
+    fn read(&self, text: &[u8], table: &mut [u16]) -> Answer {
+        text::read_in(text, self.0, table)
+    }
+
+    fn write(&self, table: &[u16], text: &mut [u8]) -> Answer {
+        text::write(table, text)
+    }
+}
+
+/// A fault in reading texts is noticed, and so is said of it.
+fn found_in_texts(texts: &impl Texts, said: &str) {
+    let difference = fixed::all_texts(texts).expect_err("the fault is not noticed");
+    assert!(difference.contains(said), "noticed otherwise: {difference}");
+}
+
+#[test]
+fn a_fault_of_classes_before_the_limit_of_letters_is_noticed() {
+    found_in_texts(&Misordered([4, 34, 5, 7, 8]), &refused(34, 5));
+}
+
+#[test]
+fn a_fault_of_classes_after_the_order_of_sources_is_noticed() {
+    found_in_texts(&Misordered([4, 5, 7, 34, 8]), &refused(7, 34));
+}
+
 /// A difference in the answers: what is told where another refusal is due.
 fn refused(number: u32, due: u32) -> String {
     let answer = |number| Answer::refused(number, 0);
@@ -157,7 +222,7 @@ fn passed(cells: usize, due: u32) -> String {
 fn a_cut_before_longer_words_is_noticed() {
     found_in_lists(
         &Twin::<{ fault::CUT_FIRST }>,
-        "destination: cell 12 is 0, expected 1",
+        "destination: cell 140 is 0, expected 1",
     );
     let difference = fixed::cuts(&Twin::<{ fault::CUT_FIRST }>).map(drop);
     assert!(difference.is_err_and(|said| said.contains("readings is")));
@@ -167,48 +232,48 @@ fn a_cut_before_longer_words_is_noticed() {
 fn a_cut_that_is_read_is_noticed() {
     found_in_lists(
         &Twin::<{ fault::CUT_READ }>,
-        "destination: cell 11 is 63, expected 0",
+        "destination: cell 139 is 63, expected 0",
     );
 }
 
 #[test]
 fn the_root_as_an_end_is_noticed() {
-    found_in_lists(&Twin::<{ fault::ROOT_AN_END }>, "on 105 cells for []");
+    found_in_lists(&Twin::<{ fault::ROOT_AN_END }>, "on 233 cells for []");
 }
 
 #[test]
 fn a_missed_beginning_of_another_word_is_noticed() {
     found_in_lists(
         &Twin::<{ fault::SHORTER_MISSED }>,
-        "on 123 cells for [1, 1, 2, 1, 1]",
+        "on 251 cells for [1, 1, 2, 1, 1]",
     );
 }
 
 #[test]
 fn a_repeated_word_is_noticed() {
-    found_in_lists(&Twin::<{ fault::REPEATED }>, &passed(579, 31));
+    found_in_lists(&Twin::<{ fault::REPEATED }>, &passed(707, 31));
 }
 
 #[test]
 fn a_fall_in_the_order_is_noticed() {
-    found_in_lists(&Twin::<{ fault::UNORDERED }>, &passed(840, 31));
+    found_in_lists(&Twin::<{ fault::UNORDERED }>, &passed(968, 31));
 }
 
 #[test]
 fn a_word_after_one_that_goes_on_from_it_is_noticed() {
-    found_in_lists(&Twin::<{ fault::SHORTER_AFTER }>, &passed(584, 31));
+    found_in_lists(&Twin::<{ fault::SHORTER_AFTER }>, &passed(712, 31));
 }
 
 #[test]
 fn a_state_too_many_is_noticed() {
-    found_in_lists(&Twin::<{ fault::STATES_257 }>, &passed(1_049, 32));
+    found_in_lists(&Twin::<{ fault::STATES_257 }>, &passed(1_177, 32));
 }
 
 #[test]
 fn a_state_too_few_is_noticed() {
     found_in_lists(
         &Twin::<{ fault::STATES_255 }>,
-        "number: 32, steps: 0, length: 0 }, expected Answer { kind: 0, number: 0, steps: 0, length: 2300 }",
+        "number: 32, steps: 0, length: 0 }, expected Answer { kind: 0, number: 0, steps: 0, length: 2428 }",
     );
 }
 
@@ -224,7 +289,7 @@ fn a_letter_that_is_none_is_noticed() {
 
 #[test]
 fn a_word_of_65_letters_is_noticed() {
-    found_in_lists(&Twin::<{ fault::WORD_OF_65 }>, &passed(270, 30));
+    found_in_lists(&Twin::<{ fault::WORD_OF_65 }>, &passed(398, 30));
 }
 
 #[test]
@@ -234,7 +299,7 @@ fn a_word_of_no_letters_is_noticed() {
 
 #[test]
 fn a_word_cut_short_and_taken_is_noticed() {
-    found_in_lists(&Twin::<{ fault::CUT_TAKEN }>, &passed(836, 30));
+    found_in_lists(&Twin::<{ fault::CUT_TAKEN }>, &passed(964, 30));
 }
 
 #[test]
@@ -244,7 +309,7 @@ fn a_word_cut_short_and_left_out_is_noticed() {
 
 #[test]
 fn no_words_refused_is_noticed() {
-    found_in_lists(&Twin::<{ fault::NONE_REFUSED }>, "on 105 cells for []");
+    found_in_lists(&Twin::<{ fault::NONE_REFUSED }>, "on 233 cells for []");
 }
 
 #[test]
@@ -276,7 +341,7 @@ fn a_short_destination_before_bad_words_is_noticed() {
 fn a_cell_cleared_by_a_refusal_is_noticed() {
     found_in_lists(
         &Twin::<{ fault::REFUSED_TOUCHED }>,
-        "destination: cell 0 is 0, expected 23130, on 2400 cells",
+        "destination: cell 0 is 0, expected 23130, on 2528 cells",
     );
 }
 
@@ -284,7 +349,7 @@ fn a_cell_cleared_by_a_refusal_is_noticed() {
 fn cells_in_a_short_destination_are_noticed() {
     found_in_lists(
         &Twin::<{ fault::SHORT_FILLED }>,
-        "destination: cell 0 is 1, expected 23130, on 4 cells for []",
+        "destination: cell 0 is 1, expected 23130, on 132 cells for []",
     );
 }
 
@@ -292,7 +357,7 @@ fn cells_in_a_short_destination_are_noticed() {
 fn a_zero_after_the_table_is_noticed() {
     found_in_lists(
         &Twin::<{ fault::CELL_AFTER }>,
-        "destination: cell 5 is 0, expected 23130, on 105 cells for []",
+        "destination: cell 133 is 0, expected 23130, on 233 cells for []",
     );
 }
 

@@ -6,7 +6,7 @@ use lib.Dec.{eqb}
 use lib.ListN.{getD}
 use denote.Ref.{now}
 use borrow.Author.Tests.{eq-eqb, ne-eqb}
-use Rattle.engine_place.proofs.Placing.{fails-first, fails-second, holds-first}
+use Rattle.engine_place.proofs.Links.{fails-first, fails-second, holds-first}
 use Rattle.engine_place.proofs.bottom_holds.Statement.{statement}
 use Rattle.engine_place.proofs.bottom_holds.Tie as tie
 

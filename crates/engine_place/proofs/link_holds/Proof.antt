@@ -7,7 +7,7 @@ use Rattle.machine.specs.Query.{upperSide, lowerSide}
 use Rattle.machine.specs.Stack.{lookAt}
 use Rattle.engine_frames.specs.Frames.{frameOf}
 use Rattle.engine_place.specs.Place.{linkBy}
-use Rattle.engine_place.proofs.Placing.{link-untried, link-unfit, link-elsewhere, link-up, link-low}
+use Rattle.engine_place.proofs.Links.{link-untried, link-unfit, link-elsewhere, link-up, link-low}
 use Rattle.engine_place.proofs.link_holds.Statement.{statement}
 use Rattle.engine_place.proofs.link_holds.Tie as tie
 

@@ -5,7 +5,7 @@ use lib.Dec.{leb}
 use lib.ListN.{getD}
 use denote.Ref.{now}
 use borrow.Author.Tests.{le-leb, lt-leb}
-use Rattle.engine_place.proofs.Placing.{fails-first, holds-first}
+use Rattle.engine_place.proofs.Links.{fails-first, holds-first}
 use Rattle.engine_place.proofs.next_holds.Statement.{statement}
 use Rattle.engine_place.proofs.next_holds.Tie as tie
 

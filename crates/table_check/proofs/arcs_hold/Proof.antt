@@ -1,7 +1,10 @@
 use mathlib.Core.Path.{sym, _∙_}
 use denote.Ref.{now}
 use borrow.Author.Needs.{needs}
+use Rattle.table_format.specs.Classes.{classCount}
+use Rattle.table_format.specs.Loaded.{rowsIn}
 use Rattle.table_format.specs.Cells.{arcsAs}
+use Rattle.table_format.proofs.Classes.{length-rows-in}
 use Rattle.table_order.proofs.Rising.{rising-keep}
 use Rattle.table_check.proofs.arcs_hold.Statement.{statement}
 use Rattle.table_check.proofs.arcs_hold.Tie as tie
@@ -10,7 +13,9 @@ arcs-rise-requires : tie.Need-arcs-rise-requires
 arcs-rise-requires c κs = search needs
 
 returns : tie.Need-returns
-returns c = sym (rising-keep (c .before .before .before .args .states) (arcsAs (now (c .before .before .before .args .cells))) (sym (c .before .arcs-rise .ensures) ∙ c .if1 .taken))
+returns c =
+    let a = c .before .before .before .before .args in
+    sym (rising-keep (a .states) (rowsIn classCount (now (a .rows))) (arcsAs (now (a .cells))) (length-rows-in classCount (now (a .rows))) (sym (c .before .arcs-rise .ensures) ∙ c .if1 .taken))
 
 each-arc-holds-requires : tie.Need-each-arc-holds-requires
 each-arc-holds-requires c κs = search needs

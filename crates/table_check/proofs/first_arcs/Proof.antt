@@ -32,7 +32,7 @@ source-is c = sym (ap (λ (a : Held.Arc). a .source) (c .arc-at .ensures))
 
 inside : (c : tie.After-arc-at Inv-loop μ-loop Inv-loop2 μ-loop2) → c .arc-at .result .source < c .before .before .before .before .args .states
 inside c =
-    omega (arith, source-is c, source-inside (c .before .before .before .before .args .states) (now (c .before .before .before .before .args .cells)) (arcCount (now (c .before .before .before .before .args .cells))) (c .before .before .loop .n) (omega arith) (c .before .before .before .before .pre .1))
+    omega (arith, source-is c, source-inside (c .before .before .before .before .args .states) (c .before .before .before .before .pre .1 .0) (now (c .before .before .before .before .args .cells)) (arcCount (now (c .before .before .before .before .args .cells))) (c .before .before .loop .n) (omega arith) (c .before .before .before .before .pre .1 .1))
 
 loop-holds : tie.Need-loop-holds Inv-loop μ-loop Inv-loop2 μ-loop2
 unfolding arcsIn
@@ -133,7 +133,7 @@ loop2-again c = (omega arith, sums-more (arcsAs (now (c .before .before .before 
 returns : tie.Need-returns Inv-loop μ-loop Inv-loop2 μ-loop2
 returns c =
     let arcs = arcsAs (now (c .before .before .before .before .before .args .cells)) in
-    sums-all (c .before .before .before .before .before .args .states) arcs (c .before .loop2 .first) (omega arith) (c .before .before .before .before .before .pre .1) (subst (λ (n : ℕ). Sums arcs n (c .before .loop2 .first)) (omega arith) (c .before .loop2 .inv .1))
+    sums-all (c .before .before .before .before .before .args .states) (c .before .before .before .before .before .pre .1 .0) arcs (c .before .loop2 .first) (omega arith) (c .before .before .before .before .before .pre .1 .1) (subst (λ (n : ℕ). Sums arcs n (c .before .loop2 .first)) (omega arith) (c .before .loop2 .inv .1))
 
 pub first-arcs-spec : {M : Type 1} → statement M
 first-arcs-spec =

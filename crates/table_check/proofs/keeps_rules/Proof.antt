@@ -17,6 +17,18 @@ shared-slice-read-counts-hold-3 c = search needs
 counts-hold-requires : tie.Need-counts-hold-requires
 counts-hold-requires c κs = search needs
 
+sub-classes-hold : tie.Need-sub-classes-hold
+sub-classes-hold c = search needs
+
+part-classes-hold-start : tie.Need-part-classes-hold-start
+part-classes-hold-start c = search needs
+
+part-classes-hold-end : tie.Need-part-classes-hold-end
+part-classes-hold-end c = search needs
+
+classes-hold-requires : tie.Need-classes-hold-requires
+classes-hold-requires c κs = search needs
+
 sub-initials-hold : tie.Need-sub-initials-hold
 sub-initials-hold c = search needs
 
@@ -44,9 +56,6 @@ part-terminals-hold-end c = search needs
 terminals-hold-requires : tie.Need-terminals-hold-requires
 terminals-hold-requires c κs = search needs
 
-mul-arcs-hold : tie.Need-mul-arcs-hold
-mul-arcs-hold c = search needs
-
 sub-arcs-hold : tie.Need-sub-arcs-hold
 sub-arcs-hold c = search needs
 
@@ -56,6 +65,18 @@ part-arcs-hold-start c = search needs
 part-arcs-hold-end : tie.Need-part-arcs-hold-end
 part-arcs-hold-end c = search needs
 
+mul-arcs-hold : tie.Need-mul-arcs-hold
+mul-arcs-hold c = search needs
+
+sub-arcs-hold-2 : tie.Need-sub-arcs-hold-2
+sub-arcs-hold-2 c = search needs
+
+part-arcs-hold-start-2 : tie.Need-part-arcs-hold-start-2
+part-arcs-hold-start-2 c = search needs
+
+part-arcs-hold-end-2 : tie.Need-part-arcs-hold-end-2
+part-arcs-hold-end-2 c = search needs
+
 arcs-hold-requires : tie.Need-arcs-hold-requires
 arcs-hold-requires c κs = search needs
 
@@ -63,22 +84,32 @@ returns : tie.Need-returns
 returns c =
     c .arcs-hold .ensures
     ∙ sym
-    (rules-parts (now (c .before .before .before .before .before .before .before .before .before .before .before .before .before .before .args .cells)) (c .before .before .before .before .before .before .before .before .before .before .before .before .before .before .args .at) (c .before .before .before .before .before .before .before .before .before .before .before .before .before .before .pre)
-    ∙ simp (sym (c .before .before .before .before .before .before .before .before .before .counts-hold .ensures) ∙ c .before .before .before .before .before .before .before .before .if1 .taken, sym (c .before .before .before .before .before .before .initials-hold .ensures) ∙ c .before .before .before .before .before .if2 .taken, sym (c .before .before .before .terminals-hold .ensures) ∙ c .before .before .if3 .taken))
+    (rules-parts (now (c .before .before .before .before .before .before .before .before .before .before .before .before .before .before .before .before .before .before .args .cells)) (c .before .before .before .before .before .before .before .before .before .before .before .before .before .before .before .before .before .before .args .at) (c .before .before .before .before .before .before .before .before .before .before .before .before .before .before .before .before .before .before .pre)
+    ∙ simp (sym (c .before .before .before .before .before .before .before .before .before .before .before .before .before .counts-hold .ensures) ∙ c .before .before .before .before .before .before .before .before .before .before .before .before .if1 .taken, sym (c .before .before .before .before .before .before .before .before .before .before .classes-hold .ensures) ∙ c .before .before .before .before .before .before .before .before .before .if2 .taken, sym (c .before .before .before .before .before .before .before .initials-hold .ensures) ∙ c .before .before .before .before .before .before .if3 .taken, sym (c .before .before .before .before .terminals-hold .ensures) ∙ c .before .before .before .if4 .taken))
 
 returns-2 : tie.Need-returns-2
 returns-2 c =
     sym
-    (rules-parts (now (c .before .before .before .before .before .before .before .before .before .before .before .before .args .cells)) (c .before .before .before .before .before .before .before .before .before .before .before .before .args .at) (c .before .before .before .before .before .before .before .before .before .before .before .before .pre)
-    ∙ simp (sym (c .before .before .before .before .before .before .before .counts-hold .ensures) ∙ c .before .before .before .before .before .before .if1 .taken, sym (c .before .before .before .before .initials-hold .ensures) ∙ c .before .before .before .if2 .taken, sym (c .before .terminals-hold .ensures) ∙ c .if3 .left))
+    (rules-parts (now (c .before .before .before .before .before .before .before .before .before .before .before .before .before .before .before .args .cells)) (c .before .before .before .before .before .before .before .before .before .before .before .before .before .before .before .args .at) (c .before .before .before .before .before .before .before .before .before .before .before .before .before .before .before .pre)
+    ∙ simp (sym (c .before .before .before .before .before .before .before .before .before .before .counts-hold .ensures) ∙ c .before .before .before .before .before .before .before .before .before .if1 .taken, sym (c .before .before .before .before .before .before .before .classes-hold .ensures) ∙ c .before .before .before .before .before .before .if2 .taken, sym (c .before .before .before .before .initials-hold .ensures) ∙ c .before .before .before .if3 .taken, sym (c .before .terminals-hold .ensures) ∙ c .if4 .left))
 
 returns-3 : tie.Need-returns-3
 returns-3 c =
     sym
-    (rules-parts (now (c .before .before .before .before .before .before .before .before .before .args .cells)) (c .before .before .before .before .before .before .before .before .before .args .at) (c .before .before .before .before .before .before .before .before .before .pre) ∙ simp (sym (c .before .before .before .before .counts-hold .ensures) ∙ c .before .before .before .if1 .taken, sym (c .before .initials-hold .ensures) ∙ c .if2 .left))
+    (rules-parts (now (c .before .before .before .before .before .before .before .before .before .before .before .before .args .cells)) (c .before .before .before .before .before .before .before .before .before .before .before .before .args .at) (c .before .before .before .before .before .before .before .before .before .before .before .before .pre)
+    ∙ simp (sym (c .before .before .before .before .before .before .before .counts-hold .ensures) ∙ c .before .before .before .before .before .before .if1 .taken, sym (c .before .before .before .before .classes-hold .ensures) ∙ c .before .before .before .if2 .taken, sym (c .before .initials-hold .ensures) ∙ c .if3 .left))
 
 returns-4 : tie.Need-returns-4
-returns-4 c = sym (rules-parts (now (c .before .before .before .before .before .before .args .cells)) (c .before .before .before .before .before .before .args .at) (c .before .before .before .before .before .before .pre) ∙ simp (sym (c .before .counts-hold .ensures) ∙ c .if1 .left))
+returns-4 c =
+    sym
+    (rules-parts (now (c .before .before .before .before .before .before .before .before .before .args .cells)) (c .before .before .before .before .before .before .before .before .before .args .at) (c .before .before .before .before .before .before .before .before .before .pre)
+    ∙ simp (sym (c .before .before .before .before .counts-hold .ensures) ∙ c .before .before .before .if1 .taken, sym (c .before .classes-hold .ensures) ∙ c .if2 .left))
+
+returns-5 : tie.Need-returns-5
+returns-5 c =
+    sym
+    (rules-parts (now (c .before .before .before .before .before .before .args .cells)) (c .before .before .before .before .before .before .args .at) (c .before .before .before .before .before .before .pre)
+    ∙ simp (sym (c .before .counts-hold .ensures) ∙ c .if1 .left))
 
 pub keeps-rules-spec : {M : Type 1} → statement M
 keeps-rules-spec =
@@ -88,6 +119,10 @@ keeps-rules-spec =
     shared-slice-read-counts-hold-2
     shared-slice-read-counts-hold-3
     counts-hold-requires
+    sub-classes-hold
+    part-classes-hold-start
+    part-classes-hold-end
+    classes-hold-requires
     sub-initials-hold
     part-initials-hold-start
     part-initials-hold-end
@@ -97,12 +132,16 @@ keeps-rules-spec =
     part-terminals-hold-start
     part-terminals-hold-end
     terminals-hold-requires
-    mul-arcs-hold
     sub-arcs-hold
     part-arcs-hold-start
     part-arcs-hold-end
+    mul-arcs-hold
+    sub-arcs-hold-2
+    part-arcs-hold-start-2
+    part-arcs-hold-end-2
     arcs-hold-requires
     returns
     returns-2
     returns-3
-    returns-4)
+    returns-4
+    returns-5)

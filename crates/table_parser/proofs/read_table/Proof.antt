@@ -11,7 +11,7 @@ use Rattle.table_format.specs.Rules.{countsHold}
 use Rattle.table_format.specs.Loaded.{countCells, countsIn}
 use Rattle.table_format.specs.Line.{bytesOf}
 use Rattle.table_format.specs.Parse.{headerKind, isHeader, countsFrom}
-use Rattle.table_format.specs.Text.{lineBytes}
+use Rattle.table_format.specs.Text.{headerWidth, lineBytes}
 use Rattle.table_scanner.specs.Scan.{padded}
 use Rattle.table_items.specs.Draft.{filledUp}
 use Rattle.table_parser.specs.Gathered.{gathered, itemsParsed}
@@ -40,7 +40,7 @@ bytes-are c = line c .bytes-are
 
 is-header : (c : tie.Else3) → isHeader (said (c .before .before .before)) ≡ true
 is-header c =
-    has-form headerKind lineBytes (said (c .before .before .before)) (sym (byte-at _ (said (c .before .before .before)) (bytes-are (c .before .before .before)) 0 (omega arith)) ∙ c .if3 .left) (sym (line (c .before .before .before) .count-is) ∙ c .before .if2 .left)
+    has-form headerKind headerWidth (said (c .before .before .before)) (sym (byte-at _ (said (c .before .before .before)) (bytes-are (c .before .before .before)) 0 (omega arith)) ∙ c .if3 .left) (sym (line (c .before .before .before) .count-is) ∙ c .before .if2 .left)
 
 -- its counts
 counts-are : (c : tie.After-counted) → countsIn (c .counted .result) ≡ countsFrom (said (c .before .before .before .before))
@@ -82,7 +82,7 @@ refused-requires-3 c κs = search needs
 returns-3 : tie.Need-returns-3
 returns-3 c =
     let L = line (c .before .before .before) in
-    c .refused3 .ensures ∙ ap gathered (sym (header-misplaced L (not-wide headerKind lineBytes (said (c .before .before .before)) (λ z. c .before .if2 .taken (L .count-is ∙ z)))))
+    c .refused3 .ensures ∙ ap gathered (sym (header-misplaced L (not-wide headerKind headerWidth (said (c .before .before .before)) (λ z. c .before .if2 .taken (L .count-is ∙ z)))))
 
 array-read-if3 : tie.Need-array-read-if3
 array-read-if3 c = search needs
@@ -93,7 +93,7 @@ refused-requires-4 c κs = search needs
 returns-4 : tie.Need-returns-4
 returns-4 c =
     let b = said (c .before .before .before .before) in
-    c .refused4 .ensures ∙ ap gathered (sym (header-misplaced (line (c .before .before .before .before)) (not-code headerKind lineBytes b (λ z. c .before .if3 .taken (byte-at _ b (bytes-are (c .before .before .before .before)) 0 (omega arith) ∙ z)))))
+    c .refused4 .ensures ∙ ap gathered (sym (header-misplaced (line (c .before .before .before .before)) (not-code headerKind headerWidth b (λ z. c .before .if3 .taken (byte-at _ b (bytes-are (c .before .before .before .before)) 0 (omega arith) ∙ z)))))
 
 counted-requires : tie.Need-counted-requires
 counted-requires c κs = search needs

@@ -1,12 +1,14 @@
 //! Calls on what no search left: runs, frames, stacks, tables and words with damage, or made of anything.
 use super::call::{self, Call};
+use super::classes;
 use super::tally::Tally;
 use crate::answer::Run;
 use crate::draw;
 use crate::engine::Engine;
 use crate::model::Model;
 use crate::random::Random;
-use readings::limits::{ARC_CELLS, FRAME_CELLS, INITIALS_AT};
+use crate::table;
+use readings::limits::{ARC_CELLS, CLASSES_AT, FRAME_CELLS, INITIALS_AT};
 
 /// A place in a random search, made by the model.
 fn place(random: &mut Random) -> Call {
@@ -77,19 +79,20 @@ fn damage_frames(random: &mut Random, call: &mut Call) {
     }
 }
 
-/// A cell, two arcs' worth of cells exchanged or made equal, cells cut off or put after it.
+/// A cell, a fault of classes, two arcs' worth of cells exchanged or made equal, cells cut off or put after it.
 fn damage_table(random: &mut Random, call: &mut Call) {
     let table = &mut call.table;
     if table.is_empty() {
         return;
     }
-    match random.below(5) {
+    match random.below(7) {
         0 | 1 => {
-            let at = random.below(table.len());
+            let at = classes::some_cell(random, table);
             table[at] = near_cell(random, table[at]);
         }
         2 => table.truncate(random.below(table.len())),
         3 => table.extend([1, 2, 3]),
+        4 | 5 => classes::damage_cells(random, table),
         _ if table.len() >= INITIALS_AT + 2 * ARC_CELLS => {
             let (a, b) = (table.len() - 2 * ARC_CELLS, table.len() - ARC_CELLS);
             if random.one_in(2) {
@@ -141,6 +144,18 @@ pub fn any(engine: &impl Engine, random: &mut Random, tally: &mut Tally) -> Resu
     Ok(())
 }
 
+/// Cells below a number, and classes that keep the rules where they stand in a table.
+fn any_cells(random: &mut Random, most: usize) -> Vec<u16> {
+    let count = random.below(30);
+    let mut cells: Vec<u16> = (0..count).map(|_| random.below(most) as u16).collect();
+    if count >= CLASSES_AT {
+        let defined = random.below(3);
+        let classes = table::class_cells(&draw::classes::some(random, defined));
+        cells.splice(CLASSES_AT..CLASSES_AT, classes);
+    }
+    cells
+}
+
 /// A call on numbers of any kind, small ones mostly.
 pub fn arbitrary(
     engine: &impl Engine,
@@ -148,13 +163,12 @@ pub fn arbitrary(
     tally: &mut Tally,
 ) -> Result<(), String> {
     let most = *random.pick(&[2, 3, 5, 70]);
-    let mut table: Vec<u16> = (0..random.below(30))
-        .map(|_| random.below(most) as u16)
-        .collect();
-    if random.one_in(2) {
+    let table = if random.one_in(2) {
         let task = random.within(1, 3) as u32;
-        table = draw::table(random, task, true).cells();
-    }
+        draw::table(random, task, true).cells()
+    } else {
+        any_cells(random, most)
+    };
     let mut numbers =
         |count: usize| -> Vec<u32> { (0..count).map(|_| random.below(most) as u32).collect() };
     let run = numbers(3);

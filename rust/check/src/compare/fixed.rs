@@ -1,7 +1,7 @@
 //! The fixed series of cases that an engine is put to.
 use super::tally::Tally;
-use super::{cuts, damage, search, series, sheets, start, words};
-use crate::engine::{Engine, Sheets, Trees};
+use super::{cuts, damage, search, series, sheets, start, texts, words};
+use crate::engine::{Engine, Sheets, Texts, Trees};
 
 /// Starts and lists of calls on one run.
 pub fn searches(engine: &impl Engine) -> Result<Tally, String> {
@@ -45,6 +45,27 @@ pub fn all(engine: &impl Engine) -> Result<(), String> {
     knots(engine)?;
     damaged(engine)?;
     arbitrary(engine)?;
+    Ok(())
+}
+
+/// Texts of random tables, written and read back.
+pub fn round_trips(texts: &impl Texts) -> Result<Tally, String> {
+    series("round trips", 0x72147, 5_000, |random, tally| {
+        texts::round_trip(texts, random, tally)
+    })
+}
+
+/// Texts and tables with damage.
+pub fn damaged_texts(texts: &impl Texts) -> Result<Tally, String> {
+    series("damaged texts", 0x7E875, 40_000, |random, tally| {
+        texts::damaged(texts, random, tally)
+    })
+}
+
+/// All texts; nothing, or the first difference.
+pub fn all_texts(texts: &impl Texts) -> Result<(), String> {
+    round_trips(texts)?;
+    damaged_texts(texts)?;
     Ok(())
 }
 

@@ -24,7 +24,7 @@ pub fn of(start: &Start) -> Option<Loops> {
     let apart = has_cycle(&unreached(&table));
     if !has_cycle(&table) {
         apart.then_some(Loops::Apart)
-    } else if !has_cycle(&with_arcs(&table, |arc| is_allowed(start, arc))) {
+    } else if !has_cycle(&with_arcs(&table, |arc| is_allowed(start, &table, arc))) {
         Some(Loops::Barred)
     } else {
         apart.then_some(Loops::Both)
@@ -47,9 +47,12 @@ fn unreached(table: &Table) -> Table {
     }
 }
 
-/// Whether each letter on a side that is read is 0 or stands somewhere in its word.
-fn is_allowed(start: &Start, arc: &Arc) -> bool {
+/// Whether each letter on a side that is read is 0 or stands somewhere in its word, of a class one letter on every side.
+fn is_allowed(start: &Start, table: &Table, arc: &Arc) -> bool {
     let (upper, lower) = query::sides(start.task).expect("a task");
     let has = |word: &[u8], letter: u16| letter == 0 || word.contains(&(letter as u8));
-    (!upper || has(&start.upper, arc.upper)) && (!lower || has(&start.lower, arc.lower))
+    let mut arcs = table.plain_arcs(*arc).into_iter();
+    arcs.any(|arc| {
+        (!upper || has(&start.upper, arc.upper)) && (!lower || has(&start.lower, arc.lower))
+    })
 }

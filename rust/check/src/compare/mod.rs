@@ -1,6 +1,7 @@
 //! The comparison of an engine with the model and the lister, case by case. It takes any engine: the proved library, the twin, and
 //! twins with a fault. Likewise for texts, for word lists and for sheets.
 pub mod call;
+mod classes;
 pub mod cuts;
 pub mod damage;
 mod filled;

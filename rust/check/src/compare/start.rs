@@ -1,6 +1,6 @@
 //! One start: the answer, the run, and the cycle that the answer holds.
 use super::tally::Tally;
-use super::{RUN_GUARD, loops, rival, same};
+use super::{RUN_GUARD, classes, loops, rival, same};
 use crate::answer::{Answer, Run, Started};
 use crate::draw;
 use crate::engine::{self, Engine};
@@ -123,15 +123,16 @@ const TASKS: [u32; 10] = [0, 1, 2, 3, 4, 255, 257, 258, 65_539, u32::MAX];
 
 /// One thing made bad, or nearly.
 fn spoil(random: &mut Random, start: &mut Start) {
-    match random.below(6) {
+    match random.below(7) {
         0 => start.task = *random.pick(&TASKS),
         1 => start.upper = word(random),
         2 => start.lower = word(random),
         3 => {
-            let at = random.below(start.table.len());
-            start.table[at] = *random.pick(&[0, 1, 2, 63, 64, 256, 65_535]);
+            let at = classes::some_cell(random, &start.table);
+            start.table[at] = *random.pick(&[0, 1, 2, 63, 64, 71, 72, 256, 65_535]);
         }
         4 => start.table.truncate(random.below(start.table.len())),
+        5 => classes::damage_cells(random, &mut start.table),
         _ => start.table.extend([7, 9]), // cells after a table are nobody's
     }
 }

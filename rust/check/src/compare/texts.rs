@@ -1,6 +1,6 @@
 //! A table's text read and written: the answer and every cell of the destination.
 use super::tally::Tally;
-use super::{about, filled, same};
+use super::{about, classes, filled, same};
 use crate::answer::{Answer, DONE};
 use crate::draw;
 use crate::engine::Texts;
@@ -49,7 +49,8 @@ pub fn round_trip(
     Ok(())
 }
 
-/// A character of a text changed, put in or taken out; a line doubled, taken out or exchanged with the next; an end cut off or put on.
+/// A character of a text changed, put in or taken out; a line doubled, taken out or exchanged with the next; an end cut off or put on; a
+/// fault in the line of a class or an arc.
 fn damage(random: &mut Random, source: &mut Vec<u8>) {
     let digits = b"0123456789ABCDEF";
     let others = b"abcfgG :/@`\n\r\0\x7F\xFF";
@@ -57,7 +58,7 @@ fn damage(random: &mut Random, source: &mut Vec<u8>) {
         return;
     }
     let at = random.below(source.len());
-    match random.below(9) {
+    match random.below(13) {
         0..=2 => source[at] = *random.pick(digits),
         3 => source[at] = *random.pick(others),
         4 => source.insert(at, *random.pick(digits)),
@@ -67,7 +68,9 @@ fn damage(random: &mut Random, source: &mut Vec<u8>) {
             let more: [&[u8]; 5] = [b"\n", b"05", b"050001\n", b"0G\n", b"01000100\n"];
             source.extend(*random.pick(&more));
         }
-        _ => damage_lines(random, source),
+        8 => damage_lines(random, source),
+        9 | 10 => classes::damage_class_line(random, source),
+        _ => classes::damage_arc_line(random, source),
     }
 }
 
@@ -101,11 +104,12 @@ pub fn damaged(texts: &impl Texts, random: &mut Random, tally: &mut Tally) -> Re
         return Ok(());
     }
     let mut cells = table.cells();
-    let at = random.below(cells.len());
-    match random.below(3) {
+    let at = classes::some_cell(random, &cells);
+    match random.below(5) {
         0 => cells[at] = random.below(300) as u16,
         1 => cells[at] = random.below(4) as u16,
-        _ => cells.truncate(at),
+        2 => cells.truncate(at),
+        _ => classes::damage_cells(random, &mut cells),
     }
     tally.add(write(texts, &cells, about(random, source.len()))?);
     Ok(())

@@ -1,17 +1,26 @@
 //! The table check, and where each state's arcs begin.
+use super::classes::{self, Classes};
 use super::scan;
-use readings::limits::{ARC_CELLS, INITIALS_AT};
+use readings::limits::{ARC_CELLS, CLASSES_AT};
 
 /// Source, upper letter, lower letter, target.
 pub type Arc = [u16; ARC_CELLS];
 
 /// The parts of a table that keeps the rules.
 pub struct View<'a> {
+    pub classes: Classes,
     pub initials: &'a [u16],
     pub terminals: &'a [u16],
     pub arcs: &'a [Arc],
     /// For each state, and one past the last, how many arcs have a lower source.
     pub first: [u16; 257],
+}
+
+fn counts_hold([states, initials, terminals, arcs]: [u16; CLASSES_AT]) -> bool {
+    (1..=256).contains(&states)
+        && (1..=states).contains(&initials)
+        && terminals <= states
+        && arcs <= 1024
 }
 
 fn initials_hold(list: &[u16], states: u16) -> bool {
@@ -69,15 +78,12 @@ fn fill(first: &mut [u16]) {
 /// The parts of a table; none where it breaks a rule.
 #[inline(always)]
 pub fn check<const VECTOR: bool>(table: &[u16]) -> Option<View<'_>> {
-    let (counts, rest) = table.split_first_chunk::<INITIALS_AT>()?;
+    let (counts, rest) = table.split_first_chunk::<CLASSES_AT>()?;
     let [states, initials, terminals, arcs] = *counts;
-    let counts_hold = (1..=256).contains(&states)
-        && (1..=states).contains(&initials)
-        && terminals <= states
-        && arcs <= 1024;
-    if !counts_hold {
+    if !counts_hold(*counts) {
         return None;
     }
+    let (classes, rest) = rest.split_first_chunk::<{ classes::CELLS }>()?;
     let (initials, rest) = rest.split_at_checked(initials.into())?;
     let (terminals, rest) = rest.split_at_checked(terminals.into())?;
     let arcs = rest.get(..ARC_CELLS * arcs as usize)?;
@@ -85,17 +91,22 @@ pub fn check<const VECTOR: bool>(table: &[u16]) -> Option<View<'_>> {
     if !initials_hold(initials, states) || !terminals_hold(terminals, states) {
         return None;
     }
+    let classes = classes::read(classes)?;
     let mut first = [0; 257];
     let seen = if VECTOR {
         scan::vector(arcs, states, &mut first)
     } else {
         scan::portable(arcs, states, &mut first)
     };
-    if !seen.within || !(seen.rising || distinct(arcs)) {
+    if !seen.within || !(seen.plain || classes::hold(&classes, arcs)) {
+        return None;
+    }
+    if !seen.rising && !distinct(arcs) {
         return None;
     }
     fill(&mut first[..=states as usize]);
     Some(View {
+        classes,
         initials,
         terminals,
         arcs,

@@ -111,3 +111,12 @@ pub const REFUSED_TOUCHED: u8 = 52;
 pub const SHORT_FILLED: u8 = 53;
 /// A zero is put after the table, where the destination goes on.
 pub const CELL_AFTER: u8 = 54;
+
+/// A letter that an arc of a class has read is not written.
+pub const CLASS_UNWRITTEN: u8 = 55;
+/// An arc of a class writes what stands on it.
+pub const CLASS_WRITTEN: u8 = 56;
+/// In recognition an arc of a class reads two letters of it that differ.
+pub const UNLIKE_IN_CLASS: u8 = 57;
+/// The zeros that fill up the row of a class count as its letters, and a word's end as a 0.
+pub const NOUGHT_IN_CLASS: u8 = 58;

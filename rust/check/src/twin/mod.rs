@@ -1,6 +1,7 @@
 //! A second text of the engine, written for speed: the benchmark measures the proved library against it. It makes the same checks,
 //! steps and answers. A fault can be planted in it, to see that the tests find it.
 mod check;
+mod classes;
 mod cycle;
 pub mod fault;
 mod place;

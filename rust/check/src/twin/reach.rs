@@ -1,6 +1,6 @@
 //! What arcs lead to from the initial states, whatever their letters.
 use super::check::{Arc, View};
-use super::{cycle, fault};
+use super::{classes, cycle, fault};
 use crate::engine::Start;
 
 /// The states that the arcs followed lead to from the initial ones, as they are met.
@@ -29,13 +29,29 @@ fn met(view: &View, follows: impl Fn(&Arc) -> bool) -> Vec<u8> {
     states[..count].to_vec()
 }
 
+/// The letters of a word, a bit each, and bit 0 for no letter.
+fn known(word: &[u8]) -> u64 {
+    word.iter().fold(1, |known, letter| known | 1 << letter)
+}
+
 /// The states that are reached, as they are met.
 pub fn states<const UP: bool, const LOW: bool, const FAULT: u8>(
     view: &View,
     start: Start,
 ) -> Vec<u8> {
-    let has = |word: &[u8], letter: u16| letter == 0 || word.iter().any(|x| letter == (*x).into());
-    let fits = |arc: &Arc| (!UP || has(start.upper, arc[1])) && (!LOW || has(start.lower, arc[2]));
+    let fits = |arc: &Arc| {
+        let letters = |side: usize| match arc[side] {
+            0 => u64::MAX,
+            _ if classes::is_of_class(arc) => classes::letters(&view.classes, arc),
+            letter => 1 << letter,
+        };
+        let (above, below) = (
+            letters(1) & known(start.upper),
+            letters(2) & known(start.lower),
+        );
+        let alike = !UP || !LOW || !classes::is_of_class(arc) || above & below != 0;
+        (!UP || above != 0) && (!LOW || below != 0) && alike
+    };
     match FAULT {
         fault::ALL_REACHED => (0..=255).collect(),
         fault::INITIALS_REACHED => met(view, |_| false),

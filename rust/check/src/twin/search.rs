@@ -1,6 +1,6 @@
 //! The steps of a call. The sides that are read are constants, so that each task has code of its own.
 use super::check::{Arc, View};
-use super::fault;
+use super::{classes, fault};
 use crate::answer::{Answer, Run};
 use crate::engine::Next;
 use readings::limits::FRAME_CELLS;
@@ -52,7 +52,22 @@ impl<'a, const UP: bool, const LOW: bool, const FAULT: u8> Search<'a, UP, LOW, F
     pub fn fits(&self, arc: &Arc, up: u32, low: u32) -> bool {
         let above = u16::from(self.upper[up as usize & 127]);
         let below = u16::from(self.lower[low as usize & 127]);
+        if classes::is_of_class(arc) {
+            return self.class_fits(arc, above, below);
+        }
         (!UP || arc[1] == 0 || arc[1] == above) && (!LOW || arc[2] == 0 || arc[2] == below)
+    }
+
+    /// The next letter is in an arc's class, and the same one in every word that is read.
+    #[inline(always)]
+    fn class_fits(&self, arc: &Arc, above: u16, below: u16) -> bool {
+        let mut letters = classes::letters(&self.view.classes, arc);
+        if FAULT == fault::NOUGHT_IN_CLASS {
+            letters |= 1;
+        }
+        let has = |letter: u16| letters >> letter & 1 == 1;
+        let alike = !UP || !LOW || above == below || FAULT == fault::UNLIKE_IN_CLASS;
+        (!UP || has(above)) && (!LOW || has(below)) && alike
     }
 
     #[inline(always)]
@@ -72,7 +87,11 @@ impl<'a, const UP: bool, const LOW: bool, const FAULT: u8> Search<'a, UP, LOW, F
         let mut letters = output.iter_mut();
         for frame in frames {
             // SAFETY: a place in the search: each of these frames has tried an arc.
-            let letter = unsafe { self.view.arcs.get_unchecked(frame[1] as usize - 1)[side] };
+            let arc = unsafe { self.view.arcs.get_unchecked(frame[1] as usize - 1) };
+            let letter = match classes::is_of_class(arc) {
+                true => self.letter_read(arc, frame),
+                false => arc[side],
+            };
             if letter != 0
                 && let Some(place) = letters.next()
             {
@@ -80,6 +99,20 @@ impl<'a, const UP: bool, const LOW: bool, const FAULT: u8> Search<'a, UP, LOW, F
             }
         }
         space - letters.len()
+    }
+
+    /// The letter that an arc of a class has read after a frame.
+    #[inline(always)]
+    fn letter_read(&self, arc: &Arc, frame: &Frame) -> u16 {
+        let (word, at) = match UP {
+            true => (&self.upper, frame[2]),
+            false => (&self.lower, frame[3]),
+        };
+        match FAULT {
+            fault::CLASS_UNWRITTEN => 0,
+            fault::CLASS_WRITTEN => arc[1],
+            _ => word[at as usize & 127].into(),
+        }
     }
 
     #[inline(always)]

@@ -3,7 +3,7 @@ use super::check::Arc;
 use super::fault;
 use super::spelled::{self, HEAD, Word};
 use crate::answer::Answer;
-use readings::limits::{ARC_CELLS, CUT, INITIALS_AT, MOST_STATES, MOST_WORD};
+use readings::limits::{ARC_CELLS, CLASSES_AT, CUT, INITIALS_AT, MOST_STATES, MOST_WORD};
 use readings::limits::{TREE_CELLS, table_cells};
 
 /// Room for one state and one letter more than there may be, for the faults that let them pass, and for a head beyond.
@@ -169,7 +169,8 @@ impl Tree {
     fn write<const FAULT: u8>(&self, cells: &mut [u16]) {
         let counts = [self.states, 1, self.words, self.arcs()].map(|n| n as u16);
         let (head, rest) = cells.split_at_mut(INITIALS_AT);
-        head.copy_from_slice(&counts);
+        head.fill(0); // no classes
+        head[..CLASSES_AT].copy_from_slice(&counts);
         rest[0] = 0;
         let (terminals, rest) = rest[1..].split_at_mut(self.words);
         let ends = &self.ends[..self.words];

@@ -46,7 +46,7 @@ fn table(engine: &Boundary) -> Checked {
 #[test]
 fn call_tables() {
     tells(table, NextTable, NARROW);
-    tells(table, NextTable, &[Most(4_096), Most(4_611)]);
+    tells(table, NextTable, &[Most(4_096), Most(4_739)]);
     tells(table, NextCells, &[Low(8), Low(13), Low(15)]);
 }
 
@@ -126,6 +126,7 @@ fn looping(depth: usize, cells: usize) -> Call {
         initials: vec![0],
         terminals: vec![0],
         arcs: vec![Arc::new(0, 0, 1, 0)],
+        ..Table::default()
     };
     let mut stack: Vec<u32> = (0..depth as u32).flat_map(|k| [0, 1, 0, k]).collect();
     stack.resize(cells, 9);
@@ -223,6 +224,7 @@ fn steps(engine: &Boundary) -> Checked {
         initials: vec![0],
         terminals: vec![],
         arcs: vec![Arc::new(0, 1, 1, 0), Arc::new(0, 1, 2, 0)],
+        ..Table::default()
     };
     let (cells, word) = (table.cells(), [1; 22]);
     let (mut run, mut stack) = (Run::of(2), [9; FRAME_CELLS * 23]);

@@ -84,13 +84,13 @@ const CUTS: &[Cut] = &[Low(17), Low(24), Low(31), Low(32)];
 
 fn texts(boundary: &Boundary) -> Checked {
     let mut cells = Reserved::new(&[], HUGE);
-    is(boundary.read(K.as_bytes(), &mut cells), Answer::done(27))?;
+    is(boundary.read(K.as_bytes(), &mut cells), Answer::done(155))?;
     let mut text = Reserved::new(&[], HUGE);
     is(boundary.write(&k(), &mut text), Answer::done(K.len()))?;
     is(boundary.write(&cells, &mut [0; 200]), Answer::done(K.len()))?;
     let mut text = Reserved::new(K.as_bytes(), HUGE - 2 + K.len());
     text[K.len()] = b'\n'; // an empty line after the end
-    is(boundary.read(&text, &mut [0; 27]), Answer::refused(1, 0))
+    is(boundary.read(&text, &mut [0; 155]), Answer::refused(1, 0))
 }
 
 #[test]
@@ -103,9 +103,9 @@ fn huge_texts() {
 /// A list here is a word of one letter, then words of none.
 fn lists(boundary: &Boundary) -> Checked {
     let words = Reserved::new(&[1, 1], HUGE);
-    is(boundary.tree(&words, &mut [0; 14]), Answer::refused(30, 0))?;
+    is(boundary.tree(&words, &mut [0; 142]), Answer::refused(30, 0))?;
     let mut cells = Reserved::new(&[], HUGE);
-    is(boundary.tree(&[1, 1], &mut cells), Answer::done(14))
+    is(boundary.tree(&[1, 1], &mut cells), Answer::done(142))
 }
 
 #[test]

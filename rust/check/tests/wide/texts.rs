@@ -15,7 +15,7 @@ fn text_read(boundary: &Boundary) -> Checked {
     long.push(b'\n');
     is(texts::read(boundary, &long, 100)?, Answer::refused(2, 0))?;
     let whole = text::print(&largest());
-    is(texts::read(boundary, &whole, 4_612)?, Answer::done(4_612))
+    is(texts::read(boundary, &whole, 4_740)?, Answer::done(4_740))
 }
 
 #[test]
@@ -27,39 +27,39 @@ fn texts_read() {
 
 fn table_read(boundary: &Boundary) -> Checked {
     let whole = text::print(&largest());
-    is(texts::read(boundary, &whole, 4_612)?, Answer::done(4_612))?;
-    is(texts::read(boundary, &whole, WIDE)?, Answer::done(4_612))
+    is(texts::read(boundary, &whole, 4_740)?, Answer::done(4_740))?;
+    is(texts::read(boundary, &whole, WIDE)?, Answer::done(4_740))
 }
 
 #[test]
 fn tables_read() {
     tells(table_read, ReadTable, NARROW);
-    tells(table_read, ReadTable, &[Most(4_096), Most(4_611)]);
+    tells(table_read, ReadTable, &[Most(4_096), Most(4_739)]);
     tells(table_read, ReadCells, &[Low(8), Low(10)]);
     tells(table_read, ReadLength, &[Low(8), Low(12)]);
 }
 
 fn table_written(boundary: &Boundary) -> Checked {
-    let write = |cells: Vec<u16>| texts::write(boundary, &cells, 18_970);
-    tables(write, Answer::done(18_970))
+    let write = |cells: Vec<u16>| texts::write(boundary, &cells, 19_266);
+    tables(write, Answer::done(19_266))
 }
 
 #[test]
 fn tables_written() {
     tells(table_written, WriteTable, NARROW);
-    tells(table_written, WriteTable, &[Most(4_096), Most(4_611)]);
+    tells(table_written, WriteTable, &[Most(4_096), Most(4_739)]);
     tells(table_written, WriteCells, &[Low(8), Low(13), Low(15)]);
 }
 
 fn text_written(boundary: &Boundary) -> Checked {
     let write = |length: usize| texts::write(boundary, &largest().cells(), length);
-    is(write(18_970)?, Answer::done(18_970))?;
-    is(write(WIDE)?, Answer::done(18_970))
+    is(write(19_266)?, Answer::done(19_266))?;
+    is(write(WIDE)?, Answer::done(19_266))
 }
 
 #[test]
 fn texts_written() {
     tells(text_written, WriteText, NARROW);
-    tells(text_written, WriteText, &[Most(16_384), Most(18_969)]);
+    tells(text_written, WriteText, &[Most(16_384), Most(19_265)]);
     tells(text_written, WriteLength, &[Low(8), Low(13), Low(14)]);
 }

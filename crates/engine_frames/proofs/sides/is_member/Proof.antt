@@ -1,15 +1,13 @@
 use Prim.Native.Nat.{_≤_, _-_}
 use native.Mathlib.Omega.{arith}
-use mathlib.Core.Path.{_≡_, refl, sym, ap, _∙_}
-use mathlib.Core.Bool.{Bool, _||_, or-true, or-false}
+use mathlib.Core.Path.{_≡_, refl, ap, _∙_}
 use mathlib.Core.Logic.{⊎-elim}
 use lib.ListN.{length, take}
 use lib.Seq.{take-all}
 use denote.Ref.{now}
 use borrow.Author.Needs.{needs}
-use borrow.Author.Tests.{eq-eqb, ne-eqb}
 use Rattle.machine.specs.Transducer.{member}
-use Rattle.engine_frames.proofs.Members.{member-more}
+use Rattle.engine_frames.proofs.Members.{member-met, member-passed}
 use Rattle.engine_frames.proofs.sides.is_member.Statement.{statement}
 use Rattle.engine_frames.proofs.sides.is_member.Tie as tie
 
@@ -36,10 +34,10 @@ loop-less c = search needs
 
 loop-again : tie.Need-loop-again Inv-loop μ-loop
 loop-again c =
-    let list = now (c .before .before .before .before .args .list) in
-    let seen = member (c .before .before .before .before .args .state) (take (c .before .before .before .loop .k) list) in
-    let turn = member-more (c .before .before .before .before .args .state) list (c .before .before .before .loop .k) (c .before .before .loop-test .taken) in
-    (omega arith, ⊎-elim (λ w. w .1 ∙ sym (turn ∙ ap (λ (b : Bool). seen || b) (eq-eqb _ _ (w .0 .taken)) ∙ or-true seen)) (λ w. w .1 ∙ c .before .before .before .loop .inv .1 ∙ sym (turn ∙ ap (λ (b : Bool). seen || b) (ne-eqb _ _ (w .0 .left)) ∙ or-false seen)) (c .if1 .came))
+    let a = c .before .before .before .before .args in
+    let l = c .before .before .before .loop in
+    let h = c .before .before .loop-test .taken in
+    (omega arith, ⊎-elim (λ w. w .1 ∙ member-met (a .state) (now (a .list)) (l .k) h (w .0 .taken)) (λ w. w .1 ∙ l .inv .1 ∙ member-passed (a .state) (now (a .list)) (l .k) h (w .0 .left)) (c .if1 .came))
 
 returns : tie.Need-returns Inv-loop μ-loop
 returns c = c .before .loop .inv .1 ∙ ap (member (c .before .before .args .state)) (take-all (c .before .loop .k) (now (c .before .before .args .list)) (omega arith))
