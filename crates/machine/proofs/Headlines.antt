@@ -62,6 +62,7 @@ use Rattle.machine.proofs.Full as full
 use Rattle.machine.proofs.Traces as traces
 use Rattle.machine.proofs.Agree as agree
 use Rattle.machine.proofs.Expand as expand
+use Rattle.machine.proofs.ExpandedReadings as written
 use Rattle.machine.proofs.Noether as noether
 use Rattle.machine.proofs.Finite as finite
 use Rattle.machine.proofs.Cases as cases
@@ -160,6 +161,10 @@ module _ (t : Table) (rules : keepsRules t ≡ true) where
   -- "Tables repeat an arc for each vowel": the table with a plain arc for each letter of a class, and none of a class, solves the same.
   pub expands : (k : Task) (x : Input k) (y : Output k) → Solves t k x y ↔ Solves (expanded t) k x y
   expands = expand.expands t (ruled t rules)
+
+  -- Its readings of any query are the same list: each as often, and in the same order.
+  pub expanded-readings : (q : Query) → readings (machine t q) (tour (machine t q)) ≡ readings (machine (expanded t) q) (tour (machine (expanded t) q))
+  expanded-readings = written.expanded-readings t (ruled t rules)
 
   pub expanded-plain : (a : Arc) → List·Memᴰ a (expanded t .arcs) → isPlain a ≡ true
   expanded-plain = expand.expanded-plain t (ruled t rules)

@@ -25,8 +25,10 @@ pub mod Handed
 pub mod Full
 pub mod Traces
 pub mod Denotation
+pub mod ArcLists
 pub mod Agree
 pub mod Expand
+pub mod ExpandedReadings
 pub mod Noether
 pub mod Finite
 pub mod Cases

@@ -24,7 +24,7 @@ at-least m [] i A h = absurd (not-suc-le-zero h)
 at-least m (a ∷ l) zero A h = A .0
 at-least m (a ∷ l) (suc i) A h = let k : a .source ≤ getD l i noArc .source = at-least (a .source) l i (A .1) (omega arith) in omega arith
 
-none-below : (s m : ℕ) (l : List Arc) → s ≤ m → AtLeast m l → below s l ≡ 0
+pub none-below : (s m : ℕ) (l : List Arc) → s ≤ m → AtLeast m l → below s l ≡ 0
 none-below s m [] h A = refl
 none-below s m (a ∷ l) h A = rw (le-ltb (a .source) s (omega arith)) (none-below s (a .source) l (omega arith) (A .1))
 

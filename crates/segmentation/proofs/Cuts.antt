@@ -23,7 +23,8 @@ use Rattle.trie_format.proofs.Names.{place-found, ends-are, above-root, Names}
 use Rattle.trie_format.proofs.Shapes.{arcs-from}
 use Rattle.segmentation.specs.Ways.{cutsFrom, waysToCut, joined}
 use Rattle.segmentation.specs.Readings.{synthesisOf}
-use Rattle.segmentation.proofs.Parts.{listTell, list-tell-append, state-part}
+use Rattle.machine.proofs.ArcLists.{listTell, list-tell-append}
+use Rattle.segmentation.proofs.Parts.{state-part}
 use Rattle.segmentation.proofs.Ways.{cuts-none, cuts-join}
 use Rattle.segmentation.proofs.Letters.{at, onto, letters-miss, letters-hit}
 

@@ -14,7 +14,7 @@ use Rattle.machine.specs.Denotation.{ifFits}
 use Rattle.lexicon.specs.Words.{Word}
 use Rattle.trie_format.specs.Trie.{placeFrom, letterArc, letterArcs}
 use Rattle.segmentation.specs.Readings.{synthesisOf}
-use Rattle.segmentation.proofs.Parts.{listTell, list-tell-append}
+use Rattle.machine.proofs.ArcLists.{listTell, list-tell-append}
 
 -- letters passed
 abbrev pub at : ℕ → ℕ → Passed
