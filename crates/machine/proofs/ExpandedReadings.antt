@@ -27,7 +27,7 @@ use Rattle.machine.proofs.Classes.{rows-keep, nextOf, plain-follows, pl
 use Rattle.machine.proofs.Denotation.{tour-tells}
 use Rattle.machine.proofs.ArcLists.{listTell, list-tell-same, list-tell-append, arcsFrom, from-append, from-own, from-other, part-rises, state-tells}
 
--- A row: the letters that are not 0 rise, and are at most 63.
+-- The letters of a row rise, from above m on; 0 only fills it up.
 
 abbrev RowRises : ℕ → List ℕ → Type 0
 RowRises m [] = Unit {0}
@@ -74,10 +74,10 @@ module _ (t : Table) (q : Query) (g : ℕ → Passed → List ℕ → List (List
   abbrev tellsAs : Option Arc → List (List ℕ)
   tellsAs b = ifFits (bind b (λ c. followArc q c d)) (λ e. g (a .target) e (o ++ listed b (writesArc q)))
 
-  module _ (x : ℕ) (next : nextOf q d ≡ x) where
-    small-plain : (y : ℕ) → y ≤ 63 → isPlain (withLetter a y) ≡ true
-    small-plain y h = and-both (lt-ltb y firstClass (omega arith)) (lt-ltb y firstClass (omega arith))
+  small-plain : (y : ℕ) → y ≤ 63 → isPlain (withLetter a y) ≡ true
+  small-plain y h = and-both (lt-ltb y firstClass (omega arith)) (lt-ltb y firstClass (omega arith))
 
+  module _ (x : ℕ) (next : nextOf q d ≡ x) where
     -- the arc of another letter tells nothing
     other-tells : (y : ℕ) → suc y ≤ 63 → (x ≡ suc y → ⊥) → (l : List Arc) → listTell t q g d o (withLetter a (suc y) ∷ l) ≡ listTell t q g d o l
     other-tells y h n l =
@@ -97,7 +97,7 @@ module _ (t : Table) (q : Query) (g : ℕ → Passed → List ℕ → List (List
   letter-tells z next h l e =
       let b : Arc = withLetter a (suc z) in
       ap₂ (λ (f : Option Passed) (w : List ℕ). ifFits f (λ e. g (a .target) e (o ++ w)) ++ listTell t q g d o l)
-      (plain-follows t q b d (small-plain (suc z) next (suc z) h)) (plain-writes t q b d (small-plain (suc z) next (suc z) h))
+      (plain-follows t q b d (small-plain (suc z) h)) (plain-writes t q b d (small-plain (suc z) h))
       ∙ ap (λ (k : List (List ℕ)). tellsAs (some b) ++ k) e
       ∙ append-nil (tellsAs (some b))
 

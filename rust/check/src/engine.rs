@@ -1,6 +1,7 @@
 //! What is compared: anything that starts searches and calls for readings, that reads and writes tables, that makes tables of word lists,
 //! or that writes sheets.
 use crate::answer::{Answer, Run, Started};
+use crate::table::Table;
 use readings::limits::FACES;
 
 /// What a start is handed, beside the run that it sets.
@@ -53,6 +54,17 @@ pub trait Engine {
 
     /// Goes on with a run until a reading, the end, the allowance or a refusal.
     fn next(&self, call: Next) -> Answer;
+
+    /// What a start with empty words tells.
+    fn start_empty(&self, table: &Table, task: u32) -> Started {
+        let start = Start {
+            table: &table.cells(),
+            task,
+            upper: &[],
+            lower: &[],
+        };
+        self.start(start, &mut Run::default())
+    }
 }
 
 /// A table's text read to cells, and cells written as text.

@@ -404,17 +404,6 @@ fn words(engine: &impl Engine) {
     }
 }
 
-/// What a start with empty words tells.
-fn started(engine: &impl Engine, table: &Table, task: u32) -> Started {
-    let start = Start {
-        table: &table.cells(),
-        task,
-        upper: &[],
-        lower: &[],
-    };
-    engine.start(start, &mut Run::default())
-}
-
 /// A ring of arcs of a class is no idle cycle; one arc that reads nothing makes none of it either, two do where they lead round.
 fn rings(engine: &impl Engine) {
     let mut table = Table {
@@ -427,7 +416,7 @@ fn rings(engine: &impl Engine) {
     table.classes[0] = vec![7];
     let shows = |table: &Table, cycle: Option<&[u16]>| {
         for task in 1..=3 {
-            assert_eq!(started(engine, table, task), Started::showing(cycle));
+            assert_eq!(engine.start_empty(table, task), Started::showing(cycle));
         }
     };
     shows(&table, None);
@@ -669,8 +658,8 @@ fn as_plain_arcs(engine: &impl Engine) {
         let task = random.within(1, 3) as u32;
         let table = drawn(random, task, false);
         assert_eq!(
-            started(engine, &table, task),
-            started(engine, &expanded(&table), task)
+            engine.start_empty(&table, task),
+            engine.start_empty(&expanded(&table), task)
         );
         let table = drawn(random, task, true);
         let (upper, lower) = draw::words(random, &table, task);

@@ -1,8 +1,8 @@
 //! Which cycle refusal 12 shows: for each table and task one answer, whatever the order of the arcs.
-use readings_check::answer::{Run, Started};
+use readings_check::answer::Started;
 use readings_check::cycles;
 use readings_check::draw;
-use readings_check::engine::{Engine, Start};
+use readings_check::engine::Engine;
 use readings_check::idle;
 use readings_check::library::Library;
 use readings_check::model::Model;
@@ -10,21 +10,10 @@ use readings_check::random::Random;
 use readings_check::table::{Arc, Table};
 use readings_check::twin::SOUND;
 
-/// What a start with empty words tells.
-fn started(engine: &impl Engine, table: &Table, task: u32) -> Started {
-    let start = Start {
-        table: &table.cells(),
-        task,
-        upper: &[],
-        lower: &[],
-    };
-    engine.start(start, &mut Run::default())
-}
-
 /// A start with empty words shows this cycle; with none it passes.
 fn shows(engine: &impl Engine, table: &Table, task: u32, cycle: Option<&[u16]>) {
     let expected = Started::showing(cycle);
-    let told = started(engine, table, task);
+    let told = engine.start_empty(table, task);
     assert!(
         told == expected,
         "task {task}, {table:?}: shown is {:?}, expected {cycle:?}",
@@ -112,12 +101,12 @@ fn forks(engine: &impl Engine) {
 fn orders(engine: &impl Engine) {
     let (mut shown, mut random) = (0, Random::new(0x02DE2));
     for (mut table, task) in knots() {
-        let told = started(engine, &table, task);
+        let told = engine.start_empty(&table, task);
         shown += u32::from(told.answer.number == 12);
         for _ in 0..3 {
             random.shuffle(&mut table.initials);
             draw::reorder(&mut random, &mut table.arcs);
-            assert_eq!(started(engine, &table, task), told, "on {table:?}");
+            assert_eq!(engine.start_empty(&table, task), told, "on {table:?}");
         }
     }
     assert!(shown > 5_000, "only {shown} cycles");
