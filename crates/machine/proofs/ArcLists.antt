@@ -6,7 +6,7 @@ use mathlib.Core.Logic.{_⊎_, ⊎-elim}
 use mathlib.Core.Bool.{Bool, true, false, cond}
 use mathlib.Core.Option.{Option, none, some}
 use mathlib.Core.List.{List, [], _∷_, _++_, append-assoc}
-use lib.ListN.{length, getD, length-append}
+use lib.ListN.{length, getD, length-append, drop-of-length-le}
 use lib.Dec.{eqb}
 use lib.Seq.{getD-append-seam}
 use borrow.Author.Tests.{lt-ltb, le-ltb, eq-eqb, ne-eqb}
@@ -42,7 +42,7 @@ module _ (t : Table) (q : Query) (g : ℕ → Passed → List ℕ → List (List
   list-tell-append (a ∷ l) k = rw (list-tell-append l k, append-assoc)
 
   -- arcs that stand together
-  pub part-tells : (l before after : List Arc) → t .arcs ≡ before ++ (l ++ after) → arcsTell (machine t q) g d o (length before) (length l) ≡ listTell t q g d o l
+  part-tells : (l before after : List Arc) → t .arcs ≡ before ++ (l ++ after) → arcsTell (machine t q) g d o (length before) (length l) ≡ listTell t q g d o l
   part-tells [] before after e = refl
   part-tells (a ∷ l) before after e =
       let n : suc (length before) ≡ length (before ++ (a ∷ [])) = omega (arith, length-append before (a ∷ [])) in
@@ -92,10 +92,6 @@ record Stands (s : ℕ) (l : List Arc) : Type 0 where
   first-is : below s l ≡ length before
   next-is : below (suc s) l ≡ length before + length (arcsFrom s l)
 
-no-length : {A : Type 0} (l : List A) → length l ≡ 0 → l ≡ []
-no-length [] e = refl
-no-length (x ∷ l) e = absurd (omega arith)
-
 with-first : (s : ℕ) (a : Arc) (l : List Arc) → AtLeast (a .source) l → Stands s l → Stands s (a ∷ l)
 with-first s a l A P = ⊎-elim (λ h. ⊎-elim own (λ n. earlier (omega arith)) (same? (a .source) s)) later (most? (a .source) s)
   where
@@ -114,7 +110,7 @@ with-first s a l A P = ⊎-elim (λ h. ⊎-elim own (λ n. earlier (omega arith)
         record {
           before = [];
           after = P .after;
-          stand = rw (eq-eqb (a .source) s h) (ap (λ (k : List Arc). a ∷ k) (P .stand ∙ ap (λ (b : List Arc). b ++ (arcsFrom s l ++ P .after)) (no-length (P .before) none)));
+          stand = rw (eq-eqb (a .source) s h) (ap (λ (k : List Arc). a ∷ k) (P .stand ∙ ap (λ (b : List Arc). b ++ (arcsFrom s l ++ P .after)) (drop-of-length-le (P .before) {i = 0} (omega (arith, none)))));
           first-is = rw (le-ltb (a .source) s (omega arith)) here;
           next-is = rw (lt-ltb (a .source) (suc s) (omega arith), eq-eqb (a .source) s h) (omega (arith, P .next-is, none));
         }
@@ -139,7 +135,7 @@ with-first s a l A P = ⊎-elim (λ h. ⊎-elim own (λ n. earlier (omega arith)
         here = none-below (suc s) (a .source) l (omega arith) A
 
         none : arcsFrom s l ≡ []
-        none = no-length (arcsFrom s l) (omega (arith, here, P .next-is))
+        none = drop-of-length-le (arcsFrom s l) {i = 0} (omega (arith, here, P .next-is))
 
 stands : (s m : ℕ) (l : List Arc) → AtLeast m l → Stands s l
 stands s m [] A = record { before = []; after = []; stand = refl; first-is = refl; next-is = refl }

@@ -13,8 +13,8 @@ use Rattle.table_format.specs.Table.{Arc, Table}
 use Rattle.table_format.specs.Classes.{firstClass, isDefined, isPlain, rowOf, withLetter}
 use Rattle.table_format.specs.Rules.{classesKeep}
 use Rattle.table_format.specs.Ruled.{Ruled}
-use Rattle.table_format.proofs.Tests.{and-left, and-right}
 use Rattle.table_format.proofs.Classes.{classes-are, row-small}
+use Rattle.table_format.proofs.ClassFaults.{plain-is}
 use Rattle.table_format.proofs.All.{All, all-append, all-mem}
 use Rattle.graph.proofs.Lists.{member-mem, mem-member}
 use Rattle.machine.specs.Query.{Task, recognition, synthesis, analysis, Side, upperSide, lowerSide, reads, letter, Query, word}
@@ -73,8 +73,8 @@ module _ (rows : List (List ℕ)) (a : Arc) where
   plain-small keep x b (itself p e) s = subst (λ (c : Arc). letter s c ≤ 63) e (plain s)
     where
       plain : (s : Side) → letter s a ≤ 63
-      plain upperSide = let h : a .upper < firstClass = ltb-true _ _ (and-left (ltb (a .upper) firstClass) (ltb (a .lower) firstClass) p) in omega arith
-      plain lowerSide = let h : a .lower < firstClass = ltb-true _ _ (and-right (ltb (a .upper) firstClass) (ltb (a .lower) firstClass) p) in omega arith
+      plain upperSide = omega (arith, plain-is a .0 p .0)
+      plain lowerSide = omega (arith, plain-is a .0 p .1)
   plain-small keep x b (byLetter y p n m e) s = subst (λ (c : Arc). letter s c ≤ 63) e (lettered s (row-small rows keep (a .upper) (suc y) m))
     where
       lettered : (s : Side) → suc y ≤ 63 → letter s (withLetter a (suc y)) ≤ 63

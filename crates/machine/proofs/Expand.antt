@@ -5,11 +5,10 @@ use mathlib.Core.Path.{_≡_, refl, sym, ap, subst, _∙_}
 use mathlib.Core.Bool.{Bool, true, false, cond}
 use mathlib.Core.Logic.{_↔_, ⊎-elim}
 use mathlib.Core.List.{List, [], _∷_, List·Memᴰ, List·Memᴰ·head, List·Memᴰ·tail, List·Memᴰ·not-nil, List·Memᴰ·cases-cons}
-use borrow.Author.Tests.{lt-ltb}
 use Rattle.table_format.specs.Table.{Arc, Table}
-use Rattle.table_format.specs.Classes.{firstClass, isPlain, rowOf, withLetter}
+use Rattle.table_format.specs.Classes.{isPlain, rowOf, withLetter}
 use Rattle.table_format.specs.Ruled.{Ruled}
-use Rattle.table_format.proofs.Tests.{and-both}
+use Rattle.table_format.proofs.ClassFaults.{plain-is}
 use Rattle.machine.specs.Query.{Task, Side, upperSide, lowerSide, letter}
 use Rattle.machine.specs.Report.{KernelPath, emptyPath, longerPath, label, Word, αOf, kernel, Input, Output, Solves}
 use Rattle.machine.specs.Expand.{forEach, plainArcs, allPlain, expanded}
@@ -62,7 +61,7 @@ module _ (t : Table) (U : Ruled t) where
   plain-of : (a : Arc) (x : ℕ) (b : Arc) → PlainOf (t .classes) a x b → isPlain b ≡ true
   plain-of a x b B =
       let S : (s : Side) → letter s b ≤ 63 = plain-small (t .classes) a (rows-keep t U) x b B in
-      and-both (lt-ltb (b .upper) firstClass (omega (arith, S upperSide))) (lt-ltb (b .lower) firstClass (omega (arith, S lowerSide)))
+      plain-is b .1 (omega (arith, S upperSide), omega (arith, S lowerSide))
 
   -- every arc of the expanded table is plain
   pub expanded-plain : (b : Arc) → List·Memᴰ b (t′ .arcs) → isPlain b ≡ true

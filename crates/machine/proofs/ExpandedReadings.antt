@@ -8,13 +8,14 @@ use mathlib.Core.Option.{Option, none, some}
 use mathlib.Core.List.{List, [], _∷_, _++_, append-nil, List·Memᴰ, List·Memᴰ·head, List·Memᴰ·tail}
 use lib.ListN.{getD, length, replicate}
 use lib.Dec.{eqb, leb, ltb}
-use borrow.Author.Tests.{ltb-true, lt-ltb, eq-eqb, ne-eqb}
+use borrow.Author.Tests.{ltb-true, eq-eqb, ne-eqb}
 use Rattle.table_format.specs.Table.{Arc, Table}
 use Rattle.table_format.specs.Classes.{firstClass, rowWidth, lettersIn, isPlain, rowOf, withLetter}
 use Rattle.table_format.specs.Rules.{lettersRise, rowHolds}
 use Rattle.table_format.specs.Ruled.{AtLeast, Ruled}
-use Rattle.table_format.proofs.Tests.{and-left, and-right, and-both}
+use Rattle.table_format.proofs.Tests.{and-left, and-right}
 use Rattle.table_format.proofs.Classes.{row-letters, rows-hold, row-small}
+use Rattle.table_format.proofs.ClassFaults.{plain-is}
 use Rattle.table_format.proofs.All.{All, all-getD}
 use Rattle.graph.proofs.Lists.{same?}
 use Rattle.machine.specs.Query.{Task, recognition, synthesis, analysis, upperSide, lowerSide, reads, Query}
@@ -75,7 +76,7 @@ module _ (t : Table) (q : Query) (g : ℕ → Passed → List ℕ → List (List
   tellsAs b = ifFits (bind b (λ c. followArc q c d)) (λ e. g (a .target) e (o ++ listed b (writesArc q)))
 
   small-plain : (y : ℕ) → y ≤ 63 → isPlain (withLetter a y) ≡ true
-  small-plain y h = and-both (lt-ltb y firstClass (omega arith)) (lt-ltb y firstClass (omega arith))
+  small-plain y h = plain-is (withLetter a y) .1 (omega arith, omega arith)
 
   module _ (x : ℕ) (next : nextOf q d ≡ x) where
     -- the arc of another letter tells nothing
@@ -193,8 +194,8 @@ module _ (t : Table) (U : Ruled t) (q : Query) where
   reading-same true o = refl
   reading-same false o = refl
 
-  -- a state tells the same in both tables
-  state-same : (c s : ℕ) (d : Passed) (o : List ℕ) → stateTells (machine t q) c s d o ≡ stateTells (machine t′ q) c s d o
+  -- a state tells the same in both tables, after anything passed and to any number of arcs
+  pub state-same : (c s : ℕ) (d : Passed) (o : List ℕ) → stateTells (machine t q) c s d o ≡ stateTells (machine t′ q) c s d o
   unfolding stateTells
   state-same zero s d o = reading-same (machine t q .terminal s && machine t q .done d) o
   state-same (suc c) s d o =

@@ -29,7 +29,7 @@ use Rattle.machine.specs.Place.{InSearch}
 use Rattle.machine.specs.Frames.{Frame, Store, Held}
 use Rattle.machine.specs.Call.{Replied, Steps, Stops}
 use Rattle.machine.specs.Order.{accepting, outputs, ListsAllowed, Lists, Narrows}
-use Rattle.machine.specs.Denotation.{initialsTell}
+use Rattle.machine.specs.Denotation.{stateTells, initialsTell}
 use Rattle.machine.specs.Transducer.{arcAt, Passed, followArc, writesArc, lettersToRead, writtenBy, machine}
 use Rattle.machine.specs.Classes.{Fits, oneMore, letterWritten}
 use Rattle.machine.specs.Idle.{idle, StateReached, IdleWalk, NoIdleCycle, CycleStates, hasIdleCycle, ShownIdle, shownIdle}
@@ -162,9 +162,13 @@ module _ (t : Table) (rules : keepsRules t ≡ true) where
   pub expands : (k : Task) (x : Input k) (y : Output k) → Solves t k x y ↔ Solves (expanded t) k x y
   expands = expand.expands t (ruled t rules)
 
-  -- Its readings of any query are the same list: each as often, and in the same order.
+  -- Its readings of any query are the same list: each as often, and in the same order. So it is of each state, after anything passed and written,
+  -- to any number of arcs, and so also where an idle cycle is reached.
   pub expanded-readings : (q : Query) → readings (machine t q) (tour (machine t q)) ≡ readings (machine (expanded t) q) (tour (machine (expanded t) q))
   expanded-readings = written.expanded-readings t (ruled t rules)
+
+  pub expanded-states : (q : Query) (c s : ℕ) (d : Passed) (o : List ℕ) → stateTells (machine t q) c s d o ≡ stateTells (machine (expanded t) q) c s d o
+  expanded-states = written.state-same t (ruled t rules)
 
   pub expanded-plain : (a : Arc) → List·Memᴰ a (expanded t .arcs) → isPlain a ≡ true
   expanded-plain = expand.expanded-plain t (ruled t rules)

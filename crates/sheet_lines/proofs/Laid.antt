@@ -8,10 +8,10 @@ use lib.Dec.{ltb}
 use lib.ListN.{length, take, drop, replicate, length-append, length-replicate, length-map, length-take, length-drop, take-append-drop}
 use lib.Seq.{take-all, take-suc, take-add, take-at, length-take-le}
 use borrow.Author.Tests.{ltb-true, ltb-false}
-use Rattle.table_format.proofs.All.{All, all-map, all-mem}
+use Rattle.table_format.proofs.All.{All, all-map, all-mem, all-from}
 use Rattle.sheet_lines.specs.Lines.{columns, lineSize, leadColumns, rowLetters, filled, ordinalColumns, cut, rowsOf, firstLine, nextLine, readingLines, linesFor, joined}
 use Rattle.sheet_lines.specs.Laid.{IsLine, lettersIn, GoesOn, columnsSay, Laid}
-use Rattle.sheet_lines.proofs.Lists.{mem-all, take-most}
+use Rattle.sheet_lines.proofs.Lists.{take-most}
 use Rattle.sheet_lines.proofs.Rows.{pieces-length, pieces-same}
 use Rattle.sheet_lines.proofs.Lines.{Row, rows-short, reading-lines, reading-count}
 use Rattle.sheet_lines.proofs.Ordinal.{ordinal-says, ordinal-aligned, aligned-range, aligned-only}
@@ -126,7 +126,7 @@ most (suc o) c h = omega (arith, h (omega arith))
 
 module _ (n : ℕ) (cs : List ℕ) (ls : List (List ℕ)) (L : Laid n cs ls) where
   all-lines : All IsLine (L .first ∷ L .others)
-  all-lines = subst (All IsLine) (L .is) (mem-all IsLine ls (L .lines))
+  all-lines = subst (All IsLine) (L .is) (all-from IsLine ls (L .lines))
 
   five : length (take 5 (L .first)) ≡ 5
   five = length-take-le 5 (L .first) (omega (arith, all-lines .0 .size))
@@ -139,12 +139,12 @@ module _ (n : ℕ) (cs : List ℕ) (ls : List (List ℕ)) (L : Laid n cs ls) whe
   lines-are : ls ≡ linesOf n (map lettersIn ls)
   lines-are =
       L .is
-      ∙ ap₂ (λ x xs. x ∷ xs) (line-is (L .first) (ordinalColumns n ++ (32 ∷ [])) (all-lines .0) lead-is) (others-are (L .others) (all-lines .1) (mem-all GoesOn (L .others) (L .goes-on)))
+      ∙ ap₂ (λ x xs. x ∷ xs) (line-is (L .first) (ordinalColumns n ++ (32 ∷ [])) (all-lines .0) lead-is) (others-are (L .others) (all-lines .1) (all-from GoesOn (L .others) (L .goes-on)))
       ∙ ap (λ (xs : List (List ℕ)). linesOf n (map lettersIn xs)) (sym (L .is))
 
   blanks-is : L .blanks ≡ blanksAfter cs
   blanks-is =
-      let count = pieces-length Full rowLetters (λ l h. h) (map lettersIn ls) (all-full ls (mem-all IsLine ls (L .lines))) in
+      let count = pieces-length Full rowLetters (λ l h. h) (map lettersIn ls) (all-full ls (all-from IsLine ls (L .lines))) in
       let size : length (map lettersIn ls) ≡ length ls = length-map ls lettersIn in
       let both : length (joined (map lettersIn ls)) ≡ length cs + L .blanks = ap length (L .letters) ∙ simp (length-append, length-replicate) in
       let some : length ls ≡ suc (length (L .others)) = ap length (L .is) in
@@ -158,7 +158,7 @@ laid-only n cs ls L =
     let r : (0 < columnsSay (take 5 (L .first))) × (columnsSay (take 5 (L .first)) < 100000) = aligned-range (take 5 (L .first)) (five n cs ls L) (L .aligned) in
     let M = reading-laid n cs (omega (arith, L .says)) (omega (arith, L .says)) in
     let text = L .letters ∙ ap (λ (b : ℕ). cs ++ replicate b 32) (blanks-is n cs ls L) ∙ sym (reading-letters n cs) in
-    let rows = pieces-same Full rowLetters (λ l h. h) (omega arith) (map lettersIn ls) (map lettersIn (readingLines n cs)) (all-full ls (mem-all IsLine ls (L .lines))) (all-full (readingLines n cs) (reading-lines n cs)) text in
+    let rows = pieces-same Full rowLetters (λ l h. h) (omega arith) (map lettersIn ls) (map lettersIn (readingLines n cs)) (all-full ls (all-from IsLine ls (L .lines))) (all-full (readingLines n cs) (reading-lines n cs)) text in
     lines-are n cs ls L
     ∙ ap (linesOf n) rows
     ∙ sym (lines-are n cs (readingLines n cs) M)

@@ -2,14 +2,9 @@
 use Prim.Native.Nat.{ℕ, zero, suc, _<_, _≤_}
 use native.Mathlib.Omega.{arith}
 use mathlib.Core.Path.{_≡_, refl, sym, ap, ap₂}
-use mathlib.Core.List.{List, [], _∷_, map, head-eq-of-cons-eq, tail-eq-of-cons-eq, nil≢cons, List·Memᴰ, List·Memᴰ·head, List·Memᴰ·tail}
+use mathlib.Core.List.{List, [], _∷_, map, head-eq-of-cons-eq, tail-eq-of-cons-eq, nil≢cons}
 use lib.ListN.{length, getD, take, drop, replicate}
 use Rattle.table_format.proofs.All.{All}
-
--- what every element of a list has
-pub mem-all : {A : Type 0} (P : A → Type 0) (xs : List A) → ((x : A) → List·Memᴰ x xs → P x) → All P xs
-mem-all P [] f = tt
-mem-all P (x ∷ xs) f = (f x (List·Memᴰ·head refl), mem-all P xs (λ y m. f y (List·Memᴰ·tail m)))
 
 pub all-replicate : {A : Type 0} (P : A → Type 0) (n : ℕ) (x : A) → P x → All P (replicate n x)
 all-replicate P zero x p = tt

@@ -7,10 +7,10 @@ use mathlib.Core.List.{List, [], _∷_, _++_, map, head-eq-of-cons-eq, tail-eq-o
 use lib.Dec.{ltb}
 use lib.ListN.{length, replicate}
 use borrow.Author.Tests.{ltb-true, ltb-false, le-ltb}
-use Rattle.table_format.proofs.All.{All, all-append, all-mem}
+use Rattle.table_format.proofs.All.{All, all-append, all-mem, all-from}
 use Rattle.sheet_lines.specs.Lines.{digitAt, ordinalColumns}
 use Rattle.sheet_lines.specs.Laid.{IsDigit, Aligned, valueIn, sayFrom, columnsSay}
-use Rattle.sheet_lines.proofs.Lists.{mem-all, all-replicate, map-same}
+use Rattle.sheet_lines.proofs.Lists.{all-replicate, map-same}
 
 -- What an ordinal's columns say.
 
@@ -101,7 +101,7 @@ digits-small (c ∷ cs) h = (h .0 .1, digits-small cs (h .1))
 
 aligned-small : (cs : List ℕ) → Aligned cs → All Small cs
 aligned-small cs a =
-    subst (All Small) (sym (a .is)) (all-append Small (replicate (a .blanks) 32) _ (all-replicate Small (a .blanks) 32 (omega arith)) (a .leads .1, digits-small (a .others) (mem-all IsDigit (a .others) (a .digits))))
+    subst (All Small) (sym (a .is)) (all-append Small (replicate (a .blanks) 32) _ (all-replicate Small (a .blanks) 32 (omega arith)) (a .leads .1, digits-small (a .others) (all-from IsDigit (a .others) (a .digits))))
 
 -- where columns say the same one by one, as many are blanks, as the first digit is not 0
 blanks-same : (j k x y : ℕ) (xs ys : List ℕ) → 49 ≤ x → 49 ≤ y → All IsDigit xs → All IsDigit ys
@@ -118,7 +118,7 @@ aligned-same : (cs ds : List ℕ) → Aligned cs → Aligned ds → length cs �
 aligned-same cs ds a b l e =
     let values = say-same cs ds 0 0 l (aligned-small cs a) (aligned-small ds b) e .1 in
     a .is
-    ∙ blanks-same (a .blanks) (b .blanks) (a .first) (b .first) (a .others) (b .others) (a .leads .0) (b .leads .0) (mem-all IsDigit (a .others) (a .digits)) (mem-all IsDigit (b .others) (b .digits))
+    ∙ blanks-same (a .blanks) (b .blanks) (a .first) (b .first) (a .others) (b .others) (a .leads .0) (b .leads .0) (all-from IsDigit (a .others) (a .digits)) (all-from IsDigit (b .others) (b .digits))
     (ap (map valueIn) (sym (a .is)) ∙ values ∙ ap (map valueIn) (b .is))
     ∙ sym (b .is)
 

@@ -39,6 +39,11 @@ module _ {A : Type 0} (P : A → Type 0) where
   all-mem [] p x m = absurd (List·Memᴰ·not-nil m)
   all-mem (y ∷ ys) p x m = ⊎-elim (λ u. subst P (sym u) (p .0)) (λ u. all-mem ys (p .1) x u) (List·Memᴰ·cases-cons m)
 
+  -- a property of all elements, from each
+  pub all-from : (xs : List A) → ((x : A) → List·Memᴰ x xs → P x) → All P xs
+  all-from [] h = tt
+  all-from (x ∷ xs) h = (h x (List·Memᴰ·head refl), all-from xs (λ y m. h y (List·Memᴰ·tail m)))
+
   -- a test that each element passes gives the property
   pub all-each : (test : List A → A → Bool) → ((before : List A) (x : A) → test before x ≡ true → P x)
       → (before xs : List A) → each test before xs ≡ true → All P xs

@@ -4,25 +4,20 @@ use native.Mathlib.Omega.{arith}
 use mathlib.Core.Path.{_≡_, refl, sym, ap, ap₂, subst, _∙_}
 use mathlib.Core.Bool.{Bool, true, false, not, _&&_, _||_, and-eq-true-iff}
 use mathlib.Core.Logic.{_↔_}
-use mathlib.Core.List.{List, [], _∷_, _++_, append-assoc, List·Memᴰ, List·Memᴰ·head, List·Memᴰ·tail}
+use mathlib.Core.List.{List, [], _∷_, _++_, append-assoc, List·Memᴰ}
 use lib.Dec.{eqb, leb, ltb}
 use lib.ListN.{length, getD, take, drop, replicate, length-append, length-drop, length-replicate}
-use lib.Seq.{take-append-seam, drop-append-seam, drop-at, take-at, take-add, take-take, drop-drop}
+use lib.Seq.{drop-append-seam, drop-at, take-at, take-add, drop-drop}
 use borrow.Author.Tests.{leb-true, ltb-true, ltb-false, eqb-true, le-leb, lt-ltb, eq-eqb}
 use Rattle.table_format.specs.Table.{Arc}
 use Rattle.table_format.specs.Classes.{classCount, rowWidth, firstClass, rowWith, lettersIn, isDefined, noClasses, isPlain, rowOf}
 use Rattle.table_format.specs.Rules.{any, each, letterHolds, lettersRise, arcClassHolds, isBlank, rowHolds, classesKeep}
 use Rattle.table_format.specs.Ruled.{Rise, ClassRow}
 use Rattle.table_format.specs.Loaded.{rowsCells, rowsIn}
-use Rattle.table_format.proofs.All.{All, all-append, all-getD, all-mem, all-each}
+use Rattle.table_format.proofs.All.{All, all-append, all-getD, all-mem, all-from, all-each}
 use Rattle.table_format.proofs.Tests.{and-left, and-right, and-both, or-left, or-right}
 
 -- Letters that rise.
-
--- a property of all elements, from each
-all-from : {A : Type 0} (P : A → Type 0) (l : List A) → ((x : A) → List·Memᴰ x l → P x) → All P l
-all-from P [] h = tt
-all-from P (x ∷ l) h = (h x (List·Memᴰ·head refl), all-from P l (λ y m. h y (List·Memᴰ·tail m)))
 
 -- a letter above m
 abbrev Above : ℕ → ℕ → Type 0

@@ -6,15 +6,14 @@ use mathlib.Core.Logic.{inl, inr, ⊎-elim}
 use mathlib.Core.Bool.{Bool, true, false, cond, true≢false}
 use mathlib.Core.List.{List, [], _∷_, _++_, map, append-nil, List·Memᴰ, List·Memᴰ·not-nil, List·Memᴰ·cases-cons, Memᴰ·of-map}
 use lib.ListN.{length, getD, length-append, length-map}
-use borrow.Author.Tests.{lt-ltb}
 use Rattle.table_format.specs.Table.{Arc}
 use Rattle.table_format.specs.Classes.{isPlain, noClasses}
 use Rattle.table_format.specs.Rules.{keepsRules}
 use Rattle.table_format.specs.Ruled.{AtLeast}
 use Rattle.table_format.specs.Loaded.{cellsOf}
-use Rattle.table_format.proofs.Tests.{and-both}
 use Rattle.table_format.proofs.All.{All, all-mem}
 use Rattle.table_format.proofs.Classes.{classes-are, no-classes-keep}
+use Rattle.table_format.proofs.ClassFaults.{plain-is}
 use Rattle.table_format.proofs.Ruled.{kept}
 use Rattle.table_format.proofs.Loaded.{length-cells}
 use Rattle.graph.specs.Lists.{Distinct}
@@ -135,7 +134,7 @@ module _ (ws bs : List Word) where
 
     -- so none has a class
     plain : (a : Arc) → List·Memᴰ a (tableOn ws bs .arcs) → isPlain a ≡ true
-    plain a m = let h = arc-inside a m in and-both (lt-ltb (a .upper) 64 (omega (arith, h .2))) (lt-ltb (a .lower) 64 (omega (arith, h .3)))
+    plain a m = let h = arc-inside a m in plain-is a .1 (omega (arith, h .2), omega (arith, h .3))
 
     pub rules : length bs ≤ 256 → keepsRules (tableOn ws bs) ≡ true
     rules few =
