@@ -9,12 +9,11 @@ use lib.ListN.{length, take, drop}
 use lib.Seq.{take-append-seam, drop-append-seam}
 use borrow.Author.Tests.{le-leb}
 use Rattle.destination.specs.declared.Answer.the-variants.{Done}
-use Rattle.table_format.proofs.All.{All}
+use Rattle.table_format.proofs.All.{All, all-from}
 use Rattle.table_format.proofs.Tests.{and-left, and-both}
 use Rattle.faces.specs.Faces.{facesHold}
 use Rattle.faces.specs.Lent.{lentBytes, every, isLetter, readingsHold, heldAs, listHolds, listAs, listOf}
 use Rattle.faces.proofs.Lent.{spelled-lent}
-use Rattle.sheet_lines.proofs.Lists.{mem-all}
 use Rattle.sheet.specs.Sheet.{sheetOf, linesTaken, sheetSize}
 use Rattle.sheet.specs.Calls.{sheetHolds}
 use Rattle.sheet.proofs.Headlines as sheets
@@ -55,7 +54,7 @@ module _ (ws : List Word) (holds : words.listHolds ws ≡ true) (w : Word) (k : 
   -- 73 × (2 + 1,000 × 2)
   pub sheet-room : length w ≤ 64 → sheetSize (S .readings) ≤ 146146
   sheet-room h =
-      omega (arith, S .few, few-lines (S .readings) (mem-all (λ r. length r ≤ 127) (S .readings) (λ r m. omega (arith, reads-length ws holds w r (shows-way r m)))))
+      omega (arith, S .few, few-lines (S .readings) (all-from (λ r. length r ≤ 127) (S .readings) (λ r m. omega (arith, reads-length ws holds w r (shows-way r m)))))
 
   module _ (faces d : List ℕ) where
     abbrev sheet : List ℕ

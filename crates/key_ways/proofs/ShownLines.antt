@@ -7,7 +7,7 @@ use mathlib.Core.Bool.{Bool, true, false}
 use mathlib.Core.List.{List, [], _∷_, _++_, map, append-assoc, append-nil, List·Memᴰ, List·Memᴰ·cases-cons, List·Memᴰ·head}
 use lib.ListN.{length, getD, take, replicate, length-append}
 use lib.Seq.{take-all, take-suc, take-add, drop-at}
-use Rattle.table_format.proofs.All.{All, all-append, all-mem}
+use Rattle.table_format.proofs.All.{All, all-append, all-mem, all-from}
 use Rattle.alphabet.specs.Shown.{faceTable, codeShown, shownAs, shown, Ascii}
 use Rattle.alphabet.proofs.Places.{same-from}
 use Rattle.alphabet.proofs.Headlines.{shown-append}
@@ -16,7 +16,7 @@ use Rattle.faces.specs.Lent.{readingsHold}
 use Rattle.sheet_lines.specs.Lines.{columns, lineSize, leadColumns, rowLetters, filled}
 use Rattle.sheet_lines.specs.Lines as lines
 use Rattle.sheet_lines.specs.Laid.{IsLine, IsDigit, Laid, lettersIn}
-use Rattle.sheet_lines.proofs.Lists.{mem-all, all-replicate}
+use Rattle.sheet_lines.proofs.Lists.{all-replicate}
 use Rattle.sheet_lines.proofs.Rows.{joined-append}
 use Rattle.sheet.specs.Sheet.{openingWord, lastWord, listLines, sheetLines, sheetOf}
 use Rattle.sheet.specs.Read.{lastLine, lastWordIn}
@@ -84,7 +84,7 @@ module _ (l : List ℕ) (L : IsLine l) where
   pub line-ascii : Printed l → All Ascii l
   line-ascii p =
       subst (All Ascii) (sym line-columns)
-      (all-append Ascii (take columns l) (10 ∷ []) (mem-all Ascii (take columns l) (λ c m. let q = all-mem Printable (take columns l) p c m in omega arith)) (omega arith, tt))
+      (all-append Ascii (take columns l) (10 ∷ []) (all-from Ascii (take columns l) (λ c m. let q = all-mem Printable (take columns l) p c m in omega arith)) (omega arith, tt))
 
 -- The lines of a reading: the ordinal and the blank before the letters are shown as themselves, and so are six blanks.
 
@@ -94,7 +94,7 @@ module _ (n : ℕ) (cs : List ℕ) (ls : List (List ℕ)) (L : Laid n cs ls) whe
       let A = L .aligned in
       subst (All Same) (sym (A .is))
       (all-append Same (replicate (A .blanks) 32) (A .first ∷ A .others) (all-replicate Same (A .blanks) 32 blank-same)
-      (digit-same (A .first) (let d = A .leads in omega arith), mem-all Same (A .others) (λ c m. digit-same c (A .digits c m))))
+      (digit-same (A .first) (let d = A .leads in omega arith), all-from Same (A .others) (λ c m. digit-same c (A .digits c m))))
 
   first-same : All Same (take leadColumns (L .first))
   first-same =
@@ -128,7 +128,7 @@ module _ (faces : List ℕ) (rs : List (List ℕ)) (ended : Bool) where
   sheet-ascii F R =
       let all = sheetLines faces rs ended in
       all-joined Ascii all
-      (mem-all (All Ascii) all (λ l m. line-ascii l (all-mem IsLine all (sheets.line-72 faces rs ended) l m) (all-mem Printed all (sheets.line-printed faces F rs ended R) l m)))
+      (all-from (All Ascii) all (λ l m. line-ascii l (all-mem IsLine all (sheets.line-72 faces rs ended) l m) (all-mem Printed all (sheets.line-printed faces F rs ended R) l m)))
 
   -- its last line is the print's
   pub last-in-print : lastWordIn (shown (sheetOf faces rs ended)) ≡ lastWordIn (sheetOf faces rs ended)

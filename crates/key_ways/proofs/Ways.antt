@@ -4,8 +4,7 @@ use mathlib.Core.Path.{_≡_, subst, _∙_, sym, ap}
 use mathlib.Core.Bool.{true}
 use mathlib.Core.List.{List, map, List·Memᴰ, Memᴰ·of-map}
 use lib.ListN.{length}
-use Rattle.table_format.proofs.All.{All}
-use Rattle.sheet_lines.proofs.Lists.{mem-all}
+use Rattle.table_format.proofs.All.{All, all-from}
 use Rattle.faces.specs.Lent.{every, isLetter}
 use Rattle.lexicon.specs.Words.{Word, goodWord, listHolds}
 use Rattle.lexicon.proofs.Words.{mem-holds}
@@ -15,7 +14,7 @@ use Rattle.key_ways.proofs.Joined.{uncut, joined-length, joined-letters
 
 module _ (ws : List Word) (holds : listHolds ws ≡ true) (w : Word) where
   pub words-hold : (z : List Word) → Way ws w z → All (λ b. goodWord b ≡ true) z
-  words-hold z W = mem-all (λ b. goodWord b ≡ true) z (λ b m. mem-holds ws holds b (W .from-list b m))
+  words-hold z W = all-from (λ b. goodWord b ≡ true) z (λ b m. mem-holds ws holds b (W .from-list b m))
 
   -- a reading with the way that it shows
   pub record Reads (r : Word) : Type 0 where
