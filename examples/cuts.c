@@ -41,7 +41,7 @@ static void show(size_t letters) {
 /* Shows all cuts of a word of so many letters, over a table of so many cells. */
 static int cut(size_t cells, const uint8_t *word, size_t letters) {
     rd_run run;
-    rd_answer answer = rd_start(table, cells, RD_SYNTHESIS, word, letters, RD_NO_LETTERS, 0, &run).answer;
+    rd_answer answer = rd_start(table, cells, RD_SYNTHESIS, RD_MOST_CEILING, word, letters, RD_NO_LETTERS, 0, &run).answer;
     if (answer.kind == RD_REFUSED) return refused("rd_start", answer);
     do {
         answer = rd_next(table, cells, word, letters, RD_NO_LETTERS, 0, &run, stack, sizeof stack / sizeof *stack, 1000, output,

@@ -37,7 +37,7 @@ int main(void) {
     rd_answer read = rd_table_read((const uint8_t *)text, sizeof text - 1, table, RD_TABLE_CELLS);
     if (read.kind == RD_REFUSED) return refused("rd_table_read", read);
 
-    rd_answer answer = rd_start(table, read.length, RD_SYNTHESIS, upper, LETTERS, RD_NO_LETTERS, 0, &run).answer;
+    rd_answer answer = rd_start(table, read.length, RD_SYNTHESIS, RD_MOST_CEILING, upper, LETTERS, RD_NO_LETTERS, 0, &run).answer;
     if (answer.kind == RD_REFUSED) return refused("rd_start", answer);
 
     for (;;) {

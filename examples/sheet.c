@@ -70,7 +70,7 @@ int main(void) {
     rd_answer read = rd_words_read(words, sizeof words, table, RD_TREE_CELLS);
     if (read.kind == RD_REFUSED) return refused("rd_words_read", read);
 
-    rd_answer start = rd_start(table, read.length, RD_SYNTHESIS, upper, LETTERS, RD_NO_LETTERS, 0, &run).answer;
+    rd_answer start = rd_start(table, read.length, RD_SYNTHESIS, RD_MOST_CEILING, upper, LETTERS, RD_NO_LETTERS, 0, &run).answer;
     if (start.kind == RD_REFUSED) return refused("rd_start", start);
 
     rd_answer last = listed(read.length, &run, &n);

@@ -23,8 +23,8 @@
 #include <stdint.h>
 
 /* The version of this interface, as text and as 10,000 x major + 100 x minor + patch. */
-#define RD_VERSION "0.4.0"
-#define RD_VERSION_NUMBER 400
+#define RD_VERSION "0.5.0"
+#define RD_VERSION_NUMBER 500
 
 /* Limits. */
 #define RD_MOST_STATES 256   /* states of a table */
@@ -37,16 +37,18 @@
 #define RD_FIRST_CLASS 64    /* what stands on an arc for class 0; class k is k more */
 #define RD_CLASSES_AT 4      /* where the classes begin in a table's cells: behind its counts */
 #define RD_INITIALS_AT 132   /* where the initial states begin: behind the classes */
-#define RD_ARC_CELLS 4       /* cells of an arc: source, upper letter, lower letter, target */
-#define RD_TABLE_CELLS 4740  /* cells that hold every table */
-#define RD_TEXT_BYTES 19266  /* bytes that hold the text of every table */
-#define RD_FRAME_CELLS 4     /* cells of a frame: state, next arc, letters passed on the upper and on the lower side */
+#define RD_ARC_CELLS 5       /* cells of an arc: source, upper letter, lower letter, target, penalty */
+#define RD_MOST_PENALTY 255  /* the highest penalty of an arc; the lowest is 0 */
+#define RD_TABLE_CELLS 5764  /* cells that hold every table */
+#define RD_TEXT_BYTES 21314  /* bytes that hold the text of every table */
+#define RD_FRAME_CELLS 5     /* cells of a frame: state, next arc, letters passed on the upper and on the lower side, sum of penalties */
+#define RD_MOST_CEILING 100000 /* the highest ceiling of a run, and a session's */
 #define RD_CYCLE_STATES 256  /* states of the longest cycle that is told */
 
 /* Limits of a word list. */
 #define RD_MOST_LISTED_LETTER 62 /* the highest letter of a listed word; the lowest is 1 */
 #define RD_CUT 63                /* the letter that a reading has between two words */
-#define RD_TREE_CELLS 2428       /* cells that hold the table of every list */
+#define RD_TREE_CELLS 2938       /* cells that hold the table of every list */
 
 /* Limits of an answer sheet. */
 #define RD_FACES 63             /* faces: characters for letters 1 to 63 */
@@ -97,25 +99,25 @@ enum rd_task {
 
 /* Why a call is refused. In what order: a text: its first bad line, in it the lowest number, where 34 is looked for right after 5, then
  * 24; a word list: the first word that has 30, 31 or 32, of it the lowest number, then 24; rd_table_write: 20, 24; rd_start: 20, 11, 10,
- * 12; rd_next: 20, 11, 10, 21, then in a step 22, 23; rd_sheet_write: 33, 24. */
+ * 39, 12; rd_next: 20, 11, 10, 39, 21, then in a step 22, 23; rd_sheet_write: 33, 24. */
 enum rd_refusal {
     RD_REFUSAL_MALFORMED = 1,          /* a line is empty, has an odd count of digits, another character than 0-9, A-F,
                                           or lacks its line feed */
-    RD_REFUSAL_MISPLACED = 2,          /* a line has the wrong kind for its place or the wrong length, text stands after
-                                          the end, or a line is missing */
+    RD_REFUSAL_MISPLACED = 2,          /* a line has the wrong kind for its place or the wrong length, the penalty of a 07 line
+                                          is 0, text stands after the end, or a line is missing */
     RD_REFUSAL_COUNT_LIMIT = 3,        /* a header count is outside its limit: 1 to 256 states, 1 to states initial ones,
                                           0 to states terminal ones, 0 to 1,024 arcs */
     RD_REFUSAL_STATE_NUMBER = 4,       /* a state number is not below the count of states */
     RD_REFUSAL_LETTER_LIMIT = 5,       /* an arc letter is over 71 */
     RD_REFUSAL_STATE_ORDER = 6,        /* an initial state is repeated, or terminal states do not rise */
     RD_REFUSAL_SOURCE_ORDER = 7,       /* an arc's source is below the one before */
-    RD_REFUSAL_ARC_REPEATED = 8,       /* an arc equals an earlier one */
+    RD_REFUSAL_ARC_REPEATED = 8,       /* an arc equals an earlier one, whatever their penalties */
     RD_REFUSAL_LINE_COUNT = 9,         /* the end line's number is not the count of lines before it */
     RD_REFUSAL_WORD_FAULT = 10,        /* a word has more than 64 letters, or a letter 0 or over 63 */
     RD_REFUSAL_TASK_FAULT = 11,        /* unknown task, or a word of one or more letters on a side that the task does not read */
     RD_REFUSAL_IDLE_CYCLE = 12,        /* from an initial state arcs lead to a cycle of arcs that read nothing for the task:
                                           a search could be endless */
-    RD_REFUSAL_LOADED_TABLE = 20,      /* the loaded table breaks a rule (3 to 8, 34), or is cut short */
+    RD_REFUSAL_LOADED_TABLE = 20,      /* the loaded table breaks a rule (3 to 8, 34), has a penalty over 255, or is cut short */
     RD_REFUSAL_PLACE = 21,             /* the run or its used frames are not a place in a search */
     RD_REFUSAL_STACK_FULL = 22,        /* the stack is full; rd_next says how to go on */
     RD_REFUSAL_OUTPUT_FULL = 23,       /* the output is too short for the reading; rd_next says how to go on */
@@ -125,8 +127,9 @@ enum rd_refusal {
     RD_REFUSAL_STATE_LIMIT = 32,       /* with this word the list's table has over 256 states */
     RD_REFUSAL_SHEET_FAULT = 33,       /* two faces are equal or one is not 33 to 126; or there are over 1,000 readings, one is
                                           cut short, or one has a letter 0 or over 63 */
-    RD_REFUSAL_CLASS_FAULT = 34        /* classes are over 7 or do not rise, a class has a letter 0 or over 63 or letters that do
+    RD_REFUSAL_CLASS_FAULT = 34,       /* classes are over 7 or do not rise, a class has a letter 0 or over 63 or letters that do
                                           not rise, or an arc's class is not defined or not the same on both sides */
+    RD_REFUSAL_CEILING_LIMIT = 39      /* a run's ceiling is over 100,000 */
 };
 
 /* What a call answers. A field that has no meaning for an answer is 0. */
@@ -146,12 +149,13 @@ typedef struct {
     uint16_t cycle[RD_CYCLE_STATES];
 } rd_started;
 
-/* A search: its task, how many initial states are started, how many frames of the stack are in use. The caller's record; rd_start sets
- * it and rd_next moves it on. A copy of it, with a copy of the used frames, is a place to come back to. */
+/* A search: its task, how many initial states are started, how many frames of the stack are in use, and its ceiling. The caller's record;
+ * rd_start sets it and rd_next moves it on; task and ceiling stay. A copy of it, with a copy of the used frames, is a place to come back to. */
 typedef struct {
     uint32_t task;
     uint32_t started;
     uint32_t depth;
+    uint32_t ceiling;
 } rd_run;
 
 /* Reads a table's text of n bytes, whose lines README.md shows under "What goes in", into cells: the counts of states, initial states,
@@ -162,7 +166,10 @@ typedef struct {
  * An arc with RD_FIRST_CLASS + k on both sides is a class arc: it stands for one letter of class k, which has 1 to RD_CLASS_LETTERS
  * letters of 1 to RD_MOST_LETTER, rising. It fits where the next letter is in the class, in recognition where both words have the same
  * such letter next; in synthesis and analysis it writes the letter that it reads. It is never idle. Words have no classes, and readings
- * have letters only. */
+ * have letters only.
+ *
+ * An arc's last cell is its penalty, 0 to RD_MOST_PENALTY: how far-fetched the readings of its paths are. rd_start says what a run's
+ * ceiling makes of it. */
 rd_answer rd_table_read(const uint8_t *text, size_t n, uint16_t *table, size_t m);
 
 /* Reads a list of words of n bytes into the cells of its letter tree's table, which are as rd_table_read has them. A word stands as its
@@ -183,15 +190,19 @@ rd_answer rd_words_read(const uint8_t *words, size_t n, uint16_t *table, size_t 
  * bytes of the text. Refusals: 20, 24. */
 rd_answer rd_table_write(const uint16_t *table, size_t n, uint8_t *text, size_t m);
 
-/* Begins a search. The task may be any number. A start that passes sets the run to the task, 0 started and depth 0; one that is refused
- * leaves the run as it was. answer.length: states of the cycle, with 12. Refusals: 20, 11, 10, 12. */
-rd_started rd_start(const uint16_t *table, size_t n, uint32_t task, const uint8_t *upper, size_t u, const uint8_t *lower, size_t l,
-                    rd_run *run);
+/* Begins a search. The task may be any number. A start that passes sets the run to the task, 0 started, depth 0 and the ceiling; one that is
+ * refused leaves the run as it was. answer.length: states of the cycle, with 12. Refusals: 20, 11, 10, 39, 12.
+ *
+ * An arc that would lift the sum of the penalties on its path over the ceiling does not fit, so that the readings are those of the paths
+ * whose penalties add up to the ceiling at most. A higher ceiling's readings are these and others, in the same order. RD_MOST_CEILING is the
+ * highest. 12 is given whatever the penalties are. */
+rd_started rd_start(const uint16_t *table, size_t n, uint32_t task, uint32_t ceiling, const uint8_t *upper, size_t u,
+                    const uint8_t *lower, size_t l, rd_run *run);
 
 /* Goes on with a search, for at most allowance steps, to the next reading. Table and words are those of the start; run and stack are as
  * the call before left them. The stack has s cells, RD_FRAME_CELLS a frame; a new stack may hold anything. length: letters of the
- * output, in recognition 0, so that o may be 0 there. Refusals: 20, 11, 10, 21, 22, 23; steps made before a refused one stand, and no
- * reading is lost by it.
+ * output, in recognition 0, so that o may be 0 there. Refusals: 20, 11, 10, 39, 21, 22, 23; steps made before a refused one stand,
+ * and no reading is lost by it.
  *
  * After 22 the same run goes on with a longer stack that begins with the same used frames, the first run->depth ones. A stack of
  * RD_STACK_FRAMES(letters to read, states) frames never gets 22.
@@ -221,7 +232,7 @@ rd_answer rd_sheet_write(const uint8_t *readings, size_t n, const uint8_t *faces
  *     rd_run run;
  *     rd_answer t = rd_table_read(text, n, table, RD_TABLE_CELLS);
  *     if (t.kind == RD_REFUSED) return t.number;
- *     rd_answer a = rd_start(table, t.length, RD_SYNTHESIS, upper, u, RD_NO_LETTERS, 0, &run).answer;
+ *     rd_answer a = rd_start(table, t.length, RD_SYNTHESIS, RD_MOST_CEILING, upper, u, RD_NO_LETTERS, 0, &run).answer;
  *     if (a.kind == RD_REFUSED) return a.number;
  *     do {
  *         a = rd_next(table, t.length, upper, u, RD_NO_LETTERS, 0, &run, stack, sizeof stack / sizeof *stack, 1000, output,

@@ -11,7 +11,7 @@
 //! let (table, word) = (&table[..cells], [1]);
 //!
 //! let mut run = Run::default();
-//! lending::start(table, Task::Synthesis as u32, &word, &[], &mut run).done()?;
+//! lending::start(table, Task::Synthesis as u32, limits::MOST_CEILING, &word, &[], &mut run).done()?;
 //!
 //! let mut stack = [0; limits::stack_cells(1, 1)];
 //! let mut output = [0; limits::output_letters(1, 1)];
@@ -20,7 +20,7 @@
 //! assert_eq!(output, [2]);
 //! # Ok::<(), Box<dyn std::error::Error>>(())
 //! ```
-use crate::limits::{CYCLE_STATES, FACES};
+use crate::limits::{CYCLE_STATES, FACES, MOST_CEILING};
 use crate::{Answer, Refusal, StartRefused};
 
 /// The kinds of a reply.
@@ -70,15 +70,23 @@ pub struct Run {
     pub started: u32,
     /// How many frames of the stack are in use.
     pub depth: u32,
+    /// The highest sum of penalties that a path may have.
+    pub ceiling: u32,
 }
 
 impl Run {
-    /// What a start of a task that passes sets.
+    /// What a start of a task that passes sets under [`MOST_CEILING`].
     pub const fn of(task: u32) -> Run {
+        Run::under(task, MOST_CEILING)
+    }
+
+    /// What a start of a task that passes sets under a ceiling.
+    pub const fn under(task: u32, ceiling: u32) -> Run {
         Run {
             task,
             started: 0,
             depth: 0,
+            ceiling,
         }
     }
 }
@@ -145,6 +153,7 @@ mod raw {
             table: *const u16,
             n: usize,
             task: u32,
+            ceiling: u32,
             upper: *const u8,
             u: usize,
             lower: *const u8,
@@ -209,14 +218,22 @@ pub fn table_write(table: &[u16], text: &mut [u8]) -> Reply {
     unsafe { raw::rd_table_write(table.as_ptr(), table.len(), text.as_mut_ptr(), text.len()) }
 }
 
-/// Begins a search and sets the run, or refuses and leaves it. The task may be any number.
-pub fn start(table: &[u16], task: u32, upper: &[u8], lower: &[u8], run: &mut Run) -> StartReply {
+/// Begins a search and sets the run, or refuses and leaves it. The task and the ceiling may be any numbers.
+pub fn start(
+    table: &[u16],
+    task: u32,
+    ceiling: u32,
+    upper: &[u8],
+    lower: &[u8],
+    run: &mut Run,
+) -> StartReply {
     // SAFETY: as in `table_read`; the run is a record of its own with the layout of C.
     unsafe {
         raw::rd_start(
             table.as_ptr(),
             table.len(),
             task,
+            ceiling,
             upper.as_ptr(),
             upper.len(),
             lower.as_ptr(),

@@ -23,6 +23,7 @@
 //! # Ok::<(), Box<dyn std::error::Error>>(())
 //! ```
 //!
+//! Arcs may have penalties, and [`Search::start_under`] leaves out the readings whose penalties add up to more than a ceiling.
 //! [`Table::from_words`] makes the table that cuts words into listed words; [`sheet`] lays readings out for a person to read.
 //!
 //! [`Table`] and [`Search`] own their memory; the calls of [`lending`] work on memory that the caller lends, and allocate nothing.

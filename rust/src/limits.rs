@@ -20,14 +20,18 @@ pub const FIRST_CLASS: u8 = 64;
 pub const CLASSES_AT: usize = 4;
 /// Where the initial states begin: behind the classes.
 pub const INITIALS_AT: usize = CLASSES_AT + MOST_CLASSES * CLASS_LETTERS;
-/// Cells of an arc: source, upper letter, lower letter, target.
-pub const ARC_CELLS: usize = 4;
+/// Cells of an arc: source, upper letter, lower letter, target, penalty.
+pub const ARC_CELLS: usize = 5;
+/// The highest penalty of an arc; the lowest is 0.
+pub const MOST_PENALTY: u8 = 255;
 /// Cells that hold every table.
 pub const TABLE_CELLS: usize = table_cells(MOST_STATES, MOST_STATES, MOST_ARCS);
 /// Bytes that hold the text of every table.
-pub const TEXT_BYTES: usize = 19_266;
-/// Cells of a frame: state, next arc, letters passed on the upper and on the lower side.
-pub const FRAME_CELLS: usize = 4;
+pub const TEXT_BYTES: usize = 21_314;
+/// Cells of a frame: state, next arc, letters passed on the upper and on the lower side, sum of penalties.
+pub const FRAME_CELLS: usize = 5;
+/// The highest ceiling of a search: the penalties of a path may add up to so much.
+pub const MOST_CEILING: u32 = 100_000;
 /// States of the longest cycle that is told.
 pub const CYCLE_STATES: usize = 256;
 /// The highest letter of a listed word; the lowest is 1.

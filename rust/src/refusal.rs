@@ -48,7 +48,7 @@ refusals! {
     WordFault = 10: "a word has more than 64 letters, or a letter 0 or over 63"
     TaskFault = 11: "unknown task, or a word on a side that the task does not read"
     IdleCycle = 12: "from an initial state arcs lead to a cycle of arcs that read nothing for the task, so a search could be endless"
-    LoadedTable = 20: "the loaded table breaks a rule, or is cut short"
+    LoadedTable = 20: "the loaded table breaks a rule, has a penalty over 255, or is cut short"
     Place = 21: "the run or its used frames are not a place in a search"
     StackFull = 22: "the stack is full; the same run goes on with a longer one that begins with the same used frames"
     OutputFull = 23: "the output is too short for the reading; the same run goes on with a longer one"
@@ -58,6 +58,7 @@ refusals! {
     StateLimit = 32: "with this word the list's table has over 256 states"
     SheetFault = 33: "two faces are equal or one is not 33 to 126; or there are over 1,000 readings, one is cut short, or one has a letter 0 or over 63"
     ClassFault = 34: "classes are over 7 or do not rise, a class has a letter 0 or over 63 or letters that do not rise, or an arc's class is not defined or not the same on both sides"
+    CeilingLimit = 39: "a run's ceiling is over 100,000"
 }
 
 impl Error for Refusal {}

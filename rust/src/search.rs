@@ -21,15 +21,42 @@ pub struct Search<'a> {
 }
 
 impl<'a> Search<'a> {
-    /// Begins a search.
+    /// Begins a search under the highest ceiling, [`MOST_CEILING`](limits::MOST_CEILING).
     pub fn start(
         table: &'a Table,
         task: Task,
         upper: &[u8],
         lower: &[u8],
     ) -> Result<Search<'a>, StartRefused> {
+        Search::start_under(table, task, limits::MOST_CEILING, upper, lower)
+    }
+
+    /// Begins a search under a ceiling: an arc that would lift the sum of the penalties on its path over it does not fit. So the readings
+    /// are those of the paths whose penalties add up to the ceiling at most, in the order that they have under every higher ceiling.
+    ///
+    /// ```
+    /// use readings::{Refusal, Search, Table, Task, limits::MOST_CEILING};
+    ///
+    /// // One state, initial and terminal; reading 01 writes 03 with penalty 5, 02 without one, or 04 with penalty 255.
+    /// let text = "010001000100010003\n020000\n030000\n0700000103000005\n04000001020000\n07000001040000FF\n050006\n";
+    /// let table = Table::read(text)?;
+    /// let under = |ceiling| Search::start_under(&table, Task::Synthesis, ceiling, &[1], &[]);
+    /// assert_eq!(under(MOST_CEILING)?.collect::<Vec<_>>(), [[3], [2], [4]]);
+    /// assert_eq!(under(254)?.collect::<Vec<_>>(), [[3], [2]]);
+    /// assert_eq!(under(5)?.collect::<Vec<_>>(), [[3], [2]]);
+    /// assert_eq!(under(4)?.collect::<Vec<_>>(), [[2]]);
+    /// assert_eq!(under(MOST_CEILING + 1).unwrap_err().refusal, Refusal::CeilingLimit);
+    /// # Ok::<(), Box<dyn std::error::Error>>(())
+    /// ```
+    pub fn start_under(
+        table: &'a Table,
+        task: Task,
+        ceiling: u32,
+        upper: &[u8],
+        lower: &[u8],
+    ) -> Result<Search<'a>, StartRefused> {
         let mut run = Run::default();
-        lending::start(table.cells(), task as u32, upper, lower, &mut run).done()?;
+        lending::start(table.cells(), task as u32, ceiling, upper, lower, &mut run).done()?;
         let (letters, states) = (upper.len() + lower.len(), table.states());
         let written = match task {
             Task::Recognition => 0,

@@ -11,7 +11,7 @@ pub struct Table {
 
 impl Table {
     /// The table of a text. Letters 64 to 71 on an arc stand for one letter of class 0 to 7: the arc reads it, and writes the letter that
-    /// it read.
+    /// it read. An arc may have a penalty; [`Search::start_under`] says what a ceiling makes of it.
     ///
     /// ```
     /// use readings::Table;
@@ -84,7 +84,7 @@ impl Table {
     }
 
     /// The counts of states, initial states, terminal states and arcs; the eight classes, each as 16 cells, its letters and then zeros; the
-    /// initial states, the terminal states; and for each arc its source, upper letter, lower letter and target.
+    /// initial states, the terminal states; and for each arc its source, upper letter, lower letter, target and penalty.
     pub fn cells(&self) -> &[u16] {
         &self.cells
     }

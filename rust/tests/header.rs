@@ -119,6 +119,8 @@ fn limits_and_sizes() {
         ("RD_INITIALS_AT", limits::INITIALS_AT),
         ("RD_INITIALS_AT", 4 + 8 * 16),
         ("RD_ARC_CELLS", limits::ARC_CELLS),
+        ("RD_MOST_PENALTY", limits::MOST_PENALTY.into()),
+        ("RD_MOST_CEILING", limits::MOST_CEILING as usize),
         ("RD_TABLE_CELLS", limits::TABLE_CELLS),
         ("RD_TEXT_BYTES", limits::TEXT_BYTES),
         ("RD_FRAME_CELLS", limits::FRAME_CELLS),
@@ -149,7 +151,7 @@ fn limits_of_a_word_list() {
         ("RD_CUT", usize::from(limits::MOST_LISTED_LETTER) + 1),
         ("RD_CUT", limits::MOST_LETTER.into()),
         ("RD_TREE_CELLS", limits::TREE_CELLS),
-        ("RD_TREE_CELLS", 132 + 1 + ends + 4 * (ends + ends)),
+        ("RD_TREE_CELLS", 132 + 1 + ends + 5 * (ends + ends)),
     ];
     check("list.c", &named(&limits)).unwrap();
 }
@@ -202,6 +204,7 @@ fn layouts() {
         ("offsetof(rd_run, task)", offset_of!(Run, task)),
         ("offsetof(rd_run, started)", offset_of!(Run, started)),
         ("offsetof(rd_run, depth)", offset_of!(Run, depth)),
+        ("offsetof(rd_run, ceiling)", offset_of!(Run, ceiling)),
         ("sizeof(RD_NO_LETTERS)", size_of::<*const u8>()),
     ];
     check("layouts.c", &named(&layouts)).unwrap();
@@ -215,8 +218,8 @@ fn calls() {
         "rd_answer (*r)(const uint8_t *, size_t, uint16_t *, size_t) = rd_table_read;
          rd_answer (*l)(const uint8_t *, size_t, uint16_t *, size_t) = rd_words_read;
          {table_write} = rd_table_write;
-         rd_started (*s)(const uint16_t *, size_t, uint32_t, const uint8_t *, size_t, const uint8_t *, size_t,
-                         rd_run *) = rd_start;
+         rd_started (*s)(const uint16_t *, size_t, uint32_t, uint32_t, const uint8_t *, size_t, const uint8_t *,
+                         size_t, rd_run *) = rd_start;
          rd_answer (*n)(const uint16_t *, size_t, const uint8_t *, size_t, const uint8_t *, size_t, rd_run *,
                         uint32_t *, size_t, uint32_t, uint8_t *, size_t) = rd_next;
          rd_answer (*a)(const uint8_t *, size_t, const uint8_t *, uint32_t, uint8_t *, size_t) = rd_sheet_write;\n"

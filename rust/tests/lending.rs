@@ -12,7 +12,7 @@ fn chain(states: u16) -> Vec<u16> {
     for state in 0..states {
         let last = state + 1 == states;
         let (letter, target) = if last { (1, 0) } else { (0, state + 1) };
-        cells.extend([state, letter, 1, target]);
+        cells.extend([state, letter, 1, target, 0]);
     }
     cells
 }
@@ -20,7 +20,7 @@ fn chain(states: u16) -> Vec<u16> {
 /// A start for synthesis, and its first call on so many frames and letters.
 fn first_call(table: &[u16], word: &[u8], frames: usize, letters: usize) -> (Answer, Run) {
     let mut run = Run::default();
-    let started = lending::start(table, SYNTHESIS, word, &[], &mut run);
+    let started = lending::start(table, SYNTHESIS, limits::MOST_CEILING, word, &[], &mut run);
     started.done().expect("a search");
     let mut stack = vec![0; limits::FRAME_CELLS * frames];
     let mut output = vec![0; letters];
@@ -67,7 +67,14 @@ fn what_is_enough_is_needed() {
 fn a_refused_search_goes_on_with_more() {
     let (table, word) = (chain(4), [1, 1]);
     let mut run = Run::default();
-    let started = lending::start(&table, SYNTHESIS, &word, &[], &mut run);
+    let started = lending::start(
+        &table,
+        SYNTHESIS,
+        limits::MOST_CEILING,
+        &word,
+        &[],
+        &mut run,
+    );
     started.done().expect("a search");
     let (mut stack, mut output) = (vec![0; limits::FRAME_CELLS], vec![]);
     let mut refused = Vec::new();
@@ -97,8 +104,25 @@ fn a_refused_search_goes_on_with_more() {
 fn any_number_may_be_given_as_task() {
     for task in [0, 4, 1 << 8 | 2, u32::MAX] {
         let mut run = Run::of(77);
-        let reply = lending::start(&chain(2), task, &[], &[], &mut run);
+        let reply = lending::start(&chain(2), task, 0, &[], &[], &mut run);
         assert_eq!(reply.done().unwrap_err().refusal, Refusal::TaskFault);
+        assert_eq!(run, Run::of(77));
+    }
+}
+
+/// A ceiling up to 100,000 is set; one over it is refused, and leaves the lent run as it was.
+#[test]
+fn any_number_may_be_given_as_ceiling() {
+    for ceiling in [0, 1, 65_536, 99_999, 100_000] {
+        let mut run = Run::of(77);
+        let reply = lending::start(&chain(2), SYNTHESIS, ceiling, &[], &[], &mut run);
+        assert_eq!(reply.done(), Ok(()));
+        assert_eq!(run, Run::under(SYNTHESIS, ceiling));
+    }
+    for ceiling in [100_001, 131_072, 1 << 31, u32::MAX] {
+        let mut run = Run::of(77);
+        let reply = lending::start(&chain(2), SYNTHESIS, ceiling, &[], &[], &mut run);
+        assert_eq!(reply.done().unwrap_err().refusal, Refusal::CeilingLimit);
         assert_eq!(run, Run::of(77));
     }
 }

@@ -67,7 +67,11 @@ fn a_start_tells_why_it_is_refused() {
     let high = refused(&k, Task::Synthesis, &[limits::MOST_LETTER + 1], &[]);
     assert_eq!(high, (Refusal::WordFault, vec![]));
     // States 1, which is initial, and 2 lead to each other and read nothing above.
-    let cells = [&[3, 1, 0, 2], &NO_CLASSES[..], &[1, 1, 0, 5, 2, 2, 0, 0, 1]];
+    let cells = [
+        &[3, 1, 0, 2],
+        &NO_CLASSES[..],
+        &[1, 1, 0, 5, 2, 0, 2, 0, 0, 1, 0],
+    ];
     let table = Table::from_cells(&cells.concat()).unwrap();
     let round = refused(&table, Task::Synthesis, &[], &[]);
     assert_eq!(round, (Refusal::IdleCycle, vec![1, 2]));
@@ -82,10 +86,10 @@ fn the_order_of_arcs_does_not_decide_which_cycle_is_shown() {
             [3, 1, 0, 4].as_slice(),
             &NO_CLASSES,
             &[0],
-            &[0, 0, 5, one],
-            &[0, 0, 5, other],
-            &[1, 0, 0, 0],
-            &[2, 0, 0, 0],
+            &[0, 0, 5, one, 0],
+            &[0, 0, 5, other, 0],
+            &[1, 0, 0, 0, 0],
+            &[2, 0, 0, 0, 0],
         ];
         let table = Table::from_cells(&cells.concat()).unwrap();
         assert_eq!(table.synthesis(&[]).unwrap_err().cycle, [0, 1]);
@@ -120,7 +124,7 @@ fn classes_are_read_and_written() {
     for class in [0, 2, 3, 4, 5, 6] {
         assert_eq!(row(class), [0; 16]);
     }
-    assert_eq!(table.cells()[134..], [0, 65, 65, 0, 0, 71, 71, 0]);
+    assert_eq!(table.cells()[134..], [0, 65, 65, 0, 0, 0, 71, 71, 0, 0]);
     assert_eq!(Table::from_cells(table.cells()).as_ref(), Ok(&table));
     let word = [3, 63, 2, 1];
     assert_eq!(all(table.synthesis(&word).unwrap()), [word]);
@@ -130,6 +134,32 @@ fn classes_are_read_and_written() {
         table.synthesis(&[65]).unwrap_err().refusal,
         Refusal::WordFault
     );
+}
+
+/// Table K, where the arcs that write 03 have penalties 7 and 255.
+#[test]
+fn penalties_are_read_and_written() {
+    let text = K
+        .replace("04000100030000", "0700010003000007")
+        .replace("04000200030000", "07000200030000FF");
+    let table = Table::read(&text).unwrap();
+    assert_eq!(table.text(), text);
+    let arcs = &table.cells()[135..];
+    let penalties: Vec<u16> = arcs.iter().skip(4).step_by(5).copied().collect();
+    assert_eq!(penalties, [0, 0, 0, 7, 255]);
+    let under = |ceiling| Search::start_under(&table, Task::Synthesis, ceiling, &[1, 2], &[]);
+    assert_eq!(all(under(6).unwrap()), [[1, 2]]);
+    assert_eq!(all(under(7).unwrap()), [vec![1, 2], vec![1, 3, 2]]);
+    assert_eq!(all(table.analysis(&[1, 3, 2]).unwrap()), [[1, 2]]);
+    let over = under(limits::MOST_CEILING + 1).unwrap_err();
+    assert_eq!((over.refusal, over.cycle), (Refusal::CeilingLimit, vec![]));
+    assert_eq!(
+        Table::read(text.replace("03000007", "03000000")),
+        Err(Refusal::Misplaced)
+    );
+    let mut cells = table.cells().to_vec();
+    *cells.last_mut().unwrap() = 256;
+    assert_eq!(Table::from_cells(&cells), Err(Refusal::LoadedTable));
 }
 
 #[test]
@@ -165,7 +195,7 @@ fn a_text_is_refused_by_name() {
 #[test]
 fn refusals_have_numbers_and_meanings() {
     let numbers: Vec<u32> = Refusal::ALL.iter().map(|r| *r as u32).collect();
-    let expected: Vec<u32> = (1..=12).chain(20..=24).chain(30..=34).collect();
+    let expected: Vec<u32> = (1..=12).chain(20..=24).chain(30..=34).chain([39]).collect();
     assert_eq!(numbers, expected);
     for number in 0..100 {
         let named = Refusal::of(number).map(|refusal| refusal as u32);

@@ -32,7 +32,7 @@ sizes = (small-count, capital-count)
 pub code-points-differ : Differ (smalls ++ capitals)
 unfolding smalls capitals each
 code-points-differ =
-    each-differ eqb (λ before x. not (any (λ y. eqb y x) before)) (λ x. eq-eqb x x refl) (λ before x e. not-true _ e) (smalls ++ capitals) refl
+    each-differ (λ x. x) eqb (λ before x. not (any (λ y. eqb y x) before)) eq-eqb (λ before x e. not-true _ e) (smalls ++ capitals) refl
 
 -- The code points of a letter, small and capital, are its own,
 pub letter-of-small : (l : ℕ) → 1 ≤ l → l ≤ 61 → letterOf (smallOf l) ≡ l

@@ -9,6 +9,7 @@ use Rattle.table_format.proofs.Rules.{keeps-parts, table-bounded}
 use Rattle.table_format.proofs.Loaded.{length-cells, cells-loaded}
 use Rattle.table_format.proofs.Text.{classes-size, length-text}
 use Rattle.table_format.proofs.Determine.{read-text}
+use Rattle.table_printer.proofs.Lines.{arcs-most}
 use Rattle.table.proofs.Calls.{read-done, write-done}
 use Rattle.trie.specs.Calls.{buildAnswer}
 use Rattle.lexicon.proofs.Headlines.{taken}
@@ -27,7 +28,7 @@ write-small cells destination n e =
     let s = write-done cells destination n e in
     let keeps = cells-loaded cells (s .0) (s .1) .0 in
     let b = table-bounded (s .0) keeps in
-    omega (arith, s .2 .size, length-text (s .0), classes-size (s .0) keeps, b .states, b .initials, b .terminals, b .arcs)
+    omega (arith, s .2 .size, length-text (s .0), classes-size (s .0) keeps, arcs-most (s .0 .arcs), b .states, b .initials, b .terminals, b .arcs)
 
 pub build-small : (words destination : List ℕ) (n : ℕ) → buildAnswer words destination ≡ Done n → n < 2 ^ 32
 build-small words destination n e =

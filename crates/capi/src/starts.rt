@@ -35,10 +35,10 @@ fn start_reply(s: Started) -> StartReply
 }
 
 // The start with the run by value.
-fn begin(table: &[u16], task: u32, upper: &[u8], lower: &[u8], run: Run) -> Begun
-    ensures { λ r. ⌜ ReplyIs (started (now (table .entry)) task (now (upper .entry)) (now (lower .entry))) run (r .reply) (r .run) ⌝ }
+fn begin(table: &[u16], task: u32, ceiling: u32, upper: &[u8], lower: &[u8], run: Run) -> Begun
+    ensures { λ r. ⌜ ReplyIs (started (now (table .entry)) task (now (upper .entry)) (now (lower .entry)) ceiling) run (r .reply) (r .run) ⌝ }
 {
-    let s = start(table, task, upper, lower);
+    let s = start(table, task, upper, lower, ceiling);
     let answer = s.answer;
     let left = start_run(answer, s.run, run);
     let reply = start_reply(s);
@@ -50,13 +50,14 @@ fn begin(table: &[u16], task: u32, upper: &[u8], lower: &[u8], run: Run) -> Begu
 pub extern "C" fn rd_start(
     table: &[u16],
     task: u32,
+    ceiling: u32,
     upper: &[u8],
     lower: &[u8],
     run: &mut Run,
 ) -> StartReply
-    ensures { λ r. ⌜ ReplyIs (started (now (table .entry)) task (now (upper .entry)) (now (lower .entry))) (now (run .entry)) r (now (run .exit)) ⌝ }
+    ensures { λ r. ⌜ ReplyIs (started (now (table .entry)) task (now (upper .entry)) (now (lower .entry)) ceiling) (now (run .entry)) r (now (run .exit)) ⌝ }
 {
-    let b = begin(table, task, upper, lower, *run);
+    let b = begin(table, task, ceiling, upper, lower, *run);
     *run = b.run;
     b.reply
 }

@@ -8,7 +8,7 @@ use cases_script::numbers;
 use cases_script::show;
 
 // Cells that hold every table, and some more; numbers of a case.
-const TABLE_CELLS: usize = 4800;
+const TABLE_CELLS: usize = 5824;
 
 // What a case does by its sign, with its line from the colon on and the numbers of it, on the cells of the table.
 fn act(sign: u8, line: &[u8], list: &[u32], cells: &mut [u16]) {

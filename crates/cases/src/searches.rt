@@ -133,6 +133,9 @@ fn is_kept(first: Run, last: Run, stack: &[u32], list: &[u32], from: usize) -> b
     if first.depth != last.depth {
         return false;
     }
+    if first.ceiling != last.ceiling {
+        return false;
+    }
     is_filled(stack, list, from)
 }
 
@@ -156,6 +159,7 @@ fn begun(sign: u8, list: &[u32], rest: usize, first: Run) -> Run {
         task: numbers::at(list, 1, 0),
         started: numbers::at(list, rest, 3),
         depth: numbers::at(list, rest, 4),
+        ceiling: machine::MOST_CEILING,
     }
 }
 
@@ -187,7 +191,8 @@ fn search(
     upper: &[u8],
     lower: &[u8],
 ) {
-    let begin = engine_start::start(table, numbers::at(list, 1, 0), upper, lower);
+    let task = numbers::at(list, 1, 0);
+    let begin = engine_start::start(table, task, upper, lower, machine::MOST_CEILING);
     if sign == b'?' {
         answers::started(begin);
     } else {

@@ -1,4 +1,4 @@
--- Laws of the refusals 20, 11 and 10: letters by their places, the sides that a task's number reads, and each refusal in its turn.
+-- Laws of the refusals 20, 11, 10 and 39: letters by their places, the sides that a task's number reads, and each refusal in its turn.
 use Prim.Native.Nat.{ℕ, zero, suc, _<_, _≤_}
 use native.Mathlib.Omega.{arith}
 use mathlib.Core.Path.{_≡_, refl, sym, ap, subst, _∙_}
@@ -11,15 +11,15 @@ use lib.ListN.{length, getD, take}
 use borrow.Author.Tests.{eqb-true, ne-eqb, le-leb, lt-leb}
 use Rattle.refusal.specs.declared.Refusal.{Refusal}
 use Rattle.refusal.specs.declared.Refusal.the-variants.{Input, State}
-use Rattle.refusal.specs.declared.InputCause.the-variants.{WordFault, TaskFault}
+use Rattle.refusal.specs.declared.InputCause.the-variants.{WordFault, TaskFault, CeilingLimit}
 use Rattle.refusal.specs.declared.StateCause.the-variants.{LoadedTable}
 use Rattle.table_format.specs.Table.{Table}
 use Rattle.table_format.specs.Rules.{isEmpty}
 use Rattle.table_format.specs.Loaded.{tableIn, loaded}
 use Rattle.table_check.specs.Check.{checked}
 use Rattle.table_check.proofs.Passing.{passed, failed}
-use Rattle.machine.specs.Query.{Task, recognition, synthesis, analysis, Side, upperSide, lowerSide, taskOf, reads, Query, lettersWithin, wordHolds, sidesHold, wordsHold}
-use Rattle.machine.specs.Asked.{Asked, turned, runs, askedWords, askedTask, askedTable, asked}
+use Rattle.machine.specs.Query.{Task, recognition, synthesis, analysis, Side, upperSide, lowerSide, taskOf, reads, Query, lettersWithin, wordHolds, sidesHold, wordsHold, mostCeiling, ceilingHolds}
+use Rattle.machine.specs.Asked.{Asked, turned, runs, askedCeiling, askedWords, askedTask, askedTable, asked}
 use Rattle.engine_admission.specs.declared.Admission.{Admission}
 use Rattle.engine_admission.specs.declared.Admission.the-variants.{Passes, Refused}
 use Rattle.engine_admission.specs.Admission.{taskReads, readsAt, admissionOf}
@@ -112,35 +112,35 @@ reads-own n s h =
 
 -- Each refusal in its turn, where ok is what the table check says.
 
-module _ (task : ℕ) (upper lower cells : List ℕ) (ok : Bool) (e : ok ≡ checked cells .ok) where
+module _ (task : ℕ) (upper lower : List ℕ) (ceiling : ℕ) (cells : List ℕ) (ok : Bool) (e : ok ≡ checked cells .ok) where
   abbrev queryOf : Task → Query
-  queryOf k = record { task = k; upperWord = upper; lowerWord = lower }
+  queryOf k = record { task = k; upperWord = upper; lowerWord = lower; ceiling = ceiling }
 
-  pub asking-table : ok ≡ false → Refused (State LoadedTable) ≡ admissionOf (asked cells task upper lower)
+  pub asking-table : ok ≡ false → Refused (State LoadedTable) ≡ admissionOf (asked cells task upper lower ceiling)
   unfolding asked
-  asking-table o = ap (λ (x : Option Table). admissionOf (askedTable x task upper lower)) (sym (failed cells (checked cells) refl (sym e ∙ o)))
+  asking-table o = ap (λ (x : Option Table). admissionOf (askedTable x task upper lower ceiling)) (sym (failed cells (checked cells) refl (sym e ∙ o)))
 
-  by-task : ok ≡ true → asked cells task upper lower ≡ askedTask (tableIn cells) (taskOf task) upper lower
+  by-task : ok ≡ true → asked cells task upper lower ceiling ≡ askedTask (tableIn cells) (taskOf task) upper lower ceiling
   unfolding asked
-  by-task o = ap (λ (x : Option Table). askedTable x task upper lower) (passed cells (checked cells) refl (sym e ∙ o))
+  by-task o = ap (λ (x : Option Table). askedTable x task upper lower ceiling) (passed cells (checked cells) refl (sym e ∙ o))
 
-  pub asking-task : ok ≡ true → taskOf task ≡ none → Refused (Input TaskFault) ≡ admissionOf (asked cells task upper lower)
-  asking-task o n = ap admissionOf (sym (by-task o ∙ ap (λ (x : Option Task). askedTask (tableIn cells) x upper lower) n))
+  pub asking-task : ok ≡ true → taskOf task ≡ none → Refused (Input TaskFault) ≡ admissionOf (asked cells task upper lower ceiling)
+  asking-task o n = ap admissionOf (sym (by-task o ∙ ap (λ (x : Option Task). askedTask (tableIn cells) x upper lower ceiling) n))
 
   module _ (o : ok ≡ true) (low : 1 ≤ task) (high : task ≤ 3) where
-    by-words : (a : Admission) → ((k : Task) → taskOf task ≡ some k → admissionOf (askedWords (tableIn cells) (queryOf k)) ≡ a) → a ≡ admissionOf (asked cells task upper lower)
+    by-words : (a : Admission) → ((k : Task) → taskOf task ≡ some k → admissionOf (askedWords (tableIn cells) (queryOf k)) ≡ a) → a ≡ admissionOf (asked cells task upper lower ceiling)
     by-words a f =
         let K = task-there task low high in
-        sym (ap admissionOf (by-task o ∙ ap (λ (x : Option Task). askedTask (tableIn cells) x upper lower) (K .1)) ∙ f (K .0) (K .1))
+        sym (ap admissionOf (by-task o ∙ ap (λ (x : Option Task). askedTask (tableIn cells) x upper lower ceiling) (K .1)) ∙ f (K .0) (K .1))
 
     sides-not : (k : Task) → sidesHold (queryOf k) ≡ false → admissionOf (askedWords (tableIn cells) (queryOf k)) ≡ Refused (Input TaskFault)
-    sides-not k h = ap (λ (b : Bool). admissionOf (cond b (cond (wordsHold (queryOf k)) (runs (tableIn cells) (queryOf k)) (turned (Input WordFault))) (turned (Input TaskFault)))) h
+    sides-not k h = ap (λ (b : Bool). admissionOf (cond b (cond (wordsHold (queryOf k)) (askedCeiling (tableIn cells) (queryOf k)) (turned (Input WordFault))) (turned (Input TaskFault)))) h
 
     module _ (u l : Bool) (U : u ≡ readsAt task upperSide) (s : Bool) (S : s ≡ (u || isEmpty upper)) where
       upper-holds : (k : Task) → taskOf task ≡ some k → s ≡ (reads k upperSide || isEmpty upper)
       upper-holds k t = S ∙ ap (λ (b : Bool). b || isEmpty upper) (U ∙ reads-of task k t upperSide)
 
-      pub asking-upper : s ≡ false → Refused (Input TaskFault) ≡ admissionOf (asked cells task upper lower)
+      pub asking-upper : s ≡ false → Refused (Input TaskFault) ≡ admissionOf (asked cells task upper lower ceiling)
       asking-upper n = by-words _ (λ k t. sides-not k (ap (λ (b : Bool). b && (reads k lowerSide || isEmpty lower)) (sym (upper-holds k t) ∙ n)))
 
       module _ (y : s ≡ true) (L : l ≡ readsAt task lowerSide) (r : Bool) (R : r ≡ (l || isEmpty lower)) where
@@ -148,23 +148,26 @@ module _ (task : ℕ) (upper lower cells : List ℕ) (ok : Bool) (e : ok ≡ che
         sides-are k t =
             ap (λ (b : Bool). b && (reads k lowerSide || isEmpty lower)) (sym (upper-holds k t) ∙ y) ∙ ap (λ (b : Bool). b || isEmpty lower) (sym (L ∙ reads-of task k t lowerSide)) ∙ sym R
 
-        pub asking-lower : r ≡ false → Refused (Input TaskFault) ≡ admissionOf (asked cells task upper lower)
+        pub asking-lower : r ≡ false → Refused (Input TaskFault) ≡ admissionOf (asked cells task upper lower ceiling)
         asking-lower n = by-words _ (λ k t. sides-not k (sides-are k t ∙ n))
 
-        -- by what the words are
-        abbrev worded : Bool → Admission
-        worded true = Passes
-        worded false = Refused (Input WordFault)
+        -- by whether the words hold, then the ceiling
+        abbrev worded : Bool → Bool → Admission
+        worded true true = Passes
+        worded true false = Refused (Input CeilingLimit)
+        worded false d = Refused (Input WordFault)
 
-        pub asking-words : r ≡ true → (b : Bool) → (wordHolds upper && wordHolds lower) ≡ b → worded b ≡ admissionOf (asked cells task upper lower)
-        asking-words z b w =
-            by-words (worded b)
-            (λ k t. ap (λ (x : Bool). admissionOf (cond x (cond (wordHolds upper && wordHolds lower) (runs (tableIn cells) (queryOf k)) (turned (Input WordFault))) (turned (Input TaskFault)))) (sides-are k t ∙ z)
-            ∙ ap (λ (x : Bool). admissionOf (cond x (runs (tableIn cells) (queryOf k)) (turned (Input WordFault)))) w ∙ last k b)
+        pub asking-words : r ≡ true → (b : Bool) → (wordHolds upper && wordHolds lower) ≡ b → (d : Bool) → leb ceiling mostCeiling ≡ d → worded b d ≡ admissionOf (asked cells task upper lower ceiling)
+        asking-words z b w d v =
+            by-words (worded b d)
+            (λ k t. ap (λ (x : Bool). admissionOf (cond x (cond (wordHolds upper && wordHolds lower) (askedCeiling (tableIn cells) (queryOf k)) (turned (Input WordFault))) (turned (Input TaskFault)))) (sides-are k t ∙ z)
+            ∙ ap (λ (x : Bool). admissionOf (cond x (askedCeiling (tableIn cells) (queryOf k)) (turned (Input WordFault)))) w
+            ∙ ap (λ (x : Bool). admissionOf (cond b (cond x (runs (tableIn cells) (queryOf k)) (turned (Input CeilingLimit))) (turned (Input WordFault)))) v ∙ last k b d)
           where
-            last : (k : Task) (x : Bool) → admissionOf (cond x (runs (tableIn cells) (queryOf k)) (turned (Input WordFault))) ≡ worded x
-            last k true = refl
-            last k false = refl
+            last : (k : Task) (x y : Bool) → admissionOf (cond x (cond y (runs (tableIn cells) (queryOf k)) (turned (Input CeilingLimit))) (turned (Input WordFault))) ≡ worded x y
+            last k true true = refl
+            last k true false = refl
+            last k false y = refl
 
 -- What the caller learns.
 
@@ -173,34 +176,38 @@ asking-turned (turned s) r e = let z : s ≡ r = cc in ap turned z
 asking-turned (runs t q) r e = absurd (let z : _≡_ {A = ℕ} 0 1 = cc in omega arith)
 
 -- a search that may run: its table is the one that the cells hold
-pub record Asks (cells : List ℕ) (task : ℕ) (upper lower : List ℕ) : Type 0 where
+pub record Asks (cells : List ℕ) (task : ℕ) (upper lower : List ℕ) (ceiling : ℕ) : Type 0 where
   pub asks : Task
   pub task-is : taskOf task ≡ some asks
   pub loads : loaded cells ≡ some (tableIn cells)
-  pub runs-is : asked cells task upper lower ≡ runs (tableIn cells) (record { task = asks; upperWord = upper; lowerWord = lower })
+  pub runs-is : asked cells task upper lower ceiling ≡ runs (tableIn cells) (record { task = asks; upperWord = upper; lowerWord = lower; ceiling = ceiling })
 
 passes-refused : (r : Refusal) → Passes ≡ Refused r → ⊥
 passes-refused r e = let z : _≡_ {A = ℕ} 0 1 = cc in omega arith
 
-pub asking-passes : (task : ℕ) (upper lower cells : List ℕ) (ok : Bool) → ok ≡ checked cells .ok → Passes ≡ admissionOf (asked cells task upper lower) → Asks cells task upper lower
-asking-passes task upper lower cells ok e p = by-table ok refl
+pub asking-passes : (task : ℕ) (upper lower : List ℕ) (ceiling : ℕ) (cells : List ℕ) (ok : Bool) → ok ≡ checked cells .ok → Passes ≡ admissionOf (asked cells task upper lower ceiling) → Asks cells task upper lower ceiling
+asking-passes task upper lower ceiling cells ok e p = by-table ok refl
   where
-    by-words : (k : Task) → (a b : Bool) → cond a (cond b (runs (tableIn cells) (queryOf task upper lower cells ok e k)) (turned (Input WordFault))) (turned (Input TaskFault)) ≡ asked cells task upper lower
-        → runs (tableIn cells) (queryOf task upper lower cells ok e k) ≡ asked cells task upper lower
-    by-words k true true w = w
-    by-words k true false w = absurd (passes-refused (Input WordFault) (p ∙ ap admissionOf (sym w)))
-    by-words k false b w = absurd (passes-refused (Input TaskFault) (p ∙ ap admissionOf (sym w)))
+    query : Task → Query
+    query k = queryOf task upper lower ceiling cells ok e k
 
-    by-number : ok ≡ true → (o : Option Task) → taskOf task ≡ o → Asks cells task upper lower
-    by-number z none w = absurd (passes-refused (Input TaskFault) (p ∙ sym (asking-task task upper lower cells ok e z w)))
+    by-words : (k : Task) → (a b d : Bool) → cond a (cond b (cond d (runs (tableIn cells) (query k)) (turned (Input CeilingLimit))) (turned (Input WordFault))) (turned (Input TaskFault)) ≡ asked cells task upper lower ceiling
+        → runs (tableIn cells) (query k) ≡ asked cells task upper lower ceiling
+    by-words k true true true w = w
+    by-words k true true false w = absurd (passes-refused (Input CeilingLimit) (p ∙ ap admissionOf (sym w)))
+    by-words k true false d w = absurd (passes-refused (Input WordFault) (p ∙ ap admissionOf (sym w)))
+    by-words k false b d w = absurd (passes-refused (Input TaskFault) (p ∙ ap admissionOf (sym w)))
+
+    by-number : ok ≡ true → (o : Option Task) → taskOf task ≡ o → Asks cells task upper lower ceiling
+    by-number z none w = absurd (passes-refused (Input TaskFault) (p ∙ sym (asking-task task upper lower ceiling cells ok e z w)))
     by-number z (some k) w =
         record {
           asks = k;
           task-is = w;
           loads = passed cells (checked cells) refl (sym e ∙ z);
-          runs-is = sym (by-words k (sidesHold (queryOf task upper lower cells ok e k)) (wordsHold (queryOf task upper lower cells ok e k)) (sym (by-task task upper lower cells ok e z ∙ ap (λ (x : Option Task). askedTask (tableIn cells) x upper lower) w)));
+          runs-is = sym (by-words k (sidesHold (query k)) (wordsHold (query k)) (ceilingHolds (query k)) (sym (by-task task upper lower ceiling cells ok e z ∙ ap (λ (x : Option Task). askedTask (tableIn cells) x upper lower ceiling) w)));
         }
 
-    by-table : (b : Bool) → ok ≡ b → Asks cells task upper lower
+    by-table : (b : Bool) → ok ≡ b → Asks cells task upper lower ceiling
     by-table true z = by-number z (taskOf task) refl
-    by-table false z = absurd (passes-refused (State LoadedTable) (p ∙ sym (asking-table task upper lower cells ok e z)))
+    by-table false z = absurd (passes-refused (State LoadedTable) (p ∙ sym (asking-table task upper lower ceiling cells ok e z)))

@@ -1,5 +1,5 @@
--- The sides that a task's number reads, and what `asked` of the code answers: whether a search may run, or the first of the refusals 20, 11
--- and 10.
+-- The sides that a task's number reads, and what `asked` of the code answers: whether a search may run, or the first of the refusals 20, 11,
+-- 10 and 39.
 use Prim.Native.Nat.{ℕ}
 use mathlib.Core.Bool.{Bool, false}
 use mathlib.Core.Option.{Option, none, some}

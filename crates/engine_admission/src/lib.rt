@@ -1,4 +1,4 @@
-// Refusals 20, 11 and 10, which a start and a call look for in this order; and the sides that a task reads.
+// Refusals 20, 11, 10 and 39, which a start and a call look for in this order; and the sides that a task reads.
 use refusal::InputCause;
 use refusal::Refusal;
 use refusal::StateCause;
@@ -69,9 +69,9 @@ fn side_holds(read: bool, w: &[u8]) -> bool
     w.len() == 0
 }
 
-// 20, 11 and 10, where `ok` is what the table check says.
-pub fn asked(ok: bool, task: u32, upper: &[u8], lower: &[u8]) -> Admission
-    ensures { λ r. ⌜ ((cells : List ℕ) → ok ≡ checked cells .ok → r ≡ admissionOf (asked cells task (now (upper .entry)) (now (lower .entry)))) ⌝ }
+// 20, 11, 10 and 39, where `ok` is what the table check says.
+pub fn asked(ok: bool, task: u32, upper: &[u8], lower: &[u8], ceiling: u32) -> Admission
+    ensures { λ r. ⌜ ((cells : List ℕ) → ok ≡ checked cells .ok → r ≡ admissionOf (asked cells task (now (upper .entry)) (now (lower .entry)) ceiling)) ⌝ }
 {
     if !ok {
         return Admission::Refused(Refusal::State(StateCause::LoadedTable));
@@ -93,6 +93,9 @@ pub fn asked(ok: bool, task: u32, upper: &[u8], lower: &[u8]) -> Admission
     }
     if !word_holds(lower) {
         return Admission::Refused(Refusal::Input(InputCause::WordFault));
+    }
+    if machine::MOST_CEILING < ceiling {
+        return Admission::Refused(Refusal::Input(InputCause::CeilingLimit));
     }
     Admission::Passes
 }

@@ -41,8 +41,8 @@ module _ (s : Setup) (classes : List (List ℕ)) (initials terminals arcs upper 
   call-by b e = ap (λ (x : Bool). entered M store x n (length buffer) h) (sym e ∙ same-place)
 
   pub place-refused : placed ≡ false → (r : Called) → r ≡ calledWith (Refused 0 (State Place)) run
-      → SearchIs (run .task) buffer (call M store n (length buffer) h) r stack buffer
-  place-refused e r k = subst (λ (x : Replied (List ℕ)). SearchIs (run .task) buffer x r stack buffer) (call-by false e) (k, refl, refl)
+      → SearchIs run buffer (call M store n (length buffer) h) r stack buffer
+  place-refused e r k = subst (λ (x : Replied (List ℕ)). SearchIs run buffer x r stack buffer) (call-by false e) (k, refl, refl)
 
   module _ (e : placed ≡ true) where
     pub place-good : Good M store (roomIn stack) h
@@ -50,6 +50,6 @@ module _ (s : Setup) (classes : List (List ℕ)) (initials terminals arcs upper 
         let W = place-placed M (same-is (tableBy s classes initials terminals arcs) (queryBy s upper lower)) store h (sym same-place ∙ e) in
         record { placed = W .1; deep = W .0; room = refl }
 
-    pub place-searched : (r : Called) (c o : List ℕ) → SearchIs (run .task) buffer (advance M store (length buffer) n h) r c o
-        → SearchIs (run .task) buffer (call M store n (length buffer) h) r c o
-    place-searched r c o S = subst (λ (x : Replied (List ℕ)). SearchIs (run .task) buffer x r c o) (call-by true e) S
+    pub place-searched : (r : Called) (c o : List ℕ) → SearchIs run buffer (advance M store (length buffer) n h) r c o
+        → SearchIs run buffer (call M store n (length buffer) h) r c o
+    place-searched r c o S = subst (λ (x : Replied (List ℕ)). SearchIs run buffer x r c o) (call-by true e) S

@@ -1,4 +1,4 @@
--- A call that 20, 11 and 10 let pass: the parts of the loaded table and the flags of the task are the machine's.
+-- A call that 20, 11, 10 and 39 let pass: the parts of the loaded table and the flags of the task are the machine's.
 use Prim.Native.Nat.{ℕ, zero, suc, _-_, _≤_, _<_}
 use native.Mathlib.Omega.{arith}
 use mathlib.Core.Path.{_≡_, refl, sym, ap, ap₂, subst, _∙_}
@@ -23,7 +23,7 @@ use Rattle.machine.specs.declared.Run.{Run}
 use Rattle.machine.specs.declared.Called.{Called}
 use Rattle.machine.specs.declared.Answer.the-variants.{Refused}
 use Rattle.table_format.proofs.Tests.{and-left, and-right}
-use Rattle.machine.specs.Query.{Task, recognition, synthesis, analysis, upperSide, lowerSide, reads, Query, lettersWithin, wordHolds, wordsHold}
+use Rattle.machine.specs.Query.{Task, recognition, synthesis, analysis, upperSide, lowerSide, reads, Query, lettersWithin, wordHolds, mostCeiling}
 use Rattle.machine.specs.Machine.{Machine}
 use Rattle.machine.specs.Frames.{placeHolds}
 use Rattle.machine.specs.Call.{advance, call}
@@ -33,7 +33,7 @@ use Rattle.machine.specs.Stack.{roomIn, store}
 use Rattle.machine.specs.Answer.{told}
 use Rattle.machine.specs.Asked.{Asked, turned, asked}
 use Rattle.machine.specs.Reading.{Outcome, heldOf, outcomeAs, outcomeOf, outcome, OutcomeIs}
-use Rattle.machine.proofs.Asked.{asked-facts}
+use Rattle.machine.proofs.Asked.{AskedFacts, asked-facts}
 use Rattle.machine.proofs.Reading.{called-outcome}
 use Rattle.engine_frames.specs.declared.Setup.{Setup}
 use Rattle.engine_step.specs.Setting.{taskBy, queryBy, tableBy, machineBy, Prepared}
@@ -43,8 +43,8 @@ use Rattle.engine_admission.proofs.Words.{Asks, reads-of}
 use Rattle.engine_advance.specs.Admitted.{Admitted}
 use Rattle.engine_advance.proofs.Placed.{place-refused, place-good, place-searched}
 
--- 20, 11 and 10 leave all as it was
-pub turned-outcome : (cells upper lower : List ℕ) (run : Run) (stack : List ℕ) (n : ℕ) (buffer : List ℕ) (r : Refusal) → asked cells (run .task) upper lower ≡ turned r
+-- 20, 11, 10 and 39 leave all as it was
+pub turned-outcome : (cells upper lower : List ℕ) (run : Run) (stack : List ℕ) (n : ℕ) (buffer : List ℕ) (r : Refusal) → asked cells (run .task) upper lower (run .ceiling) ≡ turned r
     → (d : Called) → d ≡ calledWith (Refused 0 r) run → OutcomeIs (outcome cells upper lower run stack n buffer) (told (d .answer)) (d .run) stack buffer
 unfolding outcome
 turned-outcome cells upper lower run stack n buffer r e d k =
@@ -70,7 +70,7 @@ small w e = letters w (and-right (leb (length w) 64) (lettersWithin w) e)
         let k : x ≤ 63 = leb-true x 63 (and-right (leb 1 x) (leb x 63) (and-left (leb 1 x && leb x 63) (lettersWithin xs) h)) in omega arith
     letters (x ∷ xs) h (suc i) = letters xs (and-right (leb 1 x && leb x 63) (lettersWithin xs) h) i
 
-module _ (cells upper lower first : List ℕ) (run : Run) (P : Admitted cells (run .task) upper lower first) (l : Layout) (E : l ≡ layoutOf (countsIn cells))
+module _ (cells upper lower first : List ℕ) (run : Run) (P : Admitted cells (run .task) upper lower (run .ceiling) first) (l : Layout) (E : l ≡ layoutOf (countsIn cells))
     (classes : List (List ℕ)) (K : classes ≡ tableIn cells .classes) (u v : Bool) (U : u ≡ readsAt (run .task) upperSide) (Z : v ≡ readsAt (run .task) lowerSide) where
   H : Holding cells
   H = holding cells (P .loads)
@@ -85,7 +85,7 @@ module _ (cells upper lower first : List ℕ) (run : Run) (P : Admitted cells (r
   low = Z ∙ reads-of (run .task) (P .asks) (P .task-is) lowerSide
 
   abbrev setup : Setup
-  setup = record { states = l .states; up = u; low = v }
+  setup = record { states = l .states; up = u; low = v; ceiling = run .ceiling }
 
   abbrev initials : List ℕ
   initials = take (l .terminals - l .initials) (drop (l .initials) cells)
@@ -97,7 +97,7 @@ module _ (cells upper lower first : List ℕ) (run : Run) (P : Admitted cells (r
   arcs = take (l .end - l .arcs) (drop (l .arcs) cells)
 
   abbrev query : Query
-  query = record { task = P .asks; upperWord = upper; lowerWord = lower }
+  query = record { task = P .asks; upperWord = upper; lowerWord = lower; ceiling = run .ceiling }
 
   -- where the parts are
   pub record Within : Type 0 where
@@ -115,10 +115,10 @@ module _ (cells upper lower first : List ℕ) (run : Run) (P : Admitted cells (r
 
   query-is : queryBy setup upper lower ≡ query
   query-is =
-      ap (λ (k : Task). record { task = k; upperWord = upper; lowerWord = lower }) (ap₂ taskBy up low ∙ by-flags (P .asks))
+      ap (λ (k : Task). record { task = k; upperWord = upper; lowerWord = lower; ceiling = run .ceiling }) (ap₂ taskBy up low ∙ by-flags (P .asks))
 
-  words : wordsHold query ≡ true
-  words = asked-facts cells (run .task) upper lower (tableIn cells) query (P .runs-is) .words-hold
+  facts : AskedFacts (tableIn cells) query (run .task) upper lower (run .ceiling)
+  facts = asked-facts cells (run .task) upper lower (run .ceiling) (tableIn cells) query (P .runs-is)
 
   pub prepared : Prepared setup classes first initials terminals arcs upper lower
   prepared =
@@ -126,20 +126,21 @@ module _ (cells upper lower first : List ℕ) (run : Run) (P : Admitted cells (r
         keeps = subst (λ (t : Table). keepsRules t ≡ true) (sym table-is) (H .keeps);
         index = P .index ∙ sym (index-part cells l L);
         reads-some = ap₂ _||_ up low ∙ some-flag (P .asks);
-        words-small = record { upper-small = small upper (and-left (wordHolds upper) (wordHolds lower) words); lower-small = small lower (and-right (wordHolds upper) (wordHolds lower) words) };
+        words-small = record { upper-small = small upper (and-left (wordHolds upper) (wordHolds lower) (facts .words-hold)); lower-small = small lower (and-right (wordHolds upper) (wordHolds lower) (facts .words-hold)) };
+        ceiling-small = leb-true (run .ceiling) mostCeiling (facts .ceiling-holds);
       }
 
   abbrev M : Machine
   M = machineBy setup classes initials terminals arcs upper lower
 
-  outcome-is : (stack : List ℕ) (n : ℕ) (buffer : List ℕ) → outcomeAs (run .task) buffer (call M store n (length buffer) (heldOf run stack)) ≡ outcome cells upper lower run stack n buffer
+  outcome-is : (stack : List ℕ) (n : ℕ) (buffer : List ℕ) → outcomeAs run buffer (call M store n (length buffer) (heldOf run stack)) ≡ outcome cells upper lower run stack n buffer
   unfolding outcome
   outcome-is stack n buffer =
-      ap₂ (λ (t : Table) (q : Query). outcomeAs (run .task) buffer (call (machine t q) store n (length buffer) (heldOf run stack))) table-is query-is
+      ap₂ (λ (t : Table) (q : Query). outcomeAs run buffer (call (machine t q) store n (length buffer) (heldOf run stack))) table-is query-is
       ∙ ap (λ (w : Asked). outcomeOf w run stack n buffer) (sym (P .runs-is))
 
   call-outcome : (stack : List ℕ) (n : ℕ) (buffer : List ℕ) (r : Called) (c o : List ℕ)
-      → SearchIs (run .task) buffer (call M store n (length buffer) (heldOf run stack)) r c o → OutcomeIs (outcome cells upper lower run stack n buffer) (told (r .answer)) (r .run) c o
+      → SearchIs run buffer (call M store n (length buffer) (heldOf run stack)) r c o → OutcomeIs (outcome cells upper lower run stack n buffer) (told (r .answer)) (r .run) c o
   call-outcome stack n buffer r c o S = subst (λ (x : Outcome). OutcomeIs x (told (r .answer)) (r .run) c o) (outcome-is stack n buffer) (called-outcome (S .0) (S .1) (S .2))
 
   -- by whether the run is a place in a search
@@ -153,12 +154,12 @@ module _ (cells upper lower first : List ℕ) (run : Run) (P : Admitted cells (r
     pub good-place : placed ≡ true → Good M store (roomIn stack) (heldOf run stack)
     good-place e = place-good setup classes initials terminals arcs upper lower run stack n buffer e
 
-    pub search-outcome : placed ≡ true → (r : Called) (c o : List ℕ) → SearchIs (run .task) buffer (advance M store (length buffer) n (heldOf run stack)) r c o
+    pub search-outcome : placed ≡ true → (r : Called) (c o : List ℕ) → SearchIs run buffer (advance M store (length buffer) n (heldOf run stack)) r c o
         → OutcomeIs (outcome cells upper lower run stack n buffer) (told (r .answer)) (r .run) c o
     search-outcome e r c o S = call-outcome stack n buffer r c o (place-searched setup classes initials terminals arcs upper lower run stack n buffer e r c o S)
 
 -- what the table check and the query tell
-pub admitted-by : (cells : List ℕ) (task : ℕ) (upper lower first : List ℕ) → Asks cells task upper lower → first ≡ checked cells .first → Admitted cells task upper lower first
+pub admitted-by : (cells : List ℕ) (task : ℕ) (upper lower : List ℕ) (ceiling : ℕ) (first : List ℕ) → Asks cells task upper lower ceiling → first ≡ checked cells .first → Admitted cells task upper lower ceiling first
 unfolding checked
-admitted-by cells task upper lower first Q e =
+admitted-by cells task upper lower ceiling first Q e =
     record { asks = Q .asks; task-is = Q .task-is; loads = Q .loads; runs-is = Q .runs-is; index = e ∙ ap (λ (o : Option Table). checkedAs (layoutOf (countsIn cells)) o .first) (Q .loads) }

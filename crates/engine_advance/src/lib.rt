@@ -14,7 +14,7 @@ ghost use Rattle.machine.specs.Answer.{told};
 ghost use Rattle.machine.specs.Reading.{outcome, OutcomeIs};
 ghost use Rattle.engine_advance.specs.Admitted.{Admitted};
 
-// 21, then the steps, where 20, 11 and 10 are not given.
+// 21, then the steps, where 20, 11, 10 and 39 are not given.
 fn resume(
     table: &[u16],
     at: Layout,
@@ -27,7 +27,7 @@ fn resume(
     lower: &[u8],
     output: &mut [u8],
 ) -> Called
-    requires { ⌜ Admitted (now table) (run .task) (now upper) (now lower) (now first) ⌝ }
+    requires { ⌜ Admitted (now table) (run .task) (now upper) (now lower) (run .ceiling) (now first) ⌝ }
     requires { ⌜ (at ≡ layoutOf (countsIn (now table))) × (classes ≡ tableIn (now table) .classes) ⌝ }
     ensures { λ r. ⌜ OutcomeIs (outcome (now (table .entry)) (now (upper .entry)) (now (lower .entry)) run (now (stack .entry)) allowance (now (output .entry)))
         (told (r .answer)) (r .run) (now (stack .exit)) (now (output .exit)) ⌝ }
@@ -41,6 +41,7 @@ fn resume(
         states: at.states,
         up: engine_admission::reads(task, Side::Upper),
         low: engine_admission::reads(task, Side::Lower),
+        ceiling: run.ceiling,
     };
     if !engine_place::place_holds(
         setup,
@@ -71,7 +72,7 @@ fn resume(
     )
 }
 
-// The call for a reading: 20, 11, 10, 21, then steps until the end, a reading, the allowance or a refusal.
+// The call for a reading: 20, 11, 10, 39, 21, then steps until the end, a reading, the allowance or a refusal.
 pub fn advance(
     table: &[u16],
     upper: &[u8],
@@ -86,7 +87,7 @@ pub fn advance(
 {
     let checked = table_check::check(table);
     let task = run.task;
-    let asking = engine_admission::asked(checked.ok, task, upper, lower);
+    let asking = engine_admission::asked(checked.ok, task, upper, lower, run.ceiling);
     match asking {
         Admission::Refused(refusal) => engine_search::refused(0, refusal, run),
         Admission::Passes => {

@@ -1,5 +1,5 @@
 -- The side rules, case by case.
-use Prim.Native.Nat.{ℕ, zero, suc, _+_, _≤_}
+use Prim.Native.Nat.{ℕ, zero, suc, _+_, _<_, _≤_}
 use native.Mathlib.Omega.{arith}
 use mathlib.Core.Path.{_≡_, refl, sym, ap, ap₂, _∙_}
 use mathlib.Core.Bool.{Bool, true, false, _&&_, _||_}
@@ -7,13 +7,14 @@ use mathlib.Core.Option.{Option, none, some}
 use mathlib.Core.List.{List}
 use lib.Dec.{eqb}
 use lib.ListN.{length, getD, List·getD-eq-default}
-use borrow.Author.Tests.{eq-eqb, ne-eqb}
+use borrow.Author.Tests.{eq-eqb, ne-eqb, le-leb, lt-leb}
 use Rattle.machine.specs.Query.{Side, upperSide, lowerSide}
-use Rattle.machine.specs.Transducer.{somewhen, sideFollow, sideDone, sideWritten, Passed, passed, both}
+use Rattle.machine.specs.Machine.{somewhen}
+use Rattle.machine.specs.Transducer.{sideFollow, sideDone, sideWritten, Passed, passed, both}
 use Rattle.engine_frames.specs.declared.Setup.{Setup}
 use Rattle.engine_frames.specs.declared.Count.the-variants.{Passes, Stops}
 use Rattle.engine_frames.specs.declared.Fit.the-variants.{Fits, Fails}
-use Rattle.engine_frames.specs.Sides.{countOf, fitOf, bySide, setupReads, writtenOf}
+use Rattle.engine_frames.specs.Sides.{countOf, fitOf, bySide, setupReads, summed, writtenOf}
 
 module _ (w : List ℕ) (n : ℕ) where
   pub no-letter : (r : Bool) (x : ℕ) → x ≡ 0 → Passes n ≡ countOf (sideFollow r w x n)
@@ -94,3 +95,15 @@ side-unread true false b lowerSide e = refl
 pub all-read : (m a b : Bool) → a ≡ true → b ≡ true → m ≡ (m && (a && b))
 all-read true a b e f = ap₂ _&&_ (sym e) (sym f)
 all-read false a b e f = refl
+
+-- The sum of penalties.
+
+module _ (ceiling sum penalty : ℕ) where
+  by-ceiling : (b c : Bool) → b ≡ c → countOf (somewhen b (sum + penalty)) ≡ countOf (somewhen c (sum + penalty))
+  by-ceiling b c e = ap (λ (v : Bool). countOf (somewhen v (sum + penalty))) e
+
+  pub sum-within : (r : ℕ) → r ≡ sum + penalty → r ≤ ceiling → Passes r ≡ countOf (summed ceiling sum penalty)
+  sum-within r e h = ap Passes e ∙ sym (by-ceiling _ true (le-leb (sum + penalty) ceiling (omega arith)))
+
+  pub sum-over : ceiling < sum + penalty → Stops ≡ countOf (summed ceiling sum penalty)
+  sum-over h = sym (by-ceiling _ false (lt-leb (sum + penalty) ceiling h))

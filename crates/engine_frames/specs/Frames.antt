@@ -5,13 +5,13 @@ use Rattle.machine.specs.Transducer.{Passed}
 use Rattle.engine_frames.specs.declared.Frame.{Frame}
 
 -- a frame as the code holds it
-abbrev pub frameOf : M.Frame Passed → Frame
-frameOf f = record { state = f .state; next = f .next; up = f .datum .up; low = f .datum .low }
+abbrev pub frameOf : M.Frame (Passed × ℕ) → Frame
+frameOf f = record { state = f .state; next = f .next; up = f .datum .0 .up; low = f .datum .0 .low; sum = f .datum .1 }
 
 -- and back
-abbrev pub frameAs : Frame → M.Frame Passed
-frameAs f = record { state = f .state; next = f .next; datum = record { up = f .up; low = f .low } }
+abbrev pub frameAs : Frame → M.Frame (Passed × ℕ)
+frameAs f = record { state = f .state; next = f .next; datum = (record { up = f .up; low = f .low }, f .sum) }
 
 -- a frame by its numbers
-abbrev pub frameBy : ℕ → ℕ → ℕ → ℕ → M.Frame Passed
-frameBy s n u l = record { state = s; next = n; datum = record { up = u; low = l } }
+abbrev pub frameBy : ℕ → ℕ → ℕ → ℕ → ℕ → M.Frame (Passed × ℕ)
+frameBy s n u l p = record { state = s; next = n; datum = (record { up = u; low = l }, p) }

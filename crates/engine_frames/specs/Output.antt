@@ -26,7 +26,7 @@ writtenLetter s upper lower a d = cond (ltb (letter (sideBy s) a) firstClass) (l
 
 -- the letter of the arc that the frame at i tried last
 abbrev pub letterAt : Setup → List ℕ → List ℕ → List ℕ → List ℕ → ℕ → ℕ
-letterAt s arcs upper lower stack i = writtenLetter s upper lower (arcOf arcs (pred (lookAt stack i .next))) (lookAt stack i .datum)
+letterAt s arcs upper lower stack i = writtenLetter s upper lower (arcOf arcs (pred (lookAt stack i .next))) (lookAt stack i .datum .0)
 
 -- those of the lowest n frames, bottom up
 unfoldable pub lettersUpTo : Setup → List ℕ → List ℕ → List ℕ → List ℕ → ℕ → List ℕ

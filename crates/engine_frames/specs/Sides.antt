@@ -3,11 +3,11 @@ use Prim.Native.Nat.{ℕ, _+_}
 use mathlib.Core.Bool.{Bool, true, cond, _&&_}
 use mathlib.Core.Option.{Option, none, some}
 use mathlib.Core.List.{List}
-use lib.Dec.{eqb}
+use lib.Dec.{eqb, leb}
 use Rattle.table_format.specs.Table.{Arc}
 use Rattle.table_format.specs.Classes.{rowOf}
 use Rattle.machine.specs.Query.{Side, upperSide, lowerSide}
-use Rattle.machine.specs.Machine.{bind}
+use Rattle.machine.specs.Machine.{bind, somewhen}
 use Rattle.machine.specs.Transducer.{sideFollow, sideDone, sideWritten, Passed, both, nextLetter, inRow, plainBy}
 use Rattle.engine_frames.specs.declared.Setup.{Setup}
 use Rattle.engine_frames.specs.declared.Count.{Count}
@@ -15,7 +15,7 @@ use Rattle.engine_frames.specs.declared.Count.the-variants.{Passes, Stop
 use Rattle.engine_frames.specs.declared.Fit.{Fit}
 use Rattle.engine_frames.specs.declared.Fit.the-variants.{Fits, Fails}
 
--- a side's count after an arc, if the arc fits there
+-- a side's count, or the sum, after an arc, if the arc fits there
 abbrev pub countOf : Option ℕ → Count
 countOf none = Stops
 countOf (some n) = Passes n
@@ -49,6 +49,10 @@ followIn s classes upper lower a d = bind (plainBy classes a (nextLetter (s .up)
 -- whether it fits, where x is the upper word's next letter and y the lower word's: that of every word that is read is one letter of the class
 abbrev pub classFits : Setup → List (List ℕ) → ℕ → ℕ → ℕ → Bool
 classFits s classes letter x y = cond (s .up) (cond (s .low) (eqb y x) true && inRow x (rowOf classes letter)) (inRow y (rowOf classes letter))
+
+-- a sum with a penalty added: "An arc that would lift the sum over the ceiling does not fit"
+abbrev pub summed : ℕ → ℕ → ℕ → Option ℕ
+summed ceiling sum penalty = somewhen (leb (sum + penalty) ceiling) (sum + penalty)
 
 -- "every given word is read to its end"
 abbrev pub doneBy : Setup → List ℕ → List ℕ → Passed → Bool

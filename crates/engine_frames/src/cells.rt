@@ -25,6 +25,7 @@ pub fn look(stack: &[u32], i: usize) -> Frame
         next: stack[at + 1],
         up: stack[at + 2],
         low: stack[at + 3],
+        sum: stack[at + 4],
     }
 }
 
@@ -38,6 +39,7 @@ pub fn put(stack: &mut [u32], i: usize, f: Frame)
     stack[at + 1] = f.next;
     stack[at + 2] = f.up;
     stack[at + 3] = f.low;
+    stack[at + 4] = f.sum;
 }
 
 // The next arc of the frame at i counted as tried.

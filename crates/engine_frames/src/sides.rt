@@ -6,12 +6,13 @@ use table_format::Arc;
 use table_format::FIRST_CLASS;
 ghost use mathlib.Core.Path.{_≡_};
 ghost use mathlib.Core.Bool.{true, _&&_, _||_};
-ghost use Prim.Native.Nat.{_-_, _<_};
+ghost use Prim.Native.Nat.{_-_, _<_, _≤_};
 ghost use lib.ListN.{getD};
 ghost use Rattle.table_format.specs.Classes.{firstClass, rowOf};
 ghost use Rattle.table_format.specs.Cells.{arcSaid};
+ghost use Rattle.machine.specs.Query.{mostCeiling};
 ghost use Rattle.machine.specs.Transducer.{member, sideFollow, sideDone, inRow};
-ghost use Rattle.engine_frames.specs.Sides.{countOf, fitOf, passedOf, followBy, classFits, doneBy, writtenOf};
+ghost use Rattle.engine_frames.specs.Sides.{countOf, fitOf, passedOf, followBy, classFits, summed, doneBy, writtenOf};
 
 // A letter on a side that is read (or written) after n letters.
 pub fn follow_side(read: bool, word: &[u8], letter: u16, n: u32) -> Count
@@ -109,6 +110,19 @@ pub fn class_fits(setup: Setup, classes: &[[u8; 16]; 8], letter: u16, x: u8, y: 
         }
     }
     in_class(classes, letter, x)
+}
+
+// A sum with an arc's penalty added, if it stays within the ceiling.
+pub fn add(ceiling: u32, sum: u32, penalty: u16) -> Count
+    requires { ⌜ sum ≤ mostCeiling ⌝ }
+    ensures { λ r. ⌜ r ≡ countOf (summed ceiling sum penalty) ⌝ }
+{
+    let lifted = sum + widen::cell_as_count(penalty);
+    if lifted <= ceiling {
+        Count::Passes(lifted)
+    } else {
+        Count::Stops
+    }
 }
 
 // A side's word is read to its end, if it is read.

@@ -29,7 +29,7 @@ module _ (t : Table) (U : Ruled t) (cells : List ℕ) (e : arcsAs cells ≡ t .a
 
   -- any query: the numbers of arcs are the table's
   abbrev anyQuery : Query
-  anyQuery = record { task = recognition; upperWord = []; lowerWord = [] }
+  anyQuery = record { task = recognition; upperWord = []; lowerWord = []; ceiling = 0 }
 
   pub graph-of : (first : List ℕ) → first ≡ firstIndex (t .states) (t .arcs) → Graph cells first (t .states)
   graph-of first f =

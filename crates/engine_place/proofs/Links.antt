@@ -1,4 +1,4 @@
--- The code's tests of a link, case by case.
+-- The code's tests of the bottom frame and of a link, case by case.
 use Prim.Native.Nat.{ℕ, _+_, _-_, _<_, _≤_}
 use native.Mathlib.Omega.{arith}
 use mathlib.Core.Path.{_≡_, refl, sym, ap, ap₂, _∙_}
@@ -9,16 +9,16 @@ use lib.Dec.{eqb, ltb, leb}
 use lib.ListN.{getD}
 use borrow.Author.Tests.{eq-eqb, ne-eqb, lt-ltb, le-ltb, le-leb, lt-leb}
 use Rattle.table_format.specs.declared.Arc as Held
+use Rattle.table_format.specs.Table.{Arc}
 use Rattle.table_format.specs.Classes.{firstClass}
 use Rattle.table_format.specs.Cells.{arcHeld, arcOf, arcSaid}
 use Rattle.machine.specs.Machine.{tested}
 use Rattle.machine.specs.Transducer.{Passed}
 use Rattle.engine_frames.specs.declared.Setup.{Setup}
 use Rattle.engine_frames.specs.declared.Frame.{Frame}
-use Rattle.engine_frames.specs.declared.Fit.{Fit}
 use Rattle.engine_frames.specs.declared.Fit.the-variants.{Fits, Fails}
 use Rattle.engine_frames.specs.Sides.{fitOf, passedOf, followBy, classFits}
-use Rattle.engine_place.specs.Place.{linkBy, classLinkBy}
+use Rattle.engine_place.specs.Place.{bottomBy, sumBy, linkBy, classLinkBy}
 
 -- Tests joined by `&&`.
 
@@ -32,62 +32,91 @@ fails-second false b e = refl
 pub holds-first : (a b v : Bool) → a ≡ true → v ≡ b → v ≡ (a && b)
 holds-first a b v e f = f ∙ ap (λ (w : Bool). w && b) (sym e)
 
-pub both-same : (o : Option Passed) (u l : ℕ) → Fails ≡ fitOf o → tested o (λ d. eqb (d .up) u && eqb (d .low) l) ≡ false
-both-same none u l e = refl
-both-same (some d) u l e = absurd (let z : _≡_ {A = ℕ} 0 1 = cc in omega arith)
+-- The bottom frame.
 
-pub up-differs : (o : Option Passed) (x y u l : ℕ) → Fits x y ≡ fitOf o → (x ≡ u → ⊥) → tested o (λ d. eqb (d .up) u && eqb (d .low) l) ≡ false
-up-differs none x y u l e h = refl
-up-differs (some d) x y u l e h = let z : x ≡ d .up = cc in sym (fails-first (eqb (d .up) u) (eqb (d .low) l) (ne-eqb (d .up) u (λ w. h (z ∙ w))))
+module _ (initials : List ℕ) (n : ℕ) (f : Frame) where
+  pub bottom-elsewhere : (f .state ≡ getD initials (n - 1) 0 → ⊥) → false ≡ bottomBy initials n f
+  bottom-elsewhere h = rw (ne-eqb (f .state) (getD initials (n - 1) 0) h)
 
-pub low-decides : (o : Option Passed) (x y u l : ℕ) → Fits x y ≡ fitOf o → x ≡ u → eqb y l ≡ tested o (λ d. eqb (d .up) u && eqb (d .low) l)
-low-decides none x y u l e h = absurd (let z : _≡_ {A = ℕ} 0 1 = cc in omega arith)
-low-decides (some d) x y u l e h =
+  pub bottom-up : (0 ≡ f .up → ⊥) → false ≡ bottomBy initials n f
+  bottom-up h = simp (ne-eqb 0 (f .up) h, and-false)
+
+  pub bottom-low : (0 ≡ f .low → ⊥) → false ≡ bottomBy initials n f
+  bottom-low h = simp (ne-eqb 0 (f .low) h, and-false)
+
+  pub bottom-sum : f .state ≡ getD initials (n - 1) 0 → 0 ≡ f .up → 0 ≡ f .low → eqb 0 (f .sum) ≡ bottomBy initials n f
+  bottom-sum h u l = rw (eq-eqb (f .state) (getD initials (n - 1) 0) h, eq-eqb 0 (f .up) u, eq-eqb 0 (f .low) l)
+
+-- What an arc makes, by what the code was told.
+
+pub both-same : (o : Option Passed) (same : Passed → Bool) → Fails ≡ fitOf o → tested o same ≡ false
+both-same none same e = refl
+both-same (some d) same e = absurd (let z : _≡_ {A = ℕ} 0 1 = cc in omega arith)
+
+pub made-as : (o : Option Passed) (x y : ℕ) (same : Passed → Bool) → Fits x y ≡ fitOf o → tested o same ≡ same (passedOf x y)
+made-as none x y same e = absurd (let z : _≡_ {A = ℕ} 0 1 = cc in omega arith)
+made-as (some d) x y same e =
     let z : x ≡ d .up = cc in
     let w : y ≡ d .low = cc in
-    holds-first (eqb (d .up) u) (eqb (d .low) l) (eqb y l) (eq-eqb (d .up) u (sym z ∙ h)) (ap (λ (k : ℕ). eqb k l) w)
+    ap₂ (λ (u l : ℕ). same (passedOf u l)) (sym z) (sym w)
 
 -- By the rules of the sides.
 
-module _ (s : Setup) (first arcs upper lower : List ℕ) (g f : Frame) where
+module _ (s : Setup) (n : ℕ) (arcs upper lower : List ℕ) (g f : Frame) where
   abbrev tried : Bool
-  tried = ltb (getD first (g .state) 0) (g .next)
+  tried = ltb n (g .next)
 
-  abbrev led : Bool
-  led = eqb (f .state) (arcOf arcs (g .next - 1) .target)
+  abbrev led : Arc → Bool
+  led a = eqb (f .state) (a .target)
 
-  abbrev made : Option Passed
-  made = followBy s upper lower (arcOf arcs (g .next - 1)) (passedOf (g .up) (g .low))
+  abbrev same : Arc → Passed → Bool
+  same a d = (eqb (d .up) (f .up) && eqb (d .low) (f .low)) && sumBy a g f
 
-  abbrev fits : Bool
-  fits = tested made (λ d. eqb (d .up) (f .up) && eqb (d .low) (f .low))
+  abbrev made : Arc → Option Passed
+  made a = followBy s upper lower a (passedOf (g .up) (g .low))
 
-  pub link-untried : g .next ≤ getD first (g .state) 0 → false ≡ linkBy s first arcs upper lower g f
-  link-untried h = fails-first tried (led && fits) (le-ltb _ _ h)
+  pub link-untried : g .next ≤ n → false ≡ linkBy s n arcs upper lower g f
+  link-untried h = rw (le-ltb n (g .next) h)
 
   -- by the arc that was looked at
   module _ (a : Held.Arc) (A : a ≡ arcHeld (arcOf arcs (g .next - 1))) where
-    abbrev fit : Fit
-    fit = fitOf (followBy s upper lower (arcSaid a) (passedOf (g .up) (g .low)))
+    abbrev b : Arc
+    b = arcSaid a
 
-    fit-is : fit ≡ fitOf made
-    fit-is = ap (λ (x : Held.Arc). fitOf (followBy s upper lower (arcSaid x) (passedOf (g .up) (g .low)))) A
+    by-held : (tried && (led b && tested (made b) (same b))) ≡ linkBy s n arcs upper lower g f
+    by-held = ap (λ (x : Held.Arc). tried && (led (arcSaid x) && tested (made (arcSaid x)) (same (arcSaid x)))) A
 
-    target-is : a .target ≡ arcOf arcs (g .next - 1) .target
-    target-is = ap (λ (x : Held.Arc). x .target) A
+    pub link-unfit : Fails ≡ fitOf (made b) → false ≡ linkBy s n arcs upper lower g f
+    link-unfit e = fails-second tried _ (sym (fails-second (led b) _ (both-same (made b) (same b) e))) ∙ by-held
 
-    pub link-unfit : Fails ≡ fit → false ≡ linkBy s first arcs upper lower g f
-    link-unfit e = fails-second tried (led && fits) (sym (fails-second led fits (both-same made (f .up) (f .low) (e ∙ fit-is))))
+    -- by what it makes
+    module _ (x y : ℕ) (e : Fits x y ≡ fitOf (made b)) where
+      by-fit : (tried && (led b && same b (passedOf x y))) ≡ linkBy s n arcs upper lower g f
+      by-fit = ap (λ (v : Bool). tried && (led b && v)) (sym (made-as (made b) x y (same b) e)) ∙ by-held
 
-    pub link-elsewhere : (f .state ≡ a .target → ⊥) → false ≡ linkBy s first arcs upper lower g f
-    link-elsewhere h = fails-second tried (led && fits) (sym (fails-first led fits (ne-eqb _ _ (λ e. h (e ∙ sym target-is)))))
+      pub link-elsewhere : (f .state ≡ a .target → ⊥) → false ≡ linkBy s n arcs upper lower g f
+      link-elsewhere h = go ∙ by-fit
+        where
+          go : false ≡ (tried && (led b && same b (passedOf x y)))
+          go = simp (ne-eqb (f .state) (a .target) h, and-false)
 
-    pub link-up : (x y : ℕ) → Fits x y ≡ fit → (x ≡ f .up → ⊥) → false ≡ linkBy s first arcs upper lower g f
-    link-up x y e h = fails-second tried (led && fits) (sym (fails-second led fits (up-differs made x y (f .up) (f .low) (e ∙ fit-is) h)))
+      pub link-up : (x ≡ f .up → ⊥) → false ≡ linkBy s n arcs upper lower g f
+      link-up h = go ∙ by-fit
+        where
+          go : false ≡ (tried && (led b && same b (passedOf x y)))
+          go = simp (ne-eqb x (f .up) h, and-false)
 
-    pub link-low : (x y : ℕ) → getD first (g .state) 0 < g .next → f .state ≡ a .target → Fits x y ≡ fit → x ≡ f .up → eqb y (f .low) ≡ linkBy s first arcs upper lower g f
-    link-low x y t l e h =
-        holds-first tried (led && fits) _ (lt-ltb _ _ t) (holds-first led fits _ (eq-eqb _ _ (l ∙ target-is)) (low-decides made x y (f .up) (f .low) (e ∙ fit-is) h))
+      pub link-low : (y ≡ f .low → ⊥) → false ≡ linkBy s n arcs upper lower g f
+      link-low h = go ∙ by-fit
+        where
+          go : false ≡ (tried && (led b && same b (passedOf x y)))
+          go = simp (ne-eqb y (f .low) h, and-false)
+
+      pub link-sum : n < g .next → f .state ≡ a .target → x ≡ f .up → y ≡ f .low → eqb (g .sum + a .penalty) (f .sum) ≡ linkBy s n arcs upper lower g f
+      link-sum t l u w = go ∙ by-fit
+        where
+          go : eqb (g .sum + a .penalty) (f .sum) ≡ (tried && (led b && same b (passedOf x y)))
+          go = rw (lt-ltb n (g .next) t, eq-eqb (f .state) (a .target) l, eq-eqb x (f .up) u, eq-eqb y (f .low) w)
 
 -- By the arc's class.
 
@@ -96,7 +125,7 @@ module _ (s : Setup) (classes : List (List ℕ)) (first arcs upper lower : List 
   abbrev by : Held.Arc → Bool → Bool
   by a fits =
       ltb (getD first (g .state) 0) (g .next)
-      && (leb firstClass (a .upper) && (fits && (eqb (f .state) (a .target) && (eqb (g .up + 1) (f .up) && eqb (g .low + 1) (f .low)))))
+      && (leb firstClass (a .upper) && (fits && (eqb (f .state) (a .target) && ((eqb (g .up + 1) (f .up) && eqb (g .low + 1) (f .low)) && eqb (g .sum + a .penalty) (f .sum)))))
 
   pub class-untried : g .next ≤ getD first (g .state) 0 → false ≡ classLinkBy s classes first arcs upper lower g f
   class-untried h = rw (le-ltb (getD first (g .state) 0) (g .next) h)
@@ -126,6 +155,12 @@ module _ (s : Setup) (classes : List (List ℕ)) (first arcs upper lower : List 
         go : (b : Bool) → false ≡ by a b
         go b = simp (ne-eqb (g .up + 1) (f .up) h, and-false)
 
+    pub class-low : (g .low + 1 ≡ f .low → ⊥) → false ≡ classLinkBy s classes first arcs upper lower g f
+    class-low h = go in-class ∙ by-arc
+      where
+        go : (b : Bool) → false ≡ by a b
+        go b = simp (ne-eqb (g .low + 1) (f .low) h, and-false)
+
     -- by the answer on the letters that were looked at
     module _ (b : Bool) (x y : ℕ) (X : x ≡ getD upper (g .up) 0) (Y : y ≡ getD lower (g .low) 0) (B : b ≡ classFits s classes (a .upper) x y) where
       by-letters : by a b ≡ classLinkBy s classes first arcs upper lower g f
@@ -137,9 +172,10 @@ module _ (s : Setup) (classes : List (List ℕ)) (first arcs upper lower : List 
           go : false ≡ by a b
           go = simp (e, and-false)
 
-      pub class-low : getD first (g .state) 0 < g .next → firstClass ≤ a .upper → b ≡ true → f .state ≡ a .target → g .up + 1 ≡ f .up
-          → eqb (g .low + 1) (f .low) ≡ classLinkBy s classes first arcs upper lower g f
-      class-low t c e l u = go ∙ by-letters
+      pub class-sum : getD first (g .state) 0 < g .next → firstClass ≤ a .upper → b ≡ true → f .state ≡ a .target → g .up + 1 ≡ f .up → g .low + 1 ≡ f .low
+          → eqb (g .sum + a .penalty) (f .sum) ≡ classLinkBy s classes first arcs upper lower g f
+      class-sum t c e l u w = go ∙ by-letters
         where
-          go : eqb (g .low + 1) (f .low) ≡ by a b
-          go = rw (lt-ltb (getD first (g .state) 0) (g .next) t, le-leb firstClass (a .upper) c, e, eq-eqb (f .state) (a .target) l, eq-eqb (g .up + 1) (f .up) u)
+          go : eqb (g .sum + a .penalty) (f .sum) ≡ by a b
+          go =
+              rw (lt-ltb (getD first (g .state) 0) (g .next) t, le-leb firstClass (a .upper) c, e, eq-eqb (f .state) (a .target) l, eq-eqb (g .up + 1) (f .up) u, eq-eqb (g .low + 1) (f .low) w)

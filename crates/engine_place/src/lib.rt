@@ -9,6 +9,7 @@ use table_format::FIRST_CLASS;
 ghost use mathlib.Core.Path.{_≡_};
 ghost use mathlib.Core.List.{List, []};
 ghost use Prim.Native.Nat.{ℕ, _+_, _-_, _<_, _≤_};
+ghost use lib.Dec.{eqb};
 ghost use lib.ListN.{length};
 ghost use Rattle.machine.specs.Frames.{framesOf, chainHolds, placeHolds};
 ghost use Rattle.machine.specs.Stack.{mostFrames, framesIn, lookAt, store};
@@ -29,7 +30,7 @@ fn next_holds(first: &[u16], state: u32, next: u32) -> bool
     next <= widen::cell_as_count(first[at + 1])
 }
 
-// The bottom frame is the last started state with nothing passed.
+// The bottom frame is the last started state with nothing passed and no penalty.
 fn bottom_holds(initials: &[u16], started: u32, f: Frame) -> bool
     requires { ⌜ (0 < started) × (started ≤ length (now initials)) ⌝ }
     ensures { λ r. ⌜ r ≡ bottomBy (now (initials .entry)) started f ⌝ }
@@ -41,14 +42,24 @@ fn bottom_holds(initials: &[u16], started: u32, f: Frame) -> bool
     if 0 != f.up {
         return false;
     }
-    0 == f.low
+    if 0 != f.low {
+        return false;
+    }
+    0 == f.sum
 }
 
-// The frame at i is what the arc just tried in the frame g below it makes by the rules of the sides. It is looked at when that is known, so
-// that fewer values are held at a time.
+// A sum is another with an arc's penalty added.
+fn sum_holds(below: u32, penalty: u16, sum: u32) -> bool
+    ensures { λ r. ⌜ r ≡ eqb (below + penalty) sum ⌝ }
+{
+    below as u64 + penalty as u64 == sum as u64
+}
+
+// The frame at i is what the arc just tried in the frame g below it, whose state's arcs begin at `begin`, makes by the rules of the sides. It is
+// looked at when that is known, so that fewer values are held at a time.
 fn link_holds(
     setup: Setup,
-    first: &[u16],
+    begin: u32,
     arcs: &[u16],
     upper: &[u8],
     lower: &[u8],
@@ -56,13 +67,12 @@ fn link_holds(
     stack: &[u32],
     i: usize,
 ) -> bool
-    requires { ⌜ Linkable (now first) (now arcs) g ⌝ }
+    requires { ⌜ Linkable (now arcs) g ⌝ }
     requires { ⌜ i < framesIn (now stack) ⌝ }
-    ensures { λ r. ⌜ r ≡ linkBy setup (now (first .entry)) (now (arcs .entry)) (now (upper .entry)) (now (lower .entry)) g (frameOf (lookAt (now (stack .entry)) i)) ⌝ }
+    ensures { λ r. ⌜ r ≡ linkBy setup begin (now (arcs .entry)) (now (upper .entry)) (now (lower .entry)) g (frameOf (lookAt (now (stack .entry)) i)) ⌝ }
 {
-    let state = g.state as usize;
     let next = g.next;
-    if next <= widen::cell_as_count(first[state]) {
+    if next <= begin {
         return false;
     }
     let arc = table_format::arc_at(arcs, next as usize - 1);
@@ -76,7 +86,10 @@ fn link_holds(
             if up != f.up {
                 return false;
             }
-            low == f.low
+            if low != f.low {
+                return false;
+            }
+            sum_holds(g.sum, arc.penalty, f.sum)
         }
     }
 }
@@ -92,7 +105,7 @@ fn class_link_holds(
     g: Frame,
     f: Frame,
 ) -> bool
-    requires { ⌜ Linkable (now first) (now arcs) g ⌝ }
+    requires { ⌜ (g .state < length (now first)) × Linkable (now arcs) g ⌝ }
     ensures { λ r. ⌜ r ≡ classLinkBy setup (now (classes .entry)) (now (first .entry)) (now (arcs .entry)) (now (upper .entry)) (now (lower .entry)) g f ⌝ }
 {
     let state = g.state as usize;
@@ -115,7 +128,10 @@ fn class_link_holds(
     if g.up + 1 != f.up {
         return false;
     }
-    g.low + 1 == f.low
+    if g.low + 1 != f.low {
+        return false;
+    }
+    sum_holds(g.sum, arc.penalty, f.sum)
 }
 
 // The first frame, from one on, that is not so linked by the rules of the sides with the frame below it, or whose next arc is not its state's;
@@ -135,13 +151,20 @@ fn links_from(
     ensures { λ r. ⌜ FirstUnlinked setup (now (first .entry)) (now (arcs .entry)) (now (upper .entry)) (now (lower .entry)) (now (stack .entry)) from depth r ⌝ }
 {
     let mut g = cells::look(stack, from - 1);
+    let at = g.state as usize;
+    let mut begin = widen::cell_as_count(first[at]);
     let mut i = from;
     while i < depth {
-        if !link_holds(setup, first, arcs, upper, lower, g, stack, i) {
+        if !link_holds(setup, begin, arcs, upper, lower, g, stack, i) {
             return i;
         }
         let f = cells::look(stack, i);
-        if !next_holds(first, f.state, f.next) {
+        let at = f.state as usize;
+        begin = widen::cell_as_count(first[at]);
+        if f.next < begin {
+            return i;
+        }
+        if widen::cell_as_count(first[at + 1]) < f.next {
             return i;
         }
         g = f;
@@ -150,7 +173,8 @@ fn links_from(
     i
 }
 
-// The used frames, from the bottom up, where there are some. Links by classes are looked at outside the loop over the others, which is quicker so.
+// The used frames, from the bottom up, where there are some. Sums never fall from frame to frame, so that the top one's shows whether all are
+// within the ceiling. Links by classes are looked at outside the loop over the others, which is quicker so.
 fn frames_hold(
     setup: Setup,
     classes: &[[u8; 16]; 8],
@@ -168,6 +192,10 @@ fn frames_hold(
     requires { ⌜ (0 < depth) × (depth ≤ framesIn (now stack)) × (depth ≤ mostFrames) ⌝ }
     ensures { λ r. ⌜ r ≡ chainHolds (machineBy setup (now (classes .entry)) (now (initials .entry)) [] (now (arcs .entry)) (now (upper .entry)) (now (lower .entry))) started (framesOf store (now (stack .entry)) (depth - 1)) (lookAt (now (stack .entry)) (depth - 1)) ⌝ }
 {
+    let top = cells::look(stack, depth - 1);
+    if setup.ceiling < top.sum {
+        return false;
+    }
     let b = cells::look(stack, 0);
     if !bottom_holds(initials, started, b) {
         return false;

@@ -42,5 +42,5 @@ module _ (c : List ℕ) (d : ℕ) where
       go zero = refl
       go (suc k) = length-put c k (triedOf (lookAt c k))
 
-  pub entered-length : (f : F.Frame Passed) → length (enteredAt c d f) ≡ length c
+  pub entered-length : (f : F.Frame (Passed × ℕ)) → length (enteredAt c d f) ≡ length c
   entered-length f = length-put (triedBelow c d) d f ∙ tried-length

@@ -79,7 +79,7 @@ module _ {s : Setup} {first terminals arcs upper lower : List ℕ} {d : ℕ} {e 
   abbrev w : ℕ
   w = writtenOf s (passedIn e)
 
-  abbrev f : F.Frame Passed
+  abbrev f : F.Frame (Passed × ℕ)
   f = frameIn e (getD first (e .state) 0)
 
   abbrev met : Verdict

@@ -23,8 +23,8 @@ abbrev pub passedIn : NewFrame → Passed
 passedIn e = passedOf (e .up) (e .low)
 
 -- its frame, where n is the next arc
-abbrev pub frameIn : NewFrame → ℕ → F.Frame Passed
-frameIn e n = frameBy (e .state) n (e .up) (e .low)
+abbrev pub frameIn : NewFrame → ℕ → F.Frame (Passed × ℕ)
+frameIn e n = frameBy (e .state) n (e .up) (e .low) (e .sum)
 
 -- 22, then acceptance, then 23, where the buffer has l letters and the output n
 abbrev pub verdictOf : Bool → Bool → ℕ → ℕ → Verdict
@@ -55,7 +55,7 @@ triedBelow c zero = c
 triedBelow c (suc d) = putAt c d (triedOf (lookAt c d))
 
 -- the cells after a push onto d frames: that, and the new frame
-abbrev pub enteredAt : List ℕ → ℕ → F.Frame Passed → List ℕ
+abbrev pub enteredAt : List ℕ → ℕ → F.Frame (Passed × ℕ) → List ℕ
 enteredAt c d f = putAt (triedBelow c d) d f
 
 -- the cells with its arc counted; "every lent buffer holds what it held before the refused step"
@@ -65,7 +65,7 @@ countedCells Enters c d = triedBelow c d
 countedCells (Accepts n) c d = triedBelow c d
 
 -- the cells after it
-abbrev pub pushedCells : Verdict → List ℕ → ℕ → F.Frame Passed → List ℕ
+abbrev pub pushedCells : Verdict → List ℕ → ℕ → F.Frame (Passed × ℕ) → List ℕ
 pushedCells (Refused cause) c d f = c
 pushedCells Enters c d f = enteredAt c d f
 pushedCells (Accepts n) c d f = enteredAt c d f

@@ -13,13 +13,14 @@ ghost use lib.ListN.{length, getD};
 ghost use Rattle.machine.specs.Stack.{framesIn, roomIn, lookAt, putAt};
 ghost use Rattle.engine_push.specs.Pushing.{frameIn, verdictBy, refusedBy, acceptingBy, Pushable, countedCells, pushedCells, pushedOutput};
 
-// A frame to push: its state and the letters passed on each side, with the run's numbers after the push.
+// A frame to push: its state, the letters passed on each side and the sum of penalties, with the run's numbers after the push.
 pub struct NewFrame {
     pub started: u32,
     pub depth: u32,
     pub state: u16,
     pub up: u32,
     pub low: u32,
+    pub sum: u32,
 }
 
 // What a push meets: a refusal, room, or room on an accepting path with the length of its output.
@@ -121,6 +122,7 @@ fn enter(first: &[u16], added: NewFrame, stack: &mut [u32])
         next: widen::cell_as_count(first[i]),
         up: added.up,
         low: added.low,
+        sum: added.sum,
     };
     cells::put(stack, added.depth as usize - 1, f);
 }

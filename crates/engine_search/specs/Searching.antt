@@ -22,6 +22,6 @@ dueAt true spent k = Stop (Ended k)
 dueAt false true k = Stop (Paused k)
 dueAt false false k = Step
 
--- the answer with the run, the cells e and the output o, where the task's number is k and the buffer was b
-abbrev pub SearchIs : ℕ → List ℕ → Replied (List ℕ) → Called → List ℕ → List ℕ → Type 0
-SearchIs k b told r e o = (r ≡ outcomeAs k b told .called) × (e ≡ outcomeAs k b told .stack) × (o ≡ outcomeAs k b told .output)
+-- the answer with the run, the cells e and the output o, where the run and the buffer were run and b
+abbrev pub SearchIs : Run → List ℕ → Replied (List ℕ) → Called → List ℕ → List ℕ → Type 0
+SearchIs run b told r e o = (r ≡ outcomeAs run b told .called) × (e ≡ outcomeAs run b told .stack) × (o ≡ outcomeAs run b told .output)

@@ -85,7 +85,7 @@ pub fn take_steps(
 ) -> Called
     requires { ⌜ Prepared setup (now classes) (now first) (now initials) (now terminals) (now arcs) (now upper) (now lower) ⌝ }
     requires { ⌜ Good (machineBy setup (now classes) (now initials) (now terminals) (now arcs) (now upper) (now lower)) store (roomIn (now stack)) (heldOf run (now stack)) ⌝ }
-    ensures { λ r. ⌜ SearchIs (run .task) (now (output .entry)) (advance (machineBy setup (now (classes .entry)) (now (initials .entry)) (now (terminals .entry)) (now (arcs .entry)) (now (upper .entry)) (now (lower .entry))) store (length (now (output .entry))) allowance (heldOf run (now (stack .entry)))) r (now (stack .exit)) (now (output .exit)) ⌝ }
+    ensures { λ r. ⌜ SearchIs run (now (output .entry)) (advance (machineBy setup (now (classes .entry)) (now (initials .entry)) (now (terminals .entry)) (now (arcs .entry)) (now (upper .entry)) (now (lower .entry))) store (length (now (output .entry))) allowance (heldOf run (now (stack .entry)))) r (now (stack .exit)) (now (output .exit)) ⌝ }
 {
     let mut at = run;
     let mut steps: u32 = 0;

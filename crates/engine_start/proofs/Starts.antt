@@ -22,7 +22,7 @@ use Rattle.machine.specs.declared.StartAnswer.the-variants.{Ready, Refused}
 use Rattle.machine.specs.Query.{upperSide, lowerSide, Query}
 use Rattle.machine.specs.Idle.{idle, leadsBy, always, hasIdleCycle, shownIdle}
 use Rattle.machine.specs.Asked.{Asked, turned, asked}
-use Rattle.machine.specs.Start.{firstRun, startedWith, byTest, startedAs, started, StartedIs}
+use Rattle.machine.specs.Start.{firstRun, noRun, startedWith, byTest, startedAs, started, StartedIs}
 use Rattle.machine.proofs.Asked.{loaded-rules}
 use Rattle.machine.proofs.Idle.{shown-some, shown-there, shown-none}
 use Rattle.machine.proofs.Start.{is-started, started-by}
@@ -35,18 +35,18 @@ use Rattle.engine_admission.proofs.Words.{Asks, reads-of}
 use Rattle.engine_graph.proofs.OfTable.{graph-of}
 use Rattle.engine_start.proofs.Loads.{loaded-laid, loaded-index}
 
-module _ (cells : List ℕ) (task : ℕ) (upper lower : List ℕ) where
-  -- 20, 11 and 10
-  pub start-turned : (r : Refusal) → asked cells task upper lower ≡ turned r → (s : Started) → s ≡ startedWith (Refused r) (firstRun 0) [] → StartedIs (started cells task upper lower) s
+module _ (cells : List ℕ) (task : ℕ) (upper lower : List ℕ) (ceiling : ℕ) where
+  -- 20, 11, 10 and 39
+  pub start-turned : (r : Refusal) → asked cells task upper lower ceiling ≡ turned r → (s : Started) → s ≡ startedWith (Refused r) noRun [] → StartedIs (started cells task upper lower ceiling) s
   unfolding started
-  start-turned r a s e = is-started (e ∙ ap (λ (w : Asked). startedAs w task) (sym a))
+  start-turned r a s e = is-started (e ∙ ap (λ (w : Asked). startedAs w (firstRun task ceiling)) (sym a))
 
-  module _ (A : Asks cells task upper lower) where
+  module _ (A : Asks cells task upper lower ceiling) where
     rules : Ruled (tableIn cells)
     rules = ruled (tableIn cells) (loaded-rules cells (tableIn cells) (A .loads))
 
     abbrev query : Query
-    query = record { task = A .asks; upperWord = upper; lowerWord = lower }
+    query = record { task = A .asks; upperWord = upper; lowerWord = lower; ceiling = ceiling }
 
     module _ (l : Layout) (i : l ≡ layoutOf (countsIn cells)) where
       pub start-laid : LaidOut cells l
@@ -86,13 +86,13 @@ module _ (cells : List ℕ) (task : ℕ) (upper lower : List ℕ) where
             ∙ ap (λ (arcs : List Arc). cycleCells (shownCycle (leadsBy arcs always) (leadsBy arcs (idle (A .asks))) (tableIn cells .states) (tableIn cells .initials))) (arcs-part cells l start-laid)
 
         -- a start, by the test
-        start-by : (b : Bool) → hasIdleCycle (tableIn cells) (A .asks) ≡ b → (s : Started) → s ≡ byTest (tableIn cells) query task b → StartedIs (started cells task upper lower) s
-        start-by b h s e = is-started (e ∙ sym (started-by cells task upper lower (tableIn cells) query (A .runs-is) b h))
+        start-by : (b : Bool) → hasIdleCycle (tableIn cells) (A .asks) ≡ b → (s : Started) → s ≡ byTest (tableIn cells) query (firstRun task ceiling) b → StartedIs (started cells task upper lower ceiling) s
+        start-by b h s e = is-started (e ∙ sym (started-by cells task upper lower ceiling (tableIn cells) query (A .runs-is) b h))
 
-        pub start-ready : c .length ≡ 0 → (s : Started) → s ≡ startedWith Ready (firstRun task) [] → StartedIs (started cells task upper lower) s
+        pub start-ready : c .length ≡ 0 → (s : Started) → s ≡ startedWith Ready (firstRun task ceiling) [] → StartedIs (started cells task upper lower ceiling) s
         start-ready n s e = go (hasIdleCycle (tableIn cells) (A .asks)) refl
           where
-            go : (b : Bool) → hasIdleCycle (tableIn cells) (A .asks) ≡ b → StartedIs (started cells task upper lower) s
+            go : (b : Bool) → hasIdleCycle (tableIn cells) (A .asks) ≡ b → StartedIs (started cells task upper lower ceiling) s
             go true h = absurd (shown-some (tableIn cells) (A .asks) shown (shown-there (tableIn cells) (A .asks) rules h) (ap (λ (x : Cycle). x .length) (sym found) ∙ n))
             go false h = start-by false h s e
 
@@ -100,9 +100,9 @@ module _ (cells : List ℕ) (task : ℕ) (upper lower : List ℕ) where
         abbrev told : Run → Cycle → Started
         told r x = record { answer = Refused (Input IdleCycle); run = r; cycle = x .states; length = x .length }
 
-        pub start-cycle : (r : Run) → r ≡ firstRun 0 → (c .length ≡ 0 → ⊥) → StartedIs (started cells task upper lower) (told r c)
+        pub start-cycle : (r : Run) → r ≡ noRun → (c .length ≡ 0 → ⊥) → StartedIs (started cells task upper lower ceiling) (told r c)
         start-cycle r z n = go (hasIdleCycle (tableIn cells) (A .asks)) refl
           where
-            go : (b : Bool) → hasIdleCycle (tableIn cells) (A .asks) ≡ b → StartedIs (started cells task upper lower) (told r c)
+            go : (b : Bool) → hasIdleCycle (tableIn cells) (A .asks) ≡ b → StartedIs (started cells task upper lower ceiling) (told r c)
             go true h = start-by true h (told r c) (ap₂ told z found)
             go false h = absurd (n (ap (λ (x : Cycle). x .length) (found ∙ ap cycleCells (shown-none (tableIn cells) (A .asks) rules h))))

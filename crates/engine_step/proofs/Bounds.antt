@@ -20,7 +20,7 @@ use Rattle.machine.specs.Query.{Query, upperSide, lowerSide, reads, letter}
 use Rattle.machine.specs.Machine.{output}
 use Rattle.machine.specs.Frames as F
 use Rattle.machine.specs.Frames.{framesOf, walkTo}
-use Rattle.machine.specs.Transducer.{arcAt, sideWrites, plainAt, writesAt, nextLetter, sideDone, sideWritten, writtenBy, Passed, machine}
+use Rattle.machine.specs.Transducer.{arcAt, sideWrites, plainAt, writesAt, nextLetter, sideDone, sideWritten, writtenBy, Passed, plainMachine, machine}
 use Rattle.machine.specs.Stack.{mostFrames, framesIn, roomIn, lookAt, store}
 use Rattle.machine.proofs.Frames.{frames-length, output-top}
 use Rattle.machine.specs.Place.{Placed, Good}
@@ -35,7 +35,7 @@ use Rattle.engine_step.proofs.Fits.{plain-on}
 
 -- The counts and words by the flags.
 
-pub done-is : (s : Setup) → (s .up || s .low) ≡ true → (t : Table) (upper lower : List ℕ) (x : Passed) → machine t (queryBy s upper lower) .done x ≡ doneBy s upper lower x
+pub done-is : (s : Setup) → (s .up || s .low) ≡ true → (t : Table) (upper lower : List ℕ) (x : Passed) → plainMachine t (queryBy s upper lower) .done x ≡ doneBy s upper lower x
 done-is s h t upper lower x =
     ap₂ (λ (a b : Bool). sideDone a upper (x .up) && sideDone b lower (x .low)) (reads-is s h upperSide) (reads-is s h lowerSide)
 
@@ -134,10 +134,11 @@ module _ {s : Setup} {classes : List (List ℕ)} {first initials terminals arcs 
           next-small = omega (arith, I .next-in, rules .few-arcs);
           next-alike = λ z. arc-alike (f .next) z;
           counts-small = λ side. omega (arith, I .passed-in side);
+          sum-small = omega (arith, I .sum-in, R .ceiling-small);
         }
 
     -- the frames below another have tried an arc
-    lower-tried : (k : ℕ) (f : F.Frame Passed) → Placed (machine t q) n (f ∷ framesOf store c k) → (i : ℕ) → i < k → (0 < lookAt c i .next) × (lookAt c i .next ≤ length (arcsAs arcs))
+    lower-tried : (k : ℕ) (f : F.Frame (Passed × ℕ)) → Placed (machine t q) n (f ∷ framesOf store c k) → (i : ℕ) → i < k → (0 < lookAt c i .next) × (lookAt c i .next ≤ length (arcsAs arcs))
     lower-tried zero f P i h = absurd (omega arith)
     lower-tried (suc k) f P i h = go (k - i) refl (λ j. lower-tried k (lookAt c k) (P .below) i j)
       where
@@ -156,7 +157,7 @@ module _ {s : Setup} {classes : List (List ℕ)} {first initials terminals arcs 
         go false = refl
 
     -- the output of the path of a frame that stands on k frames
-    pub output-letters : (k : ℕ) (f : F.Frame Passed) → Placed (machine t q) n (f ∷ framesOf store c k) → output (machine t q) (walkTo n (framesOf store c k)) ≡ lettersBy s arcs upper lower c k
+    pub output-letters : (k : ℕ) (f : F.Frame (Passed × ℕ)) → Placed (machine t q) n (f ∷ framesOf store c k) → output (machine t q) (walkTo n (framesOf store c k)) ≡ lettersBy s arcs upper lower c k
     unfolding lettersUpTo
     output-letters zero f P = go (s .up && s .low)
       where
@@ -167,14 +168,14 @@ module _ {s : Setup} {classes : List (List ℕ)} {first initials terminals arcs 
         let T = lower-tried (suc k) f P k (omega arith) in
         let N = tried-plain t q rules n f (lookAt c k) (framesOf store c k) P in
         output-top (machine t q) n (lookAt c k) (framesOf store c k) (P .below)
-        ∙ ap₂ (λ (x y : List ℕ). x ++ y) (output-letters k (lookAt c k) (P .below)) (writes-is (pred (lookAt c k .next)) (omega (arith, T .0, T .1, arcs-count)) (lookAt c k .datum) (N .0) (N .1))
+        ∙ ap₂ (λ (x y : List ℕ). x ++ y) (output-letters k (lookAt c k) (P .below)) (writes-is (pred (lookAt c k .next)) (omega (arith, T .0, T .1, arcs-count)) (lookAt c k .datum .0) (N .0) (N .1))
         ∙ letters-more k
 
-    pub tried-of : (k : ℕ) (f : F.Frame Passed) → k ≤ framesIn c → Placed (machine t q) n (f ∷ framesOf store c k) → Tried s arcs upper lower c k
+    pub tried-of : (k : ℕ) (f : F.Frame (Passed × ℕ)) → k ≤ framesIn c → Placed (machine t q) n (f ∷ framesOf store c k) → Tried s arcs upper lower c k
     tried-of k f h P =
         record {
           on-stack = h;
-          tried-one = λ i z. let T = lower-tried k f P i z in (T .0, omega (arith, T .1, arcs-count), written-small s upper lower (R .words-small) (arcOf arcs (pred (lookAt c i .next))) (lookAt c i .datum));
+          tried-one = λ i z. let T = lower-tried k f P i z in (T .0, omega (arith, T .1, arcs-count), written-small s upper lower (R .words-small) (arcOf arcs (pred (lookAt c i .next))) (lookAt c i .datum .0));
         }
 
   -- what a step may look at

@@ -5,14 +5,15 @@ use mathlib.Core.Path.{_≡_, refl, sym, ap, ap₂, subst, _∙_}
 use mathlib.Core.Bool.{Bool, true, false, _||_}
 use mathlib.Core.Option.{Option, none, some}
 use mathlib.Core.List.{List, []}
+use lib.Dec.{leb}
 use lib.ListN.{length, getD}
 use Rattle.table_format.specs.declared.Arc as Held
 use Rattle.table_format.specs.Table.{Arc, Table, noArc}
 use Rattle.table_format.specs.Index.{below}
 use Rattle.table_format.specs.Cells.{arcCount, arcHeld, arcOf, arcsAs, arcSaid}
 use Rattle.table_format.proofs.Arcs.{getD-arcs}
-use Rattle.machine.specs.Query.{Side, upperSide, lowerSide, reads}
-use Rattle.machine.specs.Machine.{Machine, bind}
+use Rattle.machine.specs.Query.{Side, upperSide, lowerSide, reads, mostCeiling}
+use Rattle.machine.specs.Machine.{Machine, bind, somewhen}
 use Rattle.machine.specs.Frames as F
 use Rattle.machine.specs.Frames.{untried}
 use Rattle.machine.specs.Step.{tryArc, moveTop, moveStart, move}
@@ -21,16 +22,18 @@ use Rattle.machine.specs.Stack.{lookAt, store}
 use Rattle.machine.proofs.Held.{move-start, move-top}
 use Rattle.machine.proofs.Range.{below-rises}
 use Rattle.engine_frames.specs.declared.Setup.{Setup}
+use Rattle.engine_frames.specs.declared.Count.the-variants.{Passes, Stops}
 use Rattle.engine_frames.specs.declared.Fit.{Fit}
 use Rattle.engine_frames.specs.declared.Fit.the-variants.{Fits, Fails}
 use Rattle.engine_frames.specs.declared.Frame.{Frame}
 use Rattle.engine_frames.specs.Frames.{frameOf}
-use Rattle.engine_frames.specs.Sides.{fitOf, passedOf, setupReads, bySide, followIn}
+use Rattle.engine_frames.specs.Sides.{countOf, fitOf, passedOf, setupReads, bySide, followIn, summed}
 use Rattle.engine_push.specs.declared.NewFrame.{NewFrame}
 use Rattle.engine_push.proofs.Cells.{pred-suc}
+use Rattle.engine_step.specs.declared.Move.{Move}
 use Rattle.engine_step.specs.declared.Move.the-variants.{Drops, Skips, Pushes}
 use Rattle.engine_step.specs.Setting.{Alike, taskBy, queryBy, tableBy, machineBy, held, InBounds, Top}
-use Rattle.engine_step.specs.Stepping.{moveAs}
+use Rattle.engine_step.specs.Stepping.{pushIf, moveAs}
 
 -- The sides that a task by its flags reads.
 
@@ -52,8 +55,35 @@ follow-is s h t upper lower a d =
     ap₂ (λ (p r : Bool). bind (plainBy (t .classes) a (nextLetter p upper lower d)) (λ b. both (sideFollow p upper (b .upper) (d .up)) (sideFollow r lower (b .lower) (d .low)))) (reads-is s h upperSide) (reads-is s h lowerSide)
 
 -- a frame to push, by its numbers
-abbrev newFrame : ℕ → ℕ → ℕ → ℕ → ℕ → NewFrame
-newFrame n d state up low = record { started = n; depth = d; state = state; up = up; low = low }
+abbrev newFrame : ℕ → ℕ → ℕ → ℕ → ℕ → ℕ → NewFrame
+newFrame n d state up low sum = record { started = n; depth = d; state = state; up = up; low = low; sum = sum }
+
+-- what an arc makes of what was passed and of a sum, where its penalty is p
+abbrev under : ℕ → ℕ → ℕ → Option Passed → Option (Passed × ℕ)
+under ceiling sum p o = bind o (λ e. somewhen (leb (sum + p) ceiling) (e, sum + p))
+
+-- The push along an arc that fits by its letters, by the sum.
+
+module _ (n d state : ℕ) (p : Passed) (ceiling penalty : ℕ) (g : Frame) (f : F.Frame (Passed × ℕ)) (E : g ≡ frameOf f) where
+  abbrev pushed : Option ℕ → Move
+  pushed = pushIf n d state p
+
+  sum-is : countOf (summed ceiling (g .sum) penalty) ≡ countOf (summed ceiling (f .datum .1) penalty)
+  sum-is = ap (λ (x : Frame). countOf (summed ceiling (x .sum) penalty)) E
+
+  pub over-ceiling : Stops ≡ countOf (summed ceiling (g .sum) penalty) → Skips ≡ pushed (summed ceiling (f .datum .1) penalty)
+  over-ceiling e = go (summed ceiling (f .datum .1) penalty) (e ∙ sum-is)
+    where
+      go : (o : Option ℕ) → Stops ≡ countOf o → Skips ≡ pushed o
+      go none z = refl
+      go (some r) z = absurd (let y : _≡_ {A = ℕ} 0 1 = cc in omega arith)
+
+  pub under-ceiling : (k r : ℕ) → k ≡ d → Passes r ≡ countOf (summed ceiling (g .sum) penalty) → Pushes (newFrame n k state (p .up) (p .low) r) ≡ pushed (summed ceiling (f .datum .1) penalty)
+  under-ceiling k r h e = ap (λ (x : ℕ). Pushes (newFrame n x state (p .up) (p .low) r)) h ∙ go (summed ceiling (f .datum .1) penalty) (e ∙ sum-is)
+    where
+      go : (o : Option ℕ) → Passes r ≡ countOf o → Pushes (newFrame n d state (p .up) (p .low) r) ≡ pushed o
+      go none z = absurd (let y : _≡_ {A = ℕ} 0 1 = cc in omega arith)
+      go (some x) z = let q : r ≡ x = cc in ap (λ (y : ℕ). Pushes (newFrame n d state (p .up) (p .low) y)) q
 
 -- The move.
 
@@ -64,18 +94,18 @@ module _ (s : Setup) (classes : List (List ℕ)) (initials arcs upper lower : Li
   abbrev M : Machine
   M = machineBy s classes initials [] arcs upper lower
 
-  pub begins-is : (d : ℕ) → d ≡ 0 → n < length initials → Pushes (newFrame (n + 1) 1 (getD initials n 0) 0 0) ≡ moveAs n d (move M store (held n d c))
+  pub begins-is : (d : ℕ) → d ≡ 0 → n < length initials → Pushes (newFrame (n + 1) 1 (getD initials n 0) 0 0 0) ≡ moveAs n d (move M store (held n d c))
   begins-is d e h = go (length initials - n) (let z : 0 < length initials - n = omega arith in z) ∙ ap (moveAs n d) (sym (move-start M store (held n d c) e))
     where
-      go : (k : ℕ) → 0 < k → Pushes (newFrame (n + 1) 1 (getD initials n 0) 0 0) ≡ moveAs n d (moveStart M n k)
+      go : (k : ℕ) → 0 < k → Pushes (newFrame (n + 1) 1 (getD initials n 0) 0 0 0) ≡ moveAs n d (moveStart M n k)
       go zero z = absurd (omega arith)
-      go (suc k) z = ap (λ (j : ℕ). Pushes (newFrame (n + 1) (suc j) (getD initials n 0) 0 0)) (sym e)
+      go (suc k) z = ap (λ (j : ℕ). Pushes (newFrame (n + 1) (suc j) (getD initials n 0) 0 0 0)) (sym e)
 
-  untried-is : (f : F.Frame Passed) → untried M f ≡ below (suc (f .state)) (arcsAs arcs) - f .next
+  untried-is : (f : F.Frame (Passed × ℕ)) → untried M f ≡ below (suc (f .state)) (arcsAs arcs) - f .next
   untried-is f = let h = below-rises (f .state) (arcsAs arcs) in let z : (below (f .state) (arcsAs arcs) + (below (suc (f .state)) (arcsAs arcs) - below (f .state) (arcsAs arcs))) - f .next ≡ below (suc (f .state)) (arcsAs arcs) - f .next = omega arith in z
 
   module _ (d k : ℕ) (e : d ≡ suc k) where
-    abbrev f : F.Frame Passed
+    abbrev f : F.Frame (Passed × ℕ)
     f = lookAt c k
 
     abbrev end : ℕ
@@ -92,31 +122,39 @@ module _ (s : Setup) (classes : List (List ℕ)) (initials arcs upper lower : Li
       a = arcOf arcs (f .next)
 
       abbrev o : Option Passed
-      o = followIn s classes upper lower a (f .datum)
+      o = followIn s classes upper lower a (f .datum .0)
 
       arc-is : getD (arcsAs arcs) (f .next) noArc ≡ a
       arc-is = getD-arcs (arcCount arcs) arcs (f .next) noArc w
 
-      tries : move M store (held n d c) ≡ tryArc M f o
+      tries : move M store (held n d c) ≡ tryArc M f (under (s .ceiling) (f .datum .1) (a .penalty) o)
       tries = at-top (suc (pred (end - f .next))) (untried-is f ∙ (let z : end - f .next ≡ suc (pred (end - f .next)) = omega arith in z))
-          ∙ ap (tryArc M f) (ap (λ (x : Arc). followAt t (queryBy s upper lower) x (f .datum)) arc-is ∙ follow-is s r t upper lower a (f .datum))
+          ∙ ap (tryArc M f) (ap (λ (x : Arc). under (s .ceiling) (f .datum .1) (x .penalty) (followAt t (queryBy s upper lower) x (f .datum .0))) arc-is ∙ ap (under (s .ceiling) (f .datum .1) (a .penalty)) (follow-is s r t upper lower a (f .datum .0)))
 
       skips-is : Fails ≡ fitOf o → Skips ≡ moveAs n d (move M store (held n d c))
       skips-is z = go o z ∙ ap (moveAs n d) (sym tries)
         where
-          go : (x : Option Passed) → Fails ≡ fitOf x → Skips ≡ moveAs n d (tryArc M f x)
+          go : (x : Option Passed) → Fails ≡ fitOf x → Skips ≡ moveAs n d (tryArc M f (under (s .ceiling) (f .datum .1) (a .penalty) x))
           go none z = refl
           go (some v) z = absurd (let y : _≡_ {A = ℕ} 0 1 = cc in omega arith)
 
-      pushes-is : (u l : ℕ) → Fits u l ≡ fitOf o → Pushes (newFrame n (suc d) (a .target) u l) ≡ moveAs n d (move M store (held n d c))
+      -- the sum after the arc
+      abbrev sum : ℕ
+      sum = f .datum .1 + a .penalty
+
+      pushes-is : (u l : ℕ) → Fits u l ≡ fitOf o → pushIf n (suc d) (a .target) (passedOf u l) (summed (s .ceiling) (f .datum .1) (a .penalty)) ≡ moveAs n d (move M store (held n d c))
       pushes-is u l z = go o z ∙ ap (moveAs n d) (sym tries)
         where
-          go : (x : Option Passed) → Fits u l ≡ fitOf x → Pushes (newFrame n (suc d) (a .target) u l) ≡ moveAs n d (tryArc M f x)
+          by-sum : (v : Passed) → u ≡ v .up → l ≡ v .low → (b : Bool) → pushIf n (suc d) (a .target) (passedOf u l) (somewhen b sum) ≡ moveAs n d (tryArc M f (somewhen b (v, sum)))
+          by-sum v p q false = refl
+          by-sum v p q true =
+              ap (λ (x : Arc). Pushes (newFrame n (suc d) (x .target) u l sum)) (sym arc-is)
+              ∙ ap₂ (λ (x y : ℕ). Pushes (newFrame n (suc d) (getD (arcsAs arcs) (f .next) noArc .target) x y sum)) p q
+
+          go : (x : Option Passed) → Fits u l ≡ fitOf x
+              → pushIf n (suc d) (a .target) (passedOf u l) (summed (s .ceiling) (f .datum .1) (a .penalty)) ≡ moveAs n d (tryArc M f (under (s .ceiling) (f .datum .1) (a .penalty) x))
           go none z = absurd (let y : _≡_ {A = ℕ} 0 1 = cc in omega arith)
-          go (some v) z =
-              let p : u ≡ v .up = cc in
-              let q : l ≡ v .low = cc in
-              ap (λ (x : Arc). Pushes (newFrame n (suc d) (x .target) u l)) (sym arc-is) ∙ ap₂ (λ (x y : ℕ). Pushes (newFrame n (suc d) (getD (arcsAs arcs) (f .next) noArc .target) x y)) p q
+          go (some v) z = by-sum v (cc) (cc) (leb sum (s .ceiling))
 
   -- the same by the frame that the code looked at
   module _ (first : List ℕ) (d : ℕ) (T : Top first initials arcs n d c) (z : d ≡ 0 → ⊥) (g : Frame) (E : g ≡ frameOf (lookAt c (d - 1))) where
@@ -141,6 +179,9 @@ module _ (s : Setup) (classes : List (List ℕ)) (initials arcs upper lower : Li
     pub drops-by : getD first (g .state + 1) 0 ≤ g .next → Drops ≡ moveAs n d (move M store (held n d c))
     drops-by h = drops-is d (d - 1) top-is (omega (arith, next-is, end-is))
 
+    pub sum-small : lookAt c (d - 1) .datum .1 ≤ mostCeiling
+    sum-small = bounds .sum-small
+
     pub count-small : (side : Side) → passed (passedOf (g .up) (g .low)) side < 4294967295
     count-small side = omega (arith, ap (λ (x : Frame). passed (passedOf (x .up) (x .low)) side) E, bounds .counts-small side)
 
@@ -162,12 +203,14 @@ module _ (s : Setup) (classes : List (List ℕ)) (initials arcs upper lower : Li
         pub arc-alike : Alike (arcSaid a)
         arc-alike = subst Alike (sym arc-was) (bounds .next-alike (bounds .next-in untried-arc))
 
-        fit-is : fitted ≡ fitOf (followIn s classes upper lower (arcOf arcs (lookAt c (d - 1) .next)) (lookAt c (d - 1) .datum))
+        fit-is : fitted ≡ fitOf (followIn s classes upper lower (arcOf arcs (lookAt c (d - 1) .next)) (lookAt c (d - 1) .datum .0))
         fit-is = ap₂ (λ (x : Arc) (y : Passed). fitOf (followIn s classes upper lower x y)) arc-was (ap (λ (x : Frame). passedOf (x .up) (x .low)) E)
 
         pub skips-by : Fails ≡ fitted → Skips ≡ moveAs n d (move M store (held n d c))
         skips-by y = skips-is d (d - 1) top-is untried-arc (bounds .next-in untried-arc) r (y ∙ fit-is)
 
-        pub pushes-by : (k u l : ℕ) → k ≡ suc d → Fits u l ≡ fitted → Pushes (newFrame n k (a .target) u l) ≡ moveAs n d (move M store (held n d c))
-        pushes-by k u l z y =
-            ap₂ (λ (j : ℕ) (x : Arc). Pushes (newFrame n j (x .target) u l)) z arc-was ∙ pushes-is d (d - 1) top-is untried-arc (bounds .next-in untried-arc) r u l (y ∙ fit-is)
+        pub pushes-by : (u l : ℕ) → Fits u l ≡ fitted
+            → pushIf n (suc d) (a .target) (passedOf u l) (summed (s .ceiling) (lookAt c (d - 1) .datum .1) (a .penalty)) ≡ moveAs n d (move M store (held n d c))
+        pushes-by u l y =
+            ap (λ (x : Arc). pushIf n (suc d) (x .target) (passedOf u l) (summed (s .ceiling) (lookAt c (d - 1) .datum .1) (x .penalty))) arc-was
+            ∙ pushes-is d (d - 1) top-is untried-arc (bounds .next-in untried-arc) r u l (y ∙ fit-is)

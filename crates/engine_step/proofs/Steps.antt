@@ -45,14 +45,14 @@ module _ (t : Table) (q : Query) where
   madeAs l d c (Pushes x) e = pushed (machine t q) store (ltb d (roomIn c)) l e
 
   module _ (n : ℕ) (c : List ℕ) where
-    abbrev by : ℕ → S.Move (F.Frame Passed)
+    abbrev by : ℕ → S.Move (F.Frame (Passed × ℕ))
     by d = moveBy (machine t q) n (framesOf store c d)
 
     effect-start : (k : ℕ) → 0 < k → effect (machine t q) store (moveStart (machine t q) n k) (held n 0 c) ≡ effectAs n 0 c (moveAs n 0 (moveStart (machine t q) n k))
     effect-start zero h = absurd (omega arith)
-    effect-start (suc k) h = ap (λ (m : ℕ). held m 1 (putAt c 0 (entering (machine t q) (getD (t .initials) n 0) nothingPassed))) (let e : suc n ≡ n + 1 = omega arith in e)
+    effect-start (suc k) h = ap (λ (m : ℕ). held m 1 (putAt c 0 (entering (machine t q) (getD (t .initials) n 0) (nothingPassed, 0)))) (let e : suc n ≡ n + 1 = omega arith in e)
 
-    effect-arc : (d : ℕ) (o : Option Passed) → effect (machine t q) store (tryArc (machine t q) (lookAt c d) o) (held n (suc d) c) ≡ effectAs n (suc d) c (moveAs n (suc d) (tryArc (machine t q) (lookAt c d) o))
+    effect-arc : (d : ℕ) (o : Option (Passed × ℕ)) → effect (machine t q) store (tryArc (machine t q) (lookAt c d) o) (held n (suc d) c) ≡ effectAs n (suc d) c (moveAs n (suc d) (tryArc (machine t q) (lookAt c d) o))
     effect-arc d none = refl
     effect-arc d (some x) = refl
 
@@ -72,7 +72,7 @@ module _ (t : Table) (q : Query) where
         by-start (suc k) h e = let z : _≡_ {A = ℕ} 0 1 = cc in omega arith
     not-over (suc d) h = by-top (untried (machine t q) (lookAt c d))
       where
-        by-arc : (o : Option Passed) → tryArc (machine t q) (lookAt c d) o ≡ S.over → ⊥
+        by-arc : (o : Option (Passed × ℕ)) → tryArc (machine t q) (lookAt c d) o ≡ S.over → ⊥
         by-arc none e = let z : _≡_ {A = ℕ} 0 1 = cc in omega arith
         by-arc (some x) e = let z : _≡_ {A = ℕ} 0 1 = cc in omega arith
 
@@ -80,7 +80,7 @@ module _ (t : Table) (q : Query) where
         by-top zero e = let z : _≡_ {A = ℕ} 0 1 = cc in omega arith
         by-top (suc k) e = by-arc (machine t q .follow (lookAt c d .next) (lookAt c d .datum)) e
 
-    made-by : (l d : ℕ) (m : S.Move (F.Frame Passed)) → (m ≡ S.over → ⊥) → made (machine t q) store l (held n d c) m ≡ madeAs l d c (moveAs n d m) (effect (machine t q) store m (held n d c))
+    made-by : (l d : ℕ) (m : S.Move (F.Frame (Passed × ℕ))) → (m ≡ S.over → ⊥) → made (machine t q) store l (held n d c) m ≡ madeAs l d c (moveAs n d m) (effect (machine t q) store m (held n d c))
     made-by l d S.over h = absurd (h refl)
     made-by l d S.drops h = refl
     made-by l d (S.begins g) h = refl
@@ -101,7 +101,7 @@ module _ (t : Table) (q : Query) where
       step-as l r e =
           made-by l d (by d) (not-over d h) ∙ ap (madeAs l d c (moveAs n d (by d))) (effect-by d h) ∙ ap (λ (x : Move). madeAs l d c x (effectAs n d c x)) (sym e)
 
-      room-for : (N : ℕ) → d < N → (m : S.Move (F.Frame Passed)) → RoomFor N d m
+      room-for : (N : ℕ) → d < N → (m : S.Move (F.Frame (Passed × ℕ))) → RoomFor N d m
       room-for N k S.over = tt
       room-for N k S.drops = tt
       room-for N k (S.begins g) = k

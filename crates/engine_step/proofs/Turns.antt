@@ -20,10 +20,11 @@ use Rattle.machine.specs.Step.{Stepped, moves, finds, refuses, triedOf, move, p
 use Rattle.machine.specs.Transducer.{Passed, member}
 use Rattle.machine.specs.Stack.{roomIn, lookAt, putAt, store}
 use Rattle.machine.proofs.Frames.{accepts-top}
+use Rattle.machine.specs.Reading.{movedTo}
 use Rattle.machine.specs.Place.{Placed, Good}
 use Rattle.machine.proofs.Range.{in-range}
 use Rattle.machine.proofs.Stack.{store-laws}
-use Rattle.machine.proofs.Transducer.{written-length}
+use Rattle.machine.proofs.Penalties.{written-length}
 use Rattle.engine_frames.specs.declared.Setup.{Setup}
 use Rattle.engine_frames.specs.Sides.{doneBy, writtenOf}
 use Rattle.engine_frames.specs.Output.{Tried, lettersBy}
@@ -38,7 +39,7 @@ use Rattle.engine_step.specs.declared.Move.the-variants.{Drops, Skips, P
 use Rattle.engine_step.specs.declared.Turn.{Turn}
 use Rattle.engine_step.specs.declared.Turn.the-variants.{Moved, Finds, Refused}
 use Rattle.engine_step.specs.Setting.{queryBy, tableBy, machineBy, held, Prepared}
-use Rattle.engine_step.specs.Stepping.{moveAs, afterPush, runBy, TurnIs}
+use Rattle.engine_step.specs.Stepping.{moveAs, afterPush, TurnIs}
 use Rattle.engine_step.proofs.Moves.{begins-is}
 use Rattle.engine_step.proofs.Steps.{effectAs, step-as, push-good, refused-is, enters-are, PathIs, Found, accepts-are}
 use Rattle.engine_step.proofs.Bounds.{done-is, written-is, rules, first-length, first-at, output-letters, tried-of, top-of}
@@ -49,14 +50,14 @@ unfolding move
 same-move s classes initials terminals arcs upper lower h = refl
 
 -- the frame that was pushed is the top one
-entered-top : (c : List ℕ) (d : ℕ) (f : F.Frame Passed) → d < roomIn c → lookAt (enteredAt c d f) d ≡ f
+entered-top : (c : List ℕ) (d : ℕ) (f : F.Frame (Passed × ℕ)) → d < roomIn c → lookAt (enteredAt c d f) d ≡ f
 entered-top c d f h = store-laws .look-same (triedBelow c d) d f (let z = tried-length c d in omega arith)
 
 -- what a step makes of a push, where the run after it has m initial states started and depth d
-abbrev pub turnAs : ℕ → ℕ → ℕ → Verdict → Turn
-turnAs task m d (Met.Refused cause) = Refused cause
-turnAs task m d Enters = Moved (runBy task m d)
-turnAs task m d (Accepts k) = Finds (runBy task m d) k
+abbrev pub turnAs : Run → ℕ → ℕ → Verdict → Turn
+turnAs run m d (Met.Refused cause) = Refused cause
+turnAs run m d Enters = Moved (movedTo run m d)
+turnAs run m d (Accepts k) = Finds (movedTo run m d) k
 
 pub finds-ap : {a b : Run} (k : ℕ) → a ≡ b → Finds a k ≡ Finds b k
 finds-ap k e = ap (λ (r : Run). Finds r k) e
@@ -71,7 +72,7 @@ module _ {s : Setup} {classes : List (List ℕ)} {first initials terminals arcs 
   abbrev M : Machine
   M = machineBy s classes initials terminals arcs upper lower
 
-  module _ (task n d : ℕ) (c : List ℕ) (G : Good M store (roomIn c) (held n d c)) (left : d ≡ 0 → n < length initials) where
+  module _ (run : Run) (n d : ℕ) (c : List ℕ) (G : Good M store (roomIn c) (held n d c)) (left : d ≡ 0 → n < length initials) where
     -- what the code tells, by a machine without terminal states
     abbrev told : Move
     told = moveAs n d (move (machineBy s classes initials [] arcs upper lower) store (held n d c))
@@ -80,15 +81,15 @@ module _ {s : Setup} {classes : List (List ℕ)} {first initials terminals arcs 
     tells r e = e ∙ ap (moveAs n d) (same-move s classes initials terminals arcs upper lower (held n d c))
 
     module _ (b : List ℕ) where
-      turn-by : (x : Stepped (List ℕ)) (r : Turn) (e o : List ℕ) → step M store (length b) (held n d c) ≡ x → TurnIs task x c b r e o → TurnIs task (step M store (length b) (held n d c)) c b r e o
-      turn-by x r e o k T = subst (λ (y : Stepped (List ℕ)). TurnIs task y c b r e o) (sym k) T
+      turn-by : (x : Stepped (List ℕ)) (r : Turn) (e o : List ℕ) → step M store (length b) (held n d c) ≡ x → TurnIs run x c b r e o → TurnIs run (step M store (length b) (held n d c)) c b r e o
+      turn-by x r e o k T = subst (λ (y : Stepped (List ℕ)). TurnIs run y c b r e o) (sym k) T
 
-      pub drop-turn : Drops ≡ told → (r : Run) → r ≡ runBy task n (d - 1) → TurnIs task (step M store (length b) (held n d c)) c b (Moved r) c b
+      pub drop-turn : Drops ≡ told → (r : Run) → r ≡ movedTo run n (d - 1) → TurnIs run (step M store (length b) (held n d c)) c b (Moved r) c b
       drop-turn e r k =
           turn-by (moves (held n (pred d) c)) _ _ _ (step-as t q n c d left (length b) Drops (tells Drops e))
-          (ap Moved (k ∙ ap (runBy task n) (let z : d - 1 ≡ pred d = omega arith in z)), refl, refl)
+          (ap Moved (k ∙ ap (movedTo run n) (let z : d - 1 ≡ pred d = omega arith in z)), refl, refl)
 
-      pub skip-turn : Skips ≡ told → (e : List ℕ) → e ≡ putAt c (d - 1) (triedOf (lookAt c (d - 1))) → TurnIs task (step M store (length b) (held n d c)) c b (Moved (runBy task n d)) e b
+      pub skip-turn : Skips ≡ told → (e : List ℕ) → e ≡ putAt c (d - 1) (triedOf (lookAt c (d - 1))) → TurnIs run (step M store (length b) (held n d c)) c b (Moved (movedTo run n d)) e b
       skip-turn k e h =
           turn-by (moves (effectAs t q n d c Skips)) _ _ _ (step-as t q n c d left (length b) Skips (tells Skips k))
           (refl, h ∙ ap (λ (j : ℕ). putAt c j (triedOf (lookAt c j))) (let z : d - 1 ≡ pred d = omega arith in z), refl)
@@ -111,7 +112,7 @@ module _ {s : Setup} {classes : List (List ℕ)} {first initials terminals arcs 
     skip-next k j = top-of R n d c G left .top-in k j .next-small
 
     -- a push adds a frame to those that there are
-    push-depth : (e : NewFrame) (v : S.Move (F.Frame Passed)) → Pushes e ≡ moveAs n d v → e .depth ≡ suc d
+    push-depth : (e : NewFrame) (v : S.Move (F.Frame (Passed × ℕ))) → Pushes e ≡ moveAs n d v → e .depth ≡ suc d
     push-depth e S.over z = absurd (let y : _≡_ {A = ℕ} 0 1 = cc in omega arith)
     push-depth e S.drops z = absurd (let y : _≡_ {A = ℕ} 0 1 = cc in omega arith)
     push-depth e (S.begins g) z = cc
@@ -119,8 +120,8 @@ module _ {s : Setup} {classes : List (List ℕ)} {first initials terminals arcs 
     push-depth e (S.pushes f g) z = cc
 
     module _ (b : List ℕ) (e : NewFrame) (E : Pushes e ≡ told) where
-      abbrev f : F.Frame Passed
-      f = entering M (e .state) (passedIn e)
+      abbrev f : F.Frame (Passed × ℕ)
+      f = entering M (e .state) (passedIn e, e .sum)
 
       abbrev after : Held (List ℕ)
       after = afterPush t q d c e
@@ -137,7 +138,7 @@ module _ {s : Setup} {classes : List (List ℕ)} {first initials terminals arcs 
 
         placed : Placed M (e .started) (f ∷ framesOf store (enteredAt c d f) d)
         placed =
-            subst (λ (g : F.Frame Passed). Placed M (e .started) (g ∷ framesOf store (enteredAt c d f) d)) top
+            subst (λ (g : F.Frame (Passed × ℕ)). Placed M (e .started) (g ∷ framesOf store (enteredAt c d f) d)) top
             (push-good t q n c d left (roomIn c) G room e (tells _ E) .placed)
 
         accepts-after : accepts M (pathOf M store after) ≡ accepting
@@ -147,7 +148,7 @@ module _ {s : Setup} {classes : List (List ℕ)} {first initials terminals arcs 
 
         length-after : length (output M (pathOf M store after)) ≡ count
         length-after =
-            written-length t q (walkTo (e .started) (framesOf store (enteredAt c d f) d)) (passedIn e) (placed .datum-is) ∙ written-is s (R .reads-some) upper lower (passedIn e)
+            written-length t q (walkTo (e .started) (framesOf store (enteredAt c d f) d)) (passedIn e, e .sum) (placed .datum-is) ∙ written-is s (R .reads-some) upper lower (passedIn e)
 
         in-states : e .state < s .states
         in-states = in-range t q (rules R) (e .started) f (framesOf store (enteredAt c d f) d) placed .state-in
@@ -173,7 +174,7 @@ module _ {s : Setup} {classes : List (List ℕ)} {first initials terminals arcs 
       pushes : step M store (length b) (held n d c) ≡ pushed M store (ltb d (roomIn c)) (length b) after
       pushes = step-as t q n c d left (length b) (Pushes e) (tells (Pushes e) E)
 
-      refuse-turn : (cause : StateCause) → Met.Refused cause ≡ verdict → (g o : List ℕ) → g ≡ c → o ≡ b → TurnIs task (step M store (length b) (held n d c)) c b (Refused cause) g o
+      refuse-turn : (cause : StateCause) → Met.Refused cause ≡ verdict → (g o : List ℕ) → g ≡ c → o ≡ b → TurnIs run (step M store (length b) (held n d c)) c b (Refused cause) g o
       refuse-turn cause v g o y z =
           turn-by b (refuses (State cause)) _ _ _ (pushes ∙ refused-is t q after (length b) count accepting (ltb d (roomIn c)) facts cause v) (refl, y, z)
 
@@ -181,7 +182,7 @@ module _ {s : Setup} {classes : List (List ℕ)} {first initials terminals arcs 
         cells-is : d < roomIn c → g ≡ enteredAt c d f
         cells-is room = entered ∙ ap (enteredAt c d) (frame-is room)
 
-        enter-turn : Enters ≡ verdict → (o : List ℕ) → o ≡ b → TurnIs task (step M store (length b) (held n d c)) c b (Moved (runBy task (e .started) (suc d))) g o
+        enter-turn : Enters ≡ verdict → (o : List ℕ) → o ≡ b → TurnIs run (step M store (length b) (held n d c)) c b (Moved (movedTo run (e .started) (suc d))) g o
         enter-turn v o z =
             let X = enters-are t q after (length b) count accepting (ltb d (roomIn c)) facts v in
             turn-by b (moves after) _ _ _ (pushes ∙ X .1) (refl, cells-is (ltb-true d (roomIn c) (X .0)), z)
@@ -199,10 +200,10 @@ module _ {s : Setup} {classes : List (List ℕ)} {first initials terminals arcs 
           write-ready : Tried s arcs upper lower g d × ((k ≡ length (lettersBy s arcs upper lower g d)) × (k ≤ length b))
           write-ready = (subst (λ (l : List ℕ). Tried s arcs upper lower l d) (sym (cells-is room₀)) (tried-after room₀), (F₀ .counted ∙ ap length word-is, F₀ .has-space))
 
-          find-turn : (o : List ℕ) → o ≡ lettersBy s arcs upper lower g d ++ drop (length (lettersBy s arcs upper lower g d)) b → TurnIs task (step M store (length b) (held n d c)) c b (Finds (runBy task (e .started) (suc d)) k) g o
+          find-turn : (o : List ℕ) → o ≡ lettersBy s arcs upper lower g d ++ drop (length (lettersBy s arcs upper lower g d)) b → TurnIs run (step M store (length b) (held n d c)) c b (Finds (movedTo run (e .started) (suc d)) k) g o
           find-turn o w =
               turn-by b (finds after (output M (pathOf M store after))) _ _ _ (pushes ∙ F₀ .told) (
-                ap (Finds (runBy task (e .started) (suc d))) (F₀ .counted),
+                ap (Finds (movedTo run (e .started) (suc d))) (F₀ .counted),
                 cells-is room₀,
                 w ∙ ap (λ (l : List ℕ). l ++ drop (length l) b) (sym word-is),
               )
@@ -228,16 +229,16 @@ module _ {s : Setup} {classes : List (List ℕ)} {first initials terminals arcs 
       )
 
       push-by : (v : Verdict) (g o : List ℕ) → v ≡ verdict → g ≡ pushedCells v c d (frameIn e (getD first (e .state) 0)) → o ≡ pushedOutput v s arcs upper lower g d b
-          → TurnIs task (step M store (length b) (held n d c)) c b (turnAs task (e .started) (suc d) v) g o
+          → TurnIs run (step M store (length b) (held n d c)) c b (turnAs run (e .started) (suc d) v) g o
       push-by (Met.Refused cause) g o v y z = refuse-turn cause v g o y z
       push-by Enters g o v y z = enter-turn g y v o z
       push-by (Accepts k) g o v y z = find-turn g y k v o z
 
       -- by what the code of a push says
       pub push-turn : (v : Verdict) (g o : List ℕ) (r : Turn) → v ≡ verdictBy s terminals upper lower (e .depth - 1) e c (length b)
-          → g ≡ pushedCells v c (e .depth - 1) (frameIn e (getD first (e .state) 0)) → o ≡ pushedOutput v s arcs upper lower g (e .depth - 1) b → r ≡ turnAs task (e .started) (e .depth) v
-          → TurnIs task (step M store (length b) (held n d c)) c b r g o
+          → g ≡ pushedCells v c (e .depth - 1) (frameIn e (getD first (e .state) 0)) → o ≡ pushedOutput v s arcs upper lower g (e .depth - 1) b → r ≡ turnAs run (e .started) (e .depth) v
+          → TurnIs run (step M store (length b) (held n d c)) c b r g o
       push-turn v g o r y z w k =
-          subst (λ (i : Turn). TurnIs task (step M store (length b) (held n d c)) c b i g o) (sym (k ∙ ap (λ (i : ℕ). turnAs task (e .started) i v) after-is))
+          subst (λ (i : Turn). TurnIs run (step M store (length b) (held n d c)) c b i g o) (sym (k ∙ ap (λ (i : ℕ). turnAs run (e .started) i v) after-is))
           (push-by v g o (y ∙ ap (λ (i : ℕ). verdictBy s terminals upper lower i e c (length b)) below-is)
           (z ∙ ap (λ (i : ℕ). pushedCells v c i (frameIn e (getD first (e .state) 0))) below-is) (w ∙ ap (λ (i : ℕ). pushedOutput v s arcs upper lower g i b) below-is))

@@ -10,7 +10,7 @@ use Rattle.table_format.specs.Classes.{firstClass}
 use Rattle.table_format.specs.Rules.{keepsRules}
 use Rattle.table_format.specs.Index.{below, firstIndex}
 use Rattle.table_format.specs.Cells.{arcCount, arcOf, arcsAs}
-use Rattle.machine.specs.Query.{Task, recognition, synthesis, analysis, Side, Query}
+use Rattle.machine.specs.Query.{Task, recognition, synthesis, analysis, Side, Query, mostCeiling}
 use Rattle.machine.specs.Machine.{Machine}
 use Rattle.machine.specs.Frames.{Held}
 use Rattle.machine.specs.Transducer.{passed, machine}
@@ -25,7 +25,7 @@ taskBy false b = analysis
 
 -- the query
 abbrev pub queryBy : Setup → List ℕ → List ℕ → Query
-queryBy s upper lower = record { task = taskBy (s .up) (s .low); upperWord = upper; lowerWord = lower }
+queryBy s upper lower = record { task = taskBy (s .up) (s .low); upperWord = upper; lowerWord = lower; ceiling = s .ceiling }
 
 -- the table
 abbrev pub tableBy : Setup → List (List ℕ) → List ℕ → List ℕ → List ℕ → Table
@@ -49,15 +49,16 @@ pub record SmallWords (upper lower : List ℕ) : Type 0 where
 abbrev pub Alike : Arc → Type 0
 Alike a = ltb (a .upper) firstClass ≡ ltb (a .lower) firstClass
 
--- the table keeps the rules, `first` is its first-arc index, the task reads a side, and the words have only letters
+-- the table keeps the rules, `first` is its first-arc index, the task reads a side, the words have only letters, and the ceiling is within its limit
 pub record Prepared (s : Setup) (classes : List (List ℕ)) (first initials terminals arcs upper lower : List ℕ) : Type 0 where
   pub keeps : keepsRules (tableBy s classes initials terminals arcs) ≡ true
   pub index : first ≡ firstIndex (s .states) (arcsAs arcs)
   pub reads-some : (s .up || s .low) ≡ true
   pub words-small : SmallWords upper lower
+  pub ceiling-small : s .ceiling ≤ mostCeiling
 
 -- what is known of the frame at d: its state has its place in the index, its next arc is within the arcs and has a class on both sides or on none,
--- its counts can grow
+-- its counts and its sum can grow
 pub record InBounds (first arcs stack : List ℕ) (d : ℕ) : Type 0 where
   pub indexed : lookAt stack d .state + 1 < length first
   pub from-is : getD first (lookAt stack d .state) 0 ≡ below (lookAt stack d .state) (arcsAs arcs)
@@ -66,7 +67,8 @@ pub record InBounds (first arcs stack : List ℕ) (d : ℕ) : Type 0 where
   pub next-most : lookAt stack d .next ≤ arcCount arcs
   pub next-small : lookAt stack d .next ≤ 1024
   pub next-alike : lookAt stack d .next < arcCount arcs → Alike (arcOf arcs (lookAt stack d .next))
-  pub counts-small : (side : Side) → passed (lookAt stack d .datum) side ≤ mostFrames
+  pub counts-small : (side : Side) → passed (lookAt stack d .datum .0) side ≤ mostFrames
+  pub sum-small : lookAt stack d .datum .1 ≤ mostCeiling
 
 -- what a step may look at: the top frame, or an initial state that is left
 pub record Top (first initials arcs : List ℕ) (n d : ℕ) (stack : List ℕ) : Type 0 where

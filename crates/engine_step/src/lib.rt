@@ -1,4 +1,5 @@
 // One step of a search.
+use engine_frames::Count;
 use engine_frames::Fit;
 use engine_frames::Setup;
 use engine_frames::cells;
@@ -12,16 +13,17 @@ use table_format::FIRST_CLASS;
 ghost use mathlib.Core.Path.{_≡_};
 ghost use mathlib.Core.Bool.{true, _||_};
 ghost use mathlib.Core.List.{[]};
-ghost use Prim.Native.Nat.{suc, _<_, _≤_};
+ghost use Prim.Native.Nat.{suc, _-_, _<_, _≤_};
 ghost use lib.ListN.{length};
 ghost use Rattle.machine.specs.Step.{move, step};
-ghost use Rattle.machine.specs.Stack.{mostFrames, roomIn, store};
-ghost use Rattle.machine.specs.Reading.{heldOf};
+ghost use Rattle.machine.specs.Query.{mostCeiling};
+ghost use Rattle.machine.specs.Stack.{mostFrames, framesIn, roomIn, lookAt, store};
+ghost use Rattle.machine.specs.Reading.{heldOf, movedTo};
 ghost use Rattle.machine.specs.Place.{Good};
 ghost use Rattle.table_format.specs.Cells.{arcSaid};
-ghost use Rattle.engine_frames.specs.Sides.{fitOf, passedOf, followIn};
+ghost use Rattle.engine_frames.specs.Sides.{fitOf, passedOf, followIn, summed};
 ghost use Rattle.engine_step.specs.Setting.{SmallWords, Alike, machineBy, Prepared, Top};
-ghost use Rattle.engine_step.specs.Stepping.{moveAs, runBy, TurnIs};
+ghost use Rattle.engine_step.specs.Stepping.{pushIf, moveAs, TurnIs};
 
 // What a step is to do: a frame dropped, an arc tried that does not fit, or a frame pushed.
 pub enum Move {
@@ -76,6 +78,27 @@ fn fit(
     }
 }
 
+// The push along an arc that fits by its letters, if the sum stays within the ceiling. The top frame's sum is looked at only here, so that fewer
+// values are held before.
+fn within_ceiling(setup: Setup, arc: Arc, run: Run, stack: &[u32], up: u32, low: u32) -> Move
+    requires { ⌜ (1 ≤ run .depth) × (run .depth ≤ framesIn (now stack)) × (run .depth ≤ mostFrames) ⌝ }
+    requires { ⌜ lookAt (now stack) (run .depth - 1) .datum .1 ≤ mostCeiling ⌝ }
+    ensures { λ r. ⌜ r ≡ pushIf (run .started) (suc (run .depth)) (arc .target) (passedOf up low) (summed (setup .ceiling) (lookAt (now (stack .entry)) (run .depth - 1) .datum .1) (arc .penalty)) ⌝ }
+{
+    let f = cells::look(stack, run.depth as usize - 1);
+    match sides::add(setup.ceiling, f.sum, arc.penalty) {
+        Count::Stops => Move::Skips,
+        Count::Passes(sum) => Move::Pushes(NewFrame {
+            started: run.started,
+            depth: above(run.depth),
+            state: arc.target,
+            up,
+            low,
+            sum,
+        }),
+    }
+}
+
 // What the next step is to do.
 fn choose(
     setup: Setup,
@@ -102,6 +125,7 @@ fn choose(
             state: initials[i],
             up: 0,
             low: 0,
+            sum: 0,
         });
     }
     let f = cells::look(stack, depth as usize - 1);
@@ -114,24 +138,19 @@ fn choose(
     let arc = table_format::arc_at(arcs, next);
     match fit(setup, classes, arc, upper, lower, f.up, f.low) {
         Fit::Fails => Move::Skips,
-        Fit::Fits(up, low) => Move::Pushes(NewFrame {
-            started,
-            depth: above(depth),
-            state: arc.target,
-            up,
-            low,
-        }),
+        Fit::Fits(up, low) => within_ceiling(setup, arc, run, stack, up, low),
     }
 }
 
 // The run, moved on.
 fn at(run: Run, started: u32, depth: u32) -> Run
-    ensures { λ r. ⌜ r ≡ runBy (run .task) started depth ⌝ }
+    ensures { λ r. ⌜ r ≡ movedTo run started depth ⌝ }
 {
     Run {
         task: run.task,
         started,
         depth,
+        ceiling: run.ceiling,
     }
 }
 
@@ -152,7 +171,7 @@ pub fn step(
     requires { ⌜ Prepared setup (now classes) (now first) (now initials) (now terminals) (now arcs) (now upper) (now lower) ⌝ }
     requires { ⌜ Good (machineBy setup (now classes) (now initials) (now terminals) (now arcs) (now upper) (now lower)) store (roomIn (now stack)) (heldOf run (now stack)) ⌝ }
     requires { ⌜ (run .depth ≡ 0 → run .started < length (now initials)) ⌝ }
-    ensures { λ r. ⌜ TurnIs (run .task) (step (machineBy setup (now (classes .entry)) (now (initials .entry)) (now (terminals .entry)) (now (arcs .entry)) (now (upper .entry)) (now (lower .entry))) store (length (now (output .entry))) (heldOf run (now (stack .entry)))) (now (stack .entry)) (now (output .entry)) r (now (stack .exit)) (now (output .exit)) ⌝ }
+    ensures { λ r. ⌜ TurnIs run (step (machineBy setup (now (classes .entry)) (now (initials .entry)) (now (terminals .entry)) (now (arcs .entry)) (now (upper .entry)) (now (lower .entry))) store (length (now (output .entry))) (heldOf run (now (stack .entry)))) (now (stack .entry)) (now (output .entry)) r (now (stack .exit)) (now (output .exit)) ⌝ }
 {
     let depth = run.depth;
     match choose(

@@ -36,7 +36,7 @@ module _ (faces : List ℕ) (holds : facesHold faces ≡ true) where
   pub faces-differ : Differ faces
   unfolding facesHold
   faces-differ =
-      each-differ eqb faceHolds (λ c. eq-eqb c c refl) (λ before c e. not-true _ (and-right (leb c 126) _ (and-right (leb 33 c) _ e))) faces
+      each-differ (λ c. c) eqb faceHolds eq-eqb (λ before c e. not-true _ (and-right (leb c 126) _ (and-right (leb 33 c) _ e))) faces
       (and-right (eqb (length faces) faceCount) _ holds)
 
   pub face-tells : (x y : ℕ) → IsLetter x → IsLetter y → faceOf faces x ≡ faceOf faces y → x ≡ y

@@ -42,7 +42,7 @@ faces-are faces = (to, from)
         face k h =
             let c = getD faces k 0 in
             let p = all-at IsFace faces k 0 printable h in
-            and-both (le-leb 33 c (p .0)) (and-both (le-leb c 126 (p .1)) (ap not (differ-new eqb eqb-true faces differ 0 k h)))
+            and-both (le-leb 33 c (p .0)) (and-both (le-leb c 126 (p .1)) (ap not (differ-new (λ c. c) eqb eqb-true faces differ 0 k h)))
 
 every-all : {A : Type 0} (P : A → Type 0) (test : A → Bool) → ((x : A) → P x → test x ≡ true) → (xs : List A) → All P xs → every test xs ≡ true
 every-all P test law [] h = refl

@@ -5,7 +5,7 @@ use mathlib.Core.Path.{_≡_, refl, sym, ap, ap₂, subst, _∙_}
 use mathlib.Core.Logic.{_↔_}
 use mathlib.Core.Bool.{Bool, true, _&&_}
 use mathlib.Core.Option.{some}
-use mathlib.Core.List.{List, [], _++_}
+use mathlib.Core.List.{List, _++_}
 use lib.ListN.{length, take, drop}
 use Rattle.refusal.specs.declared.Refusal.{Refusal}
 use Rattle.destination.specs.declared.Answer.{Answer}
@@ -13,7 +13,7 @@ use Rattle.destination.specs.declared.Answer.the-variants.{Done, Refused}
 use Rattle.destination.specs.Told.{storedTold}
 use Rattle.machine.specs.declared.StartAnswer.the-variants as S
 use Rattle.machine.specs.declared.Started.{Started}
-use Rattle.machine.specs.Start.{started, StartedIs}
+use Rattle.machine.specs.Start.{StartedIs}
 use Rattle.machine.proofs.Start.{start-is}
 use Rattle.faces.specs.Faces.{facesHold}
 use Rattle.faces.specs.Lent.{mostReadings, lentBytes, readingsHold, heldAs, listHolds, listAs, listOf}
@@ -22,17 +22,17 @@ use Rattle.session_calls.specs.Calls.{mostCalls}
 use Rattle.sheet.specs.Sheet.{sheetOf, sheetSize}
 use Rattle.sheet.specs.Calls.{sheetHolds, writeAnswer, writeSheet}
 use Rattle.sheet.proofs.Calls.{write-is, write-leaves, write-refused, written-one}
-use Rattle.key_sheet.specs.Key.{Key, key, refused, keyFrom, firstStack, firstOutput, keyStarted, synthesisTask, keyOf}
+use Rattle.key_sheet.specs.Key.{Key, key, refused, keyFrom, firstStack, firstOutput, keyStarted, startOf, keyOf}
 use Rattle.key_sheet.specs.declared.Gathered.{Gathered}
 use Rattle.key_sheet.specs.Gathered.{GatheredIs}
 use Rattle.key_sheet.specs.Calls.{answerFor, sheetFor, keyAnswer, keySheet}
 
 -- the key by what the start gives
-module _ (cells word : List ℕ) (s : Started) (I : StartedIs (started cells synthesisTask word []) s) where
+module _ (cells word : List ℕ) (s : Started) (I : StartedIs (startOf cells word) s) where
   key-started : keyOf cells word ≡ keyStarted cells word (s .answer) (s .run)
   unfolding keyOf
   key-started =
-      let same : s ≡ started cells synthesisTask word [] = start-is I in
+      let same : s ≡ startOf cells word = start-is I in
       sym (ap (λ (x : Started). keyStarted cells word (x .answer) (x .run)) same)
 
   pub start-refused : {r : Refusal} → s .answer ≡ S.Refused r → keyOf cells word ≡ refused r

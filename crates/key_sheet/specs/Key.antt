@@ -1,5 +1,5 @@
 -- The key of a word over a loaded table: the readings that calls in synthesis give, one after another, and whether they came to the end, within the
--- session's limits: 1,000 readings, 65,536 calls of 1,000 steps.
+-- session's limits: 1,000 readings, 65,536 calls of 1,000 steps, a ceiling of 100,000.
 use Prim.Native.Nat.{ℕ, zero, suc, _*_}
 use mathlib.Core.Bool.{Bool, true, false}
 use mathlib.Core.List.{List, [], _∷_}
@@ -8,6 +8,8 @@ use Rattle.refusal.specs.declared.Refusal.{Refusal}
 use Rattle.machine.specs.declared.Run.{Run}
 use Rattle.machine.specs.declared.StartAnswer.{StartAnswer}
 use Rattle.machine.specs.declared.StartAnswer.the-variants as S
+use Rattle.machine.specs.declared.Started.{Started}
+use Rattle.machine.specs.Query.{mostCeiling}
 use Rattle.machine.specs.Stack.{frameWidth}
 use Rattle.machine.specs.Start.{started}
 use Rattle.faces.specs.Lent.{mostReadings}
@@ -62,5 +64,9 @@ keyStarted cells word (S.Refused r) run = refused r
 abbrev pub synthesisTask : ℕ
 synthesisTask = 2
 
+-- the start, under the session's ceiling
+abbrev pub startOf : (cells word : List ℕ) → Started
+startOf cells word = started cells synthesisTask word [] mostCeiling
+
 unfoldable pub keyOf : (cells word : List ℕ) → Key
-keyOf cells word = keyStarted cells word (started cells synthesisTask word [] .answer) (started cells synthesisTask word [] .run)
+keyOf cells word = keyStarted cells word (startOf cells word .answer) (startOf cells word .run)

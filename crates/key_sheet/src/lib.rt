@@ -102,7 +102,7 @@ pub fn write(table: &[u16], word: &[u8], faces: &[u8; FACES], sheet: &mut [u8]) 
     ensures { λ r. ⌜ (storedTold r ≡ storedTold (keyAnswer (now (table .entry)) (now (word .entry)) (now (faces .entry)) (now (sheet .entry))))
         × (now (sheet .exit) ≡ keySheet (now (table .entry)) (now (word .entry)) (now (faces .entry)) (now (sheet .entry))) ⌝ }
 {
-    let started = engine_start::start(table, SYNTHESIS, word, &[]);
+    let started = engine_start::start(table, SYNTHESIS, word, &[], machine::MOST_CEILING);
     let answer = started.answer;
     if let StartAnswer::Refused(refusal) = answer {
         return Answer::Refused(refusal);

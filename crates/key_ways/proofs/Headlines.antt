@@ -16,7 +16,7 @@ use Rattle.machine.specs.declared.Started.{Started}
 use Rattle.machine.specs.declared.StartAnswer.the-variants.{Ready}
 use Rattle.machine.specs.Query as query
 use Rattle.machine.specs.Tour.{treeSize}
-use Rattle.machine.specs.Start.{started, StartedIs}
+use Rattle.machine.specs.Start.{StartedIs}
 use Rattle.utf8.specs.Utf8.{encoded}
 use Rattle.alphabet.specs.Letters.{smallOf}
 use Rattle.alphabet.specs.Shown.{faceTable, shownAs, shown}
@@ -35,15 +35,14 @@ use Rattle.trie_format.proofs.Headlines.{trie-cells}
 use Rattle.trie.specs.Calls.{buildAnswer, buildCells}
 use Rattle.trie.proofs.Headlines as tries
 use Rattle.segmentation.specs.Ways.{waysToCut, joined, Way}
-use Rattle.segmentation.specs.Readings.{treeMachine}
 use Rattle.segmentation.proofs.Headlines as cutting
 use Rattle.wordlist_lines.specs.Facts.{Unfed}
 use Rattle.wordlist_spelling.specs.Facts.{Spells}
 use Rattle.wordlist.specs.Gathered.{taken, fate}
 use Rattle.wordlist.proofs.Headlines as wordlists
-use Rattle.key_sheet.specs.Key.{refused, keyOf}
+use Rattle.key_sheet.specs.Key.{refused, startOf, keyOf}
 use Rattle.key_sheet.specs.Calls.{keyAnswer, keySheet}
-use Rattle.key_ways.specs.Shows.{KeyCalls, treeCells, KeyShows}
+use Rattle.key_ways.specs.Shows.{KeyCalls, treeCells, keyMachine, KeyShows}
 use Rattle.key_ways.specs.Told.{KeyWritten, KeyTold}
 use Rattle.key_ways.specs.Printed.{printedFor, KeyPrinted, wordText, wayText, PrintTold, LineWay}
 use Rattle.key_ways.proofs.KeyCalls as calls
@@ -58,7 +57,7 @@ use Rattle.key_ways.proofs.Printing as printing
 
 -- THE CALLS behind a key, over any cells: after a start without a refusal they are handed on as demand 3 says, and bring the key's readings, and its
 -- end or its refusal.
-pub key-calls : (cells w : List ℕ) (s : Started) → StartedIs (started cells 2 w []) s → s .answer ≡ Ready → KeyCalls cells w (s .run) (keyOf cells w)
+pub key-calls : (cells w : List ℕ) (s : Started) → StartedIs (startOf cells w) s → s .answer ≡ Ready → KeyCalls cells w (s .run) (keyOf cells w)
 key-calls = calls.key-calls
 
 -- OVER A WORD LIST: bytes that are taken for a list, cells that begin with its table's, and a word of 1 to 64 letters from 1 to 63.
@@ -82,7 +81,7 @@ module _ (bytes : List ℕ) (ws : List Word) (taken : TakenAs bytes ws) where
     key-shows = showing.key-shows ws kept rest x v good
 
     -- A word of fewer than 1,000 ways, whose search tree's size is below 64,537,000, has a key that ends.
-    pub end-comes : length (waysToCut ws w) < 1000 → treeSize (treeMachine ws w) < 64537000 → key-shows .ended ≡ true
+    pub end-comes : length (waysToCut ws w) < 1000 → treeSize (keyMachine ws w) < 64537000 → key-shows .ended ≡ true
     end-comes few small = showing.end-comes ws w (keyOf cells w) key-shows few small
 
     sheet-room : (faces : List ℕ) → length (sheetOf faces (key-shows .readings) (key-shows .ended)) ≤ 146146
@@ -142,7 +141,7 @@ module _ (bytes : List ℕ) (ws : List Word) (taken : TakenAs bytes ws) where
       print-last = ap lastWordIn print-is ∙ in-lines.last-in-print faceTable (key-shows .readings) (key-shows .ended) ∙ sym (ap lastWordIn (key-done faceTable d (P .size) (P .written) .1))
 
       -- it ends with END for a word of fewer than 1,000 ways, whose search tree's size is below 64,537,000,
-      pub print-comes : length (waysToCut ws w) < 1000 → treeSize (treeMachine ws w) < 64537000 → lastWordIn text ≡ End
+      pub print-comes : length (waysToCut ws w) < 1000 → treeSize (keyMachine ws w) < 64537000 → lastWordIn text ≡ End
       print-comes ways small =
           ap lastWordIn print-is
           ∙ in-lines.last-in-print faceTable (key-shows .readings) (key-shows .ended)
@@ -228,8 +227,8 @@ pub printed-one : (line other sheet against : List ℕ) → Unfed line → Unfed
     → printedFor line sheet ≡ printedFor other against → (line ≡ other) × (sheet ≡ against)
 printed-one = printing.printed-one
 
--- FROM THE LIST'S TEXT TO THE PRINT: a text that is taken, whose table is built in 2,428 cells or more, and lines of an exam.
-module _ (list : List ℕ) (ws : List Word) (gathered : fate list ≡ taken ws) (b : List ℕ) (room : 2428 ≤ length b) where
+-- FROM THE LIST'S TEXT TO THE PRINT: a text that is taken, whose table is built in 2,938 cells or more, and lines of an exam.
+module _ (list : List ℕ) (ws : List Word) (gathered : fate list ≡ taken ws) (b : List ℕ) (room : 2938 ≤ length b) where
   bytes-taken : TakenAs (spelled ws) ws
   bytes-taken = wordlists.list-taken list ws gathered
 
@@ -265,7 +264,7 @@ module _ (list : List ℕ) (ws : List Word) (gathered : fate list ≡ taken ws) 
         (_, print-done (spelled ws) ws bytes-taken behind x v (printing.line-good spells few) d t h k)
 
     -- the print ends with END where the word has fewer than 1,000 ways and the search tree's size is below 64,537,000,
-    pub printed-comes : (d t text : List ℕ) → KeyPrinted built (x ∷ v) d t text → length (waysToCut ws (x ∷ v)) < 1000 → treeSize (treeMachine ws (x ∷ v)) < 64537000
+    pub printed-comes : (d t text : List ℕ) → KeyPrinted built (x ∷ v) d t text → length (waysToCut ws (x ∷ v)) < 1000 → treeSize (keyMachine ws (x ∷ v)) < 64537000
         → lastWordIn text ≡ End
     printed-comes d t text P = print-comes (spelled ws) ws bytes-taken behind x v (printing.line-good spells few) d t text (over-tree (x ∷ v) d t text P)
 

@@ -17,14 +17,15 @@ use Rattle.machine.specs.declared.Started.{Started}
 use Rattle.machine.specs.declared.StartAnswer.{StartAnswer}
 use Rattle.machine.specs.declared.StartAnswer.the-variants.{Ready}
 use Rattle.machine.specs.Answer.{told, outputTold}
-use Rattle.machine.specs.Start.{started, StartedIs}
+use Rattle.machine.specs.Query.{mostCeiling}
+use Rattle.machine.specs.Start.{StartedIs}
 use Rattle.machine.specs.Stack.{framesIn}
 use Rattle.machine.specs.Reading.{Outcome, outcome}
 use Rattle.machine.specs.Demand.{Lent, usedOf, oneUnlessEnded, runAfter, usedAfter, received, LastEnds}
 use Rattle.machine.proofs.Start.{start-is, ready-facts}
 use Rattle.session_calls.specs.Calls.{callSteps, mostCalls, CallsOutcome, callsOutcomeBy, callsOutcome}
-use Rattle.key_sheet.specs.Key.{Key, key, refused, onto, keyBy, keyFrom, firstStack, firstOutput, keyStarted, keyOf}
-use Rattle.key_ways.specs.Shows.{lentWith, LastRefused, CallsShow, CallsTell, CallsBehind, KeyCalls}
+use Rattle.key_sheet.specs.Key.{Key, key, refused, onto, keyBy, keyFrom, firstStack, firstOutput, keyStarted, startOf, keyOf}
+use Rattle.key_ways.specs.Shows.{lentWith, LastRefused, CallsTell, CallsBehind, KeyCalls}
 use Rattle.key_ways.proofs.OneCall.{OneCall, one-call}
 
 -- readings before those of a key
@@ -179,11 +180,11 @@ module _ (cells w : List ℕ) where
   from (suc n) c run used stack output J = up-to n (from n) c run used stack output J
 
   -- from a start that is ready
-  pub key-calls : (s : Started) → StartedIs (started cells 2 w []) s → s .answer ≡ Ready → KeyCalls cells w (s .run) (keyOf cells w)
+  pub key-calls : (s : Started) → StartedIs (startOf cells w) s → s .answer ≡ Ready → KeyCalls cells w (s .run) (keyOf cells w)
   unfolding keyOf
   key-calls s S e =
-      let same : s ≡ started cells 2 w [] = start-is S in
-      let R = ready-facts cells 2 w [] s S e in
+      let same : s ≡ startOf cells w = start-is S in
+      let R = ready-facts cells 2 w [] mostCeiling s S e in
       let d : s .run .depth ≡ 0 = ap (λ (r : Run). r .depth) (R .run-is) in
       subst (KeyCalls cells w (s .run)) (ap (λ (r : Started). keyStarted cells w (r .answer) (r .run)) same)
       (subst (λ (a : StartAnswer). KeyCalls cells w (s .run) (keyStarted cells w a (s .run))) (sym e)

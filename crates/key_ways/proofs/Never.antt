@@ -14,7 +14,7 @@ use Rattle.table_format.proofs.Tests.{and-left}
 use Rattle.machine.specs.declared.Run.{Run}
 use Rattle.machine.specs.declared.Answer.{Answer}
 use Rattle.machine.specs.Answer.{told}
-use Rattle.machine.specs.Query.{synthesis, wordHolds}
+use Rattle.machine.specs.Query.{synthesis, wordHolds, mostCeiling}
 use Rattle.machine.specs.Machine.{Machine, Path, accepts, output, Allowed, Bounded}
 use Rattle.machine.specs.Tour.{tour, pathsIn}
 use Rattle.machine.specs.Transducer.{lettersToRead}
@@ -26,10 +26,9 @@ use Rattle.lexicon.specs.Words.{Word}
 use Rattle.lexicon.specs.FirstBad.{Kept}
 use Rattle.trie_format.specs.Trie.{trieTable}
 use Rattle.trie_format.proofs.Headlines.{trie-rules}
-use Rattle.segmentation.specs.Readings.{synthesisOf, treeMachine}
 use Rattle.segmentation.proofs.Headlines as cutting
 use Rattle.key_sheet.specs.Key.{stackFrames, outputLetters}
-use Rattle.key_ways.specs.Shows.{Lending, LastRefused}
+use Rattle.key_ways.specs.Shows.{Lending, LastRefused, keyQuery, keyMachine}
 use Rattle.key_ways.proofs.OneCall.{one-call}
 use Rattle.key_ways.proofs.Ways.{reads, reads-length}
 
@@ -45,26 +44,26 @@ module _ (ws : List Word) (K : Kept ws) (x : ℕ) (v : Word) (good : wordHolds (
   short : length w ≤ 64
   short = leb-true _ _ (and-left _ _ good)
 
-  bounded : Bounded (treeMachine ws w)
-  bounded = machines.bound (trieTable ws) (trie-rules ws K) (synthesisOf w) (cutting.trie-no-cycle ws (K .holds) synthesis)
+  bounded : Bounded (keyMachine ws w)
+  bounded = machines.bound (trieTable ws) (trie-rules ws K) (keyQuery w) (cutting.trie-no-cycle ws (K .holds) synthesis)
 
   -- a reading has at most 127 letters
-  enough-letters : (p : Path) → Allowed (treeMachine ws w) p → accepts (treeMachine ws w) p ≡ true → length (output (treeMachine ws w) p) ≤ outputLetters
+  enough-letters : (p : Path) → Allowed (keyMachine ws w) p → accepts (keyMachine ws w) p ≡ true → length (output (keyMachine ws w) p) ≤ outputLetters
   enough-letters p A e =
-      let m = outputs-mem (treeMachine ws w) (accepting (treeMachine ws w) (pathsIn (tour (treeMachine ws w)))) p (machines.listed (treeMachine ws w) bounded .members p .1 (A, e)) in
-      let r = output (treeMachine ws w) p in
-      let k = subst (λ (l : List Word). List·Memᴰ r l) (sym (machines.readings-are (treeMachine ws w)) ∙ cutting.cuts ws (K .holds) x v) m in
+      let m = outputs-mem (keyMachine ws w) (accepting (keyMachine ws w) (pathsIn (tour (keyMachine ws w)))) p (machines.listed (keyMachine ws w) bounded .members p .1 (A, e)) in
+      let r = output (keyMachine ws w) p in
+      let k = subst (λ (l : List Word). List·Memᴰ r l) (sym (machines.readings-are (keyMachine ws w)) ∙ cutting.cuts ws (K .holds) x v mostCeiling) m in
       omega (arith, short, reads-length ws (K .holds) w r (reads ws (K .holds) w r k))
 
   -- the stack has frames enough
-  enough-frames : (lettersToRead (synthesisOf w) + 1) * trieTable ws .states ≤ stackFrames
+  enough-frames : (lettersToRead (keyQuery w) + 1) * trieTable ws .states ≤ stackFrames
   enough-frames =
-      let h : lettersToRead (synthesisOf w) + 1 ≤ 65 = omega (arith, short) in
+      let h : lettersToRead (keyQuery w) + 1 ≤ 65 = omega (arith, short) in
       mul-le-mul h (K .few)
 
   module _ (cells : List ℕ) where
     abbrev AmpleCall : Lent → Type 0
-    AmpleCall = Ample (trieTable ws) (synthesisOf w)
+    AmpleCall = Ample (trieTable ws) (keyQuery w)
 
     pub all-ample : (calls : List Lent) (run : Run) (stack output : List ℕ) → roomIn stack ≡ stackFrames → length output ≡ outputLetters → Lending cells w run stack output calls → All AmpleCall calls
     all-ample [] run stack output f l H = tt
@@ -75,7 +74,7 @@ module _ (ws : List Word) (K : Kept ws) (x : ℕ) (v : Word) (good : wordHolds (
               (C .same-room ∙ ap (λ (z : Lent). roomIn (z .stack)) (H .0) ∙ f) (C .same-letters ∙ ap (λ (z : Lent). length (z .buffer)) (H .0) ∙ l) (H .1),
         )
 
-    pub none-refused : (calls : List Lent) (n : ℕ) (run : Run) (r : Refusal) → Tells w [] (trieTable ws) (synthesisOf w) n run calls → All AmpleCall calls → LastRefused w run calls r → ⊥
+    pub none-refused : (calls : List Lent) (n : ℕ) (run : Run) (r : Refusal) → Tells w [] (trieTable ws) (keyQuery w) n run calls → All AmpleCall calls → LastRefused w run calls r → ⊥
     none-refused [] n run r T A L = L
     none-refused (y ∷ []) n run r T A L =
         ⊎-elim (T .0 .never-short (A .0 .frames) .0) (⊎-elim (T .0 .never-short (A .0 .frames) .1) (T .0 .never-full (A .0 .letters)))

@@ -34,7 +34,7 @@ module _ (t : Table) (q : Query) (run : Run) (stack : List ℕ) (n : ℕ) (buffe
   -- a call that was begun keeps them, whatever it stops at
   begun : {c : R.Replied (List ℕ)} → InSearch t q run stack → R.Stops (machine t q) store (length buffer) n (heldOf run stack) c
       → length (outputAs (c .reply) buffer) ≡ length buffer → (told (answerAs (c .reply) (c .steps)) .kind ≡ pausedKind → told (answerAs (c .reply) (c .steps)) .steps ≡ n)
-      → OneCall run stack n buffer (outcomeAs (run .task) buffer c)
+      → OneCall run stack n buffer (outcomeAs run buffer c)
   begun I s letters pauses =
       record {
         same-room = stops-good (machine t q) store (length buffer) store-laws (roomIn stack) s (begin I) .room;
@@ -55,7 +55,7 @@ module _ (t : Table) (q : Query) (run : Run) (stack : List ℕ) (n : ℕ) (buffe
 
 pub one-call : (cells upper lower : List ℕ) (run : Run) (stack : List ℕ) (n : ℕ) (buffer : List ℕ) → OneCall run stack n buffer (outcome cells upper lower run stack n buffer)
 unfolding outcome
-one-call cells upper lower run stack n buffer = go (asked cells (run .task) upper lower)
+one-call cells upper lower run stack n buffer = go (asked cells (run .task) upper lower (run .ceiling))
   where
     go : (w : Asked) → OneCall run stack n buffer (outcomeOf w run stack n buffer)
     go (turned r) = record { same-room = refl; same-letters = refl; short = λ k. k; paused = λ e. absurd (omega arith) }

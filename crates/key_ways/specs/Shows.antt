@@ -9,6 +9,8 @@ use Rattle.refusal.specs.declared.Refusal.{Refusal}
 use Rattle.faces.specs.Lent.{mostReadings}
 use Rattle.machine.specs.declared.Run.{Run}
 use Rattle.machine.specs.declared.Answer.the-variants.{Refused}
+use Rattle.machine.specs.Query.{Query, mostCeiling}
+use Rattle.machine.specs.Machine.{Machine}
 use Rattle.machine.specs.Tour.{treeSize}
 use Rattle.machine.specs.Demand.{Lent, callOn, runAfter, Handed, received, stepsTold, unended, LastEnds}
 use Rattle.session_calls.specs.Calls.{callSteps, mostCalls}
@@ -16,7 +18,7 @@ use Rattle.lexicon.specs.Words.{Word}
 use Rattle.table_format.specs.Loaded.{cellsOf}
 use Rattle.trie_format.specs.Trie.{trieTable}
 use Rattle.segmentation.specs.Ways.{waysToCut, joined}
-use Rattle.segmentation.specs.Readings.{treeMachine}
+use Rattle.segmentation.specs.Readings.{synthesisOf, treeMachine}
 use Rattle.key_sheet.specs.Key.{Key, key, refused, firstStack, firstOutput}
 
 -- THE CALLS BEHIND A KEY, over any loaded table's cells.
@@ -79,6 +81,13 @@ spentSteps = 64537000
 abbrev pub treeCells : List Word → List ℕ → List ℕ
 treeCells ws rest = cellsOf (trieTable ws) ++ rest
 
+-- what a key's run asks of the list's table, and the machine of its search
+abbrev pub keyQuery : Word → Query
+keyQuery w = synthesisOf w mostCeiling
+
+abbrev pub keyMachine : List Word → Word → Machine
+keyMachine ws w = treeMachine ws w mostCeiling
+
 -- what a key shows of a word over the letter tree of the list ws: readings, and no refusal
 pub record KeyShows (ws : List Word) (w : Word) (k : Key) : Type 0 where
   pub readings : List (List ℕ)
@@ -91,4 +100,4 @@ pub record KeyShows (ws : List Word) (w : Word) (k : Key) : Type 0 where
   -- and all of them where it ended
   pub all-ways : ended ≡ true → readings ≡ map joined (waysToCut ws w)
   -- else there are 1,000 readings, or the search tree's size is at least 64,537,000
-  pub limit : ended ≡ false → (length readings ≡ mostReadings) ⊎ (spentSteps ≤ treeSize (treeMachine ws w))
+  pub limit : ended ≡ false → (length readings ≡ mostReadings) ⊎ (spentSteps ≤ treeSize (keyMachine ws w))

@@ -5,7 +5,7 @@ use mathlib.Core.Path.{_≡_, refl, sym, ap, ap₂, subst, subst₂, _∙_}
 use mathlib.Core.Logic.{_↔_}
 use mathlib.Core.Bool.{Bool, true, false}
 use mathlib.Core.Option.{Option, some}
-use mathlib.Core.List.{[], _∷_, _++_, append-nil}
+use mathlib.Core.List.{List, [], _∷_, _++_, append-nil}
 use lib.ListN.{length, getD, length-drop}
 use lib.Seq.{drop-length}
 use borrow.Author.Tests.{eqb-true, eq-eqb}
@@ -13,14 +13,17 @@ use Rattle.table_format.specs.Table.{Arc, Table}
 use Rattle.table_format.proofs.Tests.{and-left, and-right, and-both}
 use Rattle.table_format.proofs.Ruled.{Ruled}
 use Rattle.machine.specs.Query.{Task, recognition, synthesis, analysis, Side, upperSide, lowerSide, reads, Query}
-use Rattle.machine.specs.Transducer.{member, sideWrites, sideDone, sideToRead, Passed, writesArc, doneOn, machine}
+use Rattle.machine.specs.Transducer.{member, sideWrites, sideDone, sideToRead, Passed, writesArc, doneOn, plainMachine, penaltyAt, machine}
 use Rattle.machine.specs.Machine.{Path, start, more, final, datum, listed, tested, accepts, output, Allowed}
-use Rattle.machine.specs.Report.{Kernel, Cell, Trace, null, thence, KernelPath, emptyPath, longerPath, label, arcsOf, Word, kernel, Output, bothEmpty, φ₋, φ₊, Solves}
-use Rattle.machine.specs.Agree.{place, inputOf, outputOf, TraceFor, Same}
+use Rattle.machine.specs.Report.{Kernel, Cell, Trace, null, thence, KernelPath, emptyPath, longerPath, label, arcsOf, Word, kernel, kernelUnder, Output, bothEmpty, φ₋, φ₊, Solves}
+use Rattle.machine.specs.Agree.{place, arcsBack, inputOf, outputOf, TraceFor, Same, penalties, Lowered}
 use Rattle.machine.proofs.Transducer.{at-mem, mem-at, step-parts}
+use Rattle.machine.proofs.Ceiling as ceiling
+use Rattle.machine.proofs.Penalties.{allowed-plain, output-plain}
+use Rattle.machine.proofs.Lift.{sum-arcs, lift, lower}
 use Rattle.machine.proofs.Bound.{countIf, within, has-datum}
 use Rattle.graph.proofs.Lists.{member-mem, mem-member}
-use Rattle.machine.proofs.Traces.{sideData, trace-end, letters, letters-step, dataOf, beginAt, TraceOf, PathOf, path-trace, trace-path, path-unique}
+use Rattle.machine.proofs.Traces.{sideData, trace-end, letters, letters-step, dataOf, begin, beginAt, TraceOf, PathOf, path-trace, trace-path, path-unique}
 
 -- a path that accepts with the reading x
 pub record AcceptingPath (t : Table) (q : Query) (x : Output (q .task)) : Type 0 where
@@ -113,6 +116,10 @@ abbrev unwritten : Side → Word
 unwritten s = []
 
 module _ (t : Table) (q : Query) where
+  -- report 6486's machine under the query's ceiling
+  abbrev K : Kernel
+  K = kernelUnder t (q .task) (q .ceiling)
+
   abbrev toldBy : Word × Word → Word
   toldBy e = outcome (reads (q .task) upperSide) (e .0) ++ outcome (reads (q .task) lowerSide) (e .1)
 
@@ -123,7 +130,7 @@ module _ (t : Table) (q : Query) where
   lettersOf s p = letters t q unwritten s p
 
   -- the output is what the data tell
-  output-is : (p : Path) (d : Passed) → datum (machine t q) p ≡ some d → toldBy (endOf p d) ≡ output (machine t q) p
+  output-is : (p : Path) (d : Passed) → datum (plainMachine t q) p ≡ some d → toldBy (endOf p d) ≡ output (plainMachine t q) p
   output-is (start i) d e = subst (λ (x : Passed). toldBy (endOf (start i) x) ≡ []) (cc) (told-none (q .task) (q .upperWord) (q .lowerWord))
   output-is (more p n) d e =
       let P = step-parts t q p n d e in
@@ -132,9 +139,9 @@ module _ (t : Table) (q : Query) where
       (letters-step t q unwritten upperSide p n (P .0) b (P .2) (P .3)) (letters-step t q unwritten lowerSide p n (P .0) b (P .2) (P .3))
       ∙ told-more (q .task) (q .upperWord) (q .lowerWord) (lettersOf upperSide p) (lettersOf lowerSide p) (P .0 .up) (P .0 .low) (d .up) (d .low) (b .upper) (b .lower)
       ∙ ap₂ (λ (x y : Word). x ++ y) (output-is p (P .0) (P .2))
-      (sym (ap (λ (o : Option Passed). listed o (machine t q .writes n)) (P .2) ∙ ap (λ (o : Option Arc). listed o (writesArc q)) (P .3)))
+      (sym (ap (λ (o : Option Passed). listed o (plainMachine t q .writes n)) (P .2) ∙ ap (λ (o : Option Arc). listed o (writesArc q)) (P .3)))
 
-  ends-to : (p : Path) (d : Passed) → datum (machine t q) p ≡ some d → machine t q .done d ≡ true → Ends (q .task) (endOf p d) (output (machine t q) p)
+  ends-to : (p : Path) (d : Passed) → datum (plainMachine t q) p ≡ some d → plainMachine t q .done d ≡ true → Ends (q .task) (endOf p d) (output (plainMachine t q) p)
   ends-to p d e h =
       record {
         up-done = done-to (reads (q .task) upperSide) (q .upperWord) (d .up) (lettersOf upperSide p) (and-left (doneOn q upperSide d) (doneOn q lowerSide d) h);
@@ -142,16 +149,24 @@ module _ (t : Table) (q : Query) where
         told = output-is p d e;
       }
 
-  ends-from : (p : Path) (d : Passed) → datum (machine t q) p ≡ some d → (o : Word) → Ends (q .task) (endOf p d) o → (machine t q .done d ≡ true) × (output (machine t q) p ≡ o)
+  ends-from : (p : Path) (d : Passed) → datum (plainMachine t q) p ≡ some d → (o : Word) → Ends (q .task) (endOf p d) o → (plainMachine t q .done d ≡ true) × (output (plainMachine t q) p ≡ o)
   ends-from p d e o E = (
     and-both (done-from (reads (q .task) upperSide) (q .upperWord) (d .up) (lettersOf upperSide p) (within t q p d e upperSide) (E .up-done))
         (done-from (reads (q .task) lowerSide) (q .lowerWord) (d .low) (lettersOf lowerSide p) (within t q p d e lowerSide) (E .low-done)),
     sym (output-is p d e) ∙ E .told,
   )
 
-  place-in : (p : Path) → Allowed (machine t q) p → place p < length (t .initials)
+  place-in : (p : Path) → Allowed (plainMachine t q) p → place p < length (t .initials)
   place-in (start i) A = A
   place-in (more p n) A = place-in p (A .0)
+
+  -- its sum is that of its arcs, and an accepting path under the ceiling is one without it
+  module _ (p : Path) (A : Allowed (machine t q) p) where
+    within-ceiling : penalties (arcsBack t p) ≤ q .ceiling
+    within-ceiling = subst (λ (s : ℕ). s ≤ q .ceiling) (sum-arcs t p) (ceiling.allowed-to (plainMachine t q) (penaltyAt t) (q .ceiling) p A .1)
+
+    accepts-plain : accepts (machine t q) p ≡ accepts (plainMachine t q) p
+    accepts-plain = ceiling.accepts-same (plainMachine t q) (penaltyAt t) (q .ceiling) p A
 
   module _ (U : Ruled t) where
     -- the trace of an accepting path
@@ -159,97 +174,137 @@ module _ (t : Table) (q : Query) where
     trace-of x P = (
       record {
         from = getD (t .initials) (place p) 0;
-        to = final (machine t q) p;
-        begin = beginOf (q .task) (q .upperWord) (q .lowerWord);
-        end = endOf p d;
-        initial = at-mem (t .initials) (place p) 0 (place-in p (P .allowed));
-        fed = fed-from (q .task) (q .upperWord) (q .lowerWord);
-        trace = T .0;
-        terminal = member-mem _ _ (and-left b c (P .accepted));
-        told = subst (λ (y : Output (q .task)). φ₊ (q .task) (endOf p d) y) (P .told) (told-from (q .task) (endOf p d) (output (machine t q) p) (ends-to p d (D .1) (rw (D .1) at (and-right b c (P .accepted)))));
+        to = final (plainMachine t q) p;
+        begin = (beginOf (q .task) (q .upperWord) (q .lowerWord), 0);
+        end = (endOf p d, penalties (arcsOf (T .0)));
+        initial = at-mem (t .initials) (place p) 0 (place-in p A);
+        fed = (fed-from (q .task) (q .upperWord) (q .lowerWord), refl);
+        trace = L .0;
+        terminal = member-mem _ _ (and-left b c accepted);
+        told = subst (λ (y : Output (q .task)). φ₊ (q .task) (endOf p d) y) told (told-from (q .task) (endOf p d) (output (plainMachine t q) p) (ends-to p d (D .1) (rw (D .1) at (and-right b c accepted))));
       },
-      record { from-is = refl; arcs-are = sym (T .1) },
+      record { from-is = refl; arcs-are = sym (L .1 ∙ T .1) },
     )
       where
         p : Path
         p = P .path
 
-        D : (d : Passed) × (datum (machine t q) p ≡ some d)
-        D = has-datum t q p (P .allowed)
+        A : Allowed (plainMachine t q) p
+        A = allowed-plain t q p (P .allowed)
+
+        accepted : accepts (plainMachine t q) p ≡ true
+        accepted = sym (accepts-plain p (P .allowed)) ∙ P .accepted
+
+        told : outputOf (q .task) (output (plainMachine t q) p) ≡ x
+        told = ap (outputOf (q .task)) (sym (output-plain t q p (P .allowed))) ∙ P .told
+
+        D : (d : Passed) × (datum (plainMachine t q) p ≡ some d)
+        D = has-datum t q p A
 
         d : Passed
         d = D .0
 
         b : Bool
-        b = member (final (machine t q) p) (t .terminals)
+        b = member (final (plainMachine t q) p) (t .terminals)
 
         c : Bool
-        c = tested (datum (machine t q) p) (machine t q .done)
+        c = tested (datum (plainMachine t q) p) (plainMachine t q .done)
 
         T : TraceOf t q unwritten p d
-        T = path-trace t q unwritten U p (P .allowed) d (D .1)
+        T = path-trace t q unwritten U p A d (D .1)
+
+        L : (S : Trace (kernelUnder t (q .task) (q .ceiling)) ((begin t q unwritten, 0), getD (t .initials) (place p) 0) ((endOf p d, penalties (arcsOf (T .0))), final (plainMachine t q) p))
+            × (arcsOf S ≡ arcsOf (T .0))
+        L = lift t (q .task) (q .ceiling) (T .0) (subst (λ (l : List Arc). penalties l ≤ q .ceiling) (sym (T .1)) (within-ceiling p (P .allowed)))
 
     -- the path of an accepting trace
     pub path-of : (v : Word) (T : TraceFor t q (outputOf (q .task) v)) → (P : AcceptingPath t q (outputOf (q .task) v)) × Same t q (outputOf (q .task) v) (P .path) T
     path-of v T = (
       record {
         path = P .path;
-        allowed = P .allowed;
-        accepted = and-both (ap (λ (s : ℕ). member s (t .terminals)) (P .state-is) ∙ mem-member (T .to) (t .terminals) (T .terminal)) (ap (λ (o : Option Passed). tested o (machine t q .done)) (P .datum-is) ∙ E .0);
-        told = ap (outputOf (q .task)) (E .1) ∙ O .2;
+        allowed = A;
+        accepted = accepts-plain (P .path) A
+            ∙ and-both (ap (λ (s : ℕ). member s (t .terminals)) (P .state-is) ∙ mem-member (T .to) (t .terminals) (T .terminal)) (ap (λ (o : Option Passed). tested o (plainMachine t q .done)) (P .datum-is) ∙ E .0);
+        told = ap (outputOf (q .task)) (output-plain t q (P .path) A ∙ E .1) ∙ O .2;
       },
-      record { from-is = ap (λ (i : ℕ). getD (t .initials) i 0) (P .from) ∙ I .2; arcs-are = P .arcs-are ∙ moved .1 },
+      record { from-is = ap (λ (i : ℕ). getD (t .initials) i 0) (P .from) ∙ I .2; arcs-are = arcs },
     )
       where
         I : (i : ℕ) × (i < length (t .initials)) × (getD (t .initials) i 0 ≡ T .from)
         I = mem-at (t .initials) (T .from) 0 (T .initial)
 
-        -- the trace, from the cell where the machine begins
-        moved : (M : Trace (kernel t (q .task)) (beginAt t q unwritten (I .0)) (T .end, T .to)) × (arcsOf M ≡ arcsOf (T .trace))
-        moved = carry (fed-to (q .task) (q .upperWord) (q .lowerWord) (T .begin) (T .fed)) (I .2)
-          where
-            carry : {c : Word × Word} {s : ℕ} → c ≡ T .begin → s ≡ T .from → (M : Trace (kernel t (q .task)) (c, s) (T .end, T .to)) × (arcsOf M ≡ arcsOf (T .trace))
-            carry e f =
-                subst₂ (λ (c : Word × Word) (s : ℕ). (M : Trace (kernel t (q .task)) (c, s) (T .end, T .to)) × (arcsOf M ≡ arcsOf (T .trace))) (sym e) (sym f) (T .trace, refl)
+        S : Lowered t (q .task) (q .ceiling) (T .trace)
+        S = lower t (q .task) (q .ceiling) (T .trace) (T .fed .1)
 
-        P : PathOf t q unwritten (I .0) (T .end, T .to) (arcsOf (moved .0))
+        -- the trace, from the cell where the machine begins
+        moved : (M : Trace (kernel t (q .task)) (beginAt t q unwritten (I .0)) (T .end .0, T .to)) × (arcsOf M ≡ arcsOf (T .trace))
+        moved = carry (fed-to (q .task) (q .upperWord) (q .lowerWord) (T .begin .0) (T .fed .0)) (I .2)
+          where
+            carry : {c : Word × Word} {s : ℕ} → c ≡ T .begin .0 → s ≡ T .from → (M : Trace (kernel t (q .task)) (c, s) (T .end .0, T .to)) × (arcsOf M ≡ arcsOf (T .trace))
+            carry e f =
+                subst₂ (λ (c : Word × Word) (s : ℕ). (M : Trace (kernel t (q .task)) (c, s) (T .end .0, T .to)) × (arcsOf M ≡ arcsOf (T .trace))) (sym e) (sym f) (S .trace, S .arcs-are)
+
+        P : PathOf t q unwritten (I .0) (T .end .0, T .to) (arcsOf (moved .0))
         P = trace-path t q unwritten U (I .0) (I .1) (moved .0)
 
-        O : (o : Word) × Ends (q .task) (T .end) o × (outputOf (q .task) o ≡ outputOf (q .task) v)
-        O = told-to (q .task) (T .end) v (T .told)
+        arcs : arcsBack t (P .path) ≡ arcsOf (T .trace)
+        arcs = P .arcs-are ∙ moved .1
 
-        E : (machine t q .done (P .passed-is) ≡ true) × (output (machine t q) (P .path) ≡ O .0)
+        A : Allowed (machine t q) (P .path)
+        A =
+            ceiling.allowed-from (plainMachine t q) (penaltyAt t) (q .ceiling) (P .path) (P .allowed)
+            (subst (λ (s : ℕ). s ≤ q .ceiling) (sym (sum-arcs t (P .path) ∙ ap penalties arcs)) (S .sum-within))
+
+        O : (o : Word) × Ends (q .task) (T .end .0) o × (outputOf (q .task) o ≡ outputOf (q .task) v)
+        O = told-to (q .task) (T .end .0) v (T .told)
+
+        E : (plainMachine t q .done (P .passed-is) ≡ true) × (output (plainMachine t q) (P .path) ≡ O .0)
         E = ends-from (P .path) (P .passed-is) (P .datum-is) (O .0) (subst (λ (e : Word × Word). Ends (q .task) e (O .0)) (sym (P .data-is)) (O .1))
 
     -- no two paths have one trace
     pub one-path : (x : Output (q .task)) (p r : Path) → Allowed (machine t q) p → Allowed (machine t q) r → (T : TraceFor t q x) → Same t q x p T → Same t q x r T → p ≡ r
     one-path x p r A B T e f =
-        path-unique t q U p r A B (U .initials-differ 0 (place p) (place r) (place-in p A) (place-in r B) (e .from-is ∙ sym (f .from-is))) (e .arcs-are ∙ sym (f .arcs-are))
+        let C = allowed-plain t q p A in
+        let D = allowed-plain t q r B in
+        path-unique t q U p r C D (U .initials-differ 0 (place p) (place r) (place-in p C) (place-in r D) (e .from-is ∙ sym (f .from-is))) (e .arcs-are ∙ sym (f .arcs-are))
 
     -- no two traces have one path: they have the same cells at both ends and the same arcs
     pub one-trace : (x y : Output (q .task)) (p : Path) (T : TraceFor t q x) (S : TraceFor t q y) → Same t q x p T → Same t q y p S
-        → (_≡_ {A = Cell (kernel t (q .task))} (T .begin, T .from) (S .begin, S .from)) × (arcsOf (T .trace) ≡ arcsOf (S .trace)) × (_≡_ {A = Cell (kernel t (q .task))} (T .end, T .to) (S .end, S .to))
-    one-trace x y p T S e f = (begun, arcs, trace-end t (q .task) (T .trace) (S .trace) begun arcs)
+        → (_≡_ {A = Cell K} (T .begin, T .from) (S .begin, S .from)) × (arcsOf (T .trace) ≡ arcsOf (S .trace)) × (_≡_ {A = Cell K} (T .end, T .to) (S .end, S .to))
+    one-trace x y p T S e f = (λ i. ((begun i .0, (T .fed .1 ∙ sym (S .fed .1)) i), begun i .1), arcs, λ i. ((ended i .0, sums i), ended i .1))
       where
-        begun : _≡_ {A = Cell (kernel t (q .task))} (T .begin, T .from) (S .begin, S .from)
+        begun : _≡_ {A = Cell (kernel t (q .task))} (T .begin .0, T .from) (S .begin .0, S .from)
         begun = λ i. (
-          (sym (fed-to (q .task) (q .upperWord) (q .lowerWord) (T .begin) (T .fed)) ∙ fed-to (q .task) (q .upperWord) (q .lowerWord) (S .begin) (S .fed)) i,
+          (sym (fed-to (q .task) (q .upperWord) (q .lowerWord) (T .begin .0) (T .fed .0)) ∙ fed-to (q .task) (q .upperWord) (q .lowerWord) (S .begin .0) (S .fed .0)) i,
           (sym (e .from-is) ∙ f .from-is) i,
         )
 
         arcs : arcsOf (T .trace) ≡ arcsOf (S .trace)
         arcs = sym (e .arcs-are) ∙ f .arcs-are
 
+        -- without the sums
+        first : Lowered t (q .task) (q .ceiling) (T .trace)
+        first = lower t (q .task) (q .ceiling) (T .trace) (T .fed .1)
+
+        second : Lowered t (q .task) (q .ceiling) (S .trace)
+        second = lower t (q .task) (q .ceiling) (S .trace) (S .fed .1)
+
+        ended : _≡_ {A = Cell (kernel t (q .task))} (T .end .0, T .to) (S .end .0, S .to)
+        ended = trace-end t (q .task) (first .trace) (second .trace) begun (first .arcs-are ∙ arcs ∙ sym (second .arcs-are))
+
+        sums : T .end .1 ≡ S .end .1
+        sums = first .sum-is ∙ ap penalties arcs ∙ sym (second .sum-is)
+
     -- the readings are the report's relation
-    pub solves : (v : Word) → AcceptingPath t q (outputOf (q .task) v) ↔ Solves t (q .task) (inputOf (q .task) (q .upperWord) (q .lowerWord)) (outputOf (q .task) v)
+    pub solves : (v : Word) → AcceptingPath t q (outputOf (q .task) v) ↔ Solves t (q .task) (q .ceiling) (inputOf (q .task) (q .upperWord) (q .lowerWord)) (outputOf (q .task) v)
     solves v = (to, from)
       where
-        to : AcceptingPath t q (outputOf (q .task) v) → Solves t (q .task) (inputOf (q .task) (q .upperWord) (q .lowerWord)) (outputOf (q .task) v)
+        to : AcceptingPath t q (outputOf (q .task) v) → Solves t (q .task) (q .ceiling) (inputOf (q .task) (q .upperWord) (q .lowerWord)) (outputOf (q .task) v)
         to P =
             let T = trace-of (outputOf (q .task) v) P .0 in
-            (T .end, (T .begin, T .fed, (T .from, T .to, T .initial, T .terminal, trace-label (kernel t (q .task)) (T .trace))), T .told)
+            (T .end, (T .begin, T .fed, (T .from, T .to, T .initial, T .terminal, trace-label K (T .trace))), T .told)
 
-        from : Solves t (q .task) (inputOf (q .task) (q .upperWord) (q .lowerWord)) (outputOf (q .task) v) → AcceptingPath t q (outputOf (q .task) v)
+        from : Solves t (q .task) (q .ceiling) (inputOf (q .task) (q .upperWord) (q .lowerWord)) (outputOf (q .task) v) → AcceptingPath t q (outputOf (q .task) v)
         from S =
             let C = S .1 .2 in
             path-of v
@@ -260,7 +315,7 @@ module _ (t : Table) (q : Query) where
               end = S .0;
               initial = C .2;
               fed = S .1 .1;
-              trace = label-trace (kernel t (q .task)) (C .4 .0) (S .1 .0) (S .0) (C .4 .1);
+              trace = label-trace K (C .4 .0) (S .1 .0) (S .0) (C .4 .1);
               terminal = C .3;
               told = S .2;
             })

@@ -2,12 +2,12 @@
 use Prim.Native.Nat.{ℕ, suc, _+_, _≤_, _<_}
 use native.Mathlib.Omega.{arith}
 use mathlib.Core.Path.{_≡_, refl, sym, ap, ap₂, _∙_}
-use mathlib.Core.Logic.{_⊎_, ⊎-elim}
+use mathlib.Core.Logic.{⊎-elim}
 use mathlib.Core.Bool.{Bool, true, false, cond}
 use mathlib.Core.Option.{Option, none, some}
 use mathlib.Core.List.{List, [], _∷_, _++_, append-assoc}
 use lib.ListN.{length, getD, length-append, drop-of-length-le}
-use lib.Dec.{eqb}
+use lib.Dec.{eqb, leb}
 use lib.Seq.{getD-append-seam}
 use borrow.Author.Tests.{lt-ltb, le-ltb, eq-eqb, ne-eqb}
 use Rattle.table_format.specs.Table.{Arc, Table, noArc}
@@ -17,26 +17,35 @@ use Rattle.table_format.proofs.All.{All}
 use Rattle.graph.specs.Lists.{keep}
 use Rattle.graph.proofs.Lists.{same?, most?}
 use Rattle.machine.specs.Query.{Query}
+use Rattle.machine.specs.Machine.{bind, somewhen}
 use Rattle.machine.specs.Transducer.{Passed, followAt, writesAt, machine}
 use Rattle.machine.specs.Denotation.{ifFits, arcsTell}
 use Rattle.machine.proofs.Transducer.{none-below}
 
+-- what an arc with penalty p that fits by its letters makes of the sum s, under the ceiling c
+abbrev pub lifted : ℕ → ℕ → ℕ → Option Passed → Option (Passed × ℕ)
+lifted c p s o = bind o (λ e. somewhen (leb (s + p) c) (e, s + p))
+
+-- an arc under the ceiling of a query; the machine's arcs follow so
+abbrev pub followUnder : Table → Query → Arc → Passed × ℕ → Option (Passed × ℕ)
+followUnder t q a d = lifted (q .ceiling) (a .penalty) (d .1) (followAt t q a (d .0))
+
 -- what the arcs of a list tell, with the classes of a table
-abbrev pub listTell : Table → Query → (ℕ → Passed → List ℕ → List (List ℕ)) → Passed → List ℕ → List Arc → List (List ℕ)
+abbrev pub listTell : Table → Query → (ℕ → Passed × ℕ → List ℕ → List (List ℕ)) → Passed × ℕ → List ℕ → List Arc → List (List ℕ)
 listTell t q g d o [] = []
-listTell t q g d o (a ∷ l) = ifFits (followAt t q a d) (λ e. g (a .target) e (o ++ writesAt t q a d)) ++ listTell t q g d o l
+listTell t q g d o (a ∷ l) = ifFits (followUnder t q a d) (λ e. g (a .target) e (o ++ writesAt t q a (d .0))) ++ listTell t q g d o l
 
-module _ (t : Table) (q : Query) (d : Passed) (o : List ℕ) where
+module _ (t : Table) (q : Query) (d : Passed × ℕ) (o : List ℕ) where
   -- it is told by what g says of each state
-  pub list-tell-same : (g h : ℕ → Passed → List ℕ → List (List ℕ)) → ((s : ℕ) (e : Passed) (w : List ℕ) → g s e w ≡ h s e w) → (l : List Arc) → listTell t q g d o l ≡ listTell t q h d o l
+  pub list-tell-same : (g h : ℕ → Passed × ℕ → List ℕ → List (List ℕ)) → ((s : ℕ) (e : Passed × ℕ) (w : List ℕ) → g s e w ≡ h s e w) → (l : List Arc) → listTell t q g d o l ≡ listTell t q h d o l
   list-tell-same g h same [] = refl
-  list-tell-same g h same (a ∷ l) = ap₂ (λ (x y : List (List ℕ)). x ++ y) (go (followAt t q a d)) (list-tell-same g h same l)
+  list-tell-same g h same (a ∷ l) = ap₂ (λ (x y : List (List ℕ)). x ++ y) (go (followUnder t q a d)) (list-tell-same g h same l)
     where
-      go : (f : Option Passed) → ifFits f (λ e. g (a .target) e (o ++ writesAt t q a d)) ≡ ifFits f (λ e. h (a .target) e (o ++ writesAt t q a d))
+      go : (f : Option (Passed × ℕ)) → ifFits f (λ e. g (a .target) e (o ++ writesAt t q a (d .0))) ≡ ifFits f (λ e. h (a .target) e (o ++ writesAt t q a (d .0)))
       go none = refl
-      go (some e) = same (a .target) e (o ++ writesAt t q a d)
+      go (some e) = same (a .target) e (o ++ writesAt t q a (d .0))
 
-module _ (t : Table) (q : Query) (g : ℕ → Passed → List ℕ → List (List ℕ)) (d : Passed) (o : List ℕ) where
+module _ (t : Table) (q : Query) (g : ℕ → Passed × ℕ → List ℕ → List (List ℕ)) (d : Passed × ℕ) (o : List ℕ) where
   pub list-tell-append : (l k : List Arc) → listTell t q g d o (l ++ k) ≡ listTell t q g d o l ++ listTell t q g d o k
   list-tell-append [] k = refl
   list-tell-append (a ∷ l) k = rw (list-tell-append l k, append-assoc)
@@ -47,7 +56,7 @@ module _ (t : Table) (q : Query) (g : ℕ → Passed → List ℕ → List (List
   part-tells (a ∷ l) before after e =
       let n : suc (length before) ≡ length (before ++ (a ∷ [])) = omega (arith, length-append before (a ∷ [])) in
       ap₂ (λ (x y : List (List ℕ)). x ++ y)
-      (ap (λ (b : Arc). ifFits (followAt t q b d) (λ f. g (b .target) f (o ++ writesAt t q b d)))
+      (ap (λ (b : Arc). ifFits (followUnder t q b d) (λ f. g (b .target) f (o ++ writesAt t q b (d .0))))
       (ap (λ (m : List Arc). getD m (length before) noArc) e ∙ getD-append-seam before a (l ++ after) noArc))
       (ap (λ (k : ℕ). arcsTell (machine t q) g d o k (length l)) n ∙ part-tells l (before ++ (a ∷ [])) after (e ∙ sym (append-assoc before (a ∷ []) (l ++ after))))
 
@@ -142,7 +151,7 @@ stands s m [] A = record { before = []; after = []; stand = refl; first-is = ref
 stands s m (a ∷ l) A = with-first s a l (A .1) (stands s (a .source) l (A .1))
 
 -- so what the arcs of a state tell is what their list tells
-pub state-tells : (t : Table) (q : Query) → AtLeast 0 (t .arcs) → (g : ℕ → Passed → List ℕ → List (List ℕ)) (d : Passed) (o : List ℕ) (s : ℕ)
+pub state-tells : (t : Table) (q : Query) → AtLeast 0 (t .arcs) → (g : ℕ → Passed × ℕ → List ℕ → List (List ℕ)) (d : Passed × ℕ) (o : List ℕ) (s : ℕ)
     → arcsTell (machine t q) g d o (machine t q .first s) (machine t q .arity s) ≡ listTell t q g d o (arcsFrom s (t .arcs))
 state-tells t q A g d o s =
     let P = stands s 0 (t .arcs) A in

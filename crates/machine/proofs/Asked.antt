@@ -1,8 +1,8 @@
--- What holds where 20, 11 and 10 are not given; the limit 33,024 is enough there.
+-- What holds where 20, 11, 10 and 39 are not given; the limit 33,024 is enough there.
 use Prim.Native.Nat.{ℕ, _+_, _*_, _≤_}
 use native.Mathlib.Omega.{arith}
 use native.Mathlib.Nat.{mul-le-mul-right}
-use mathlib.Core.Path.{_≡_, refl, ap, subst, _∙_}
+use mathlib.Core.Path.{_≡_, refl, sym, ap, subst, _∙_}
 use mathlib.Core.Logic.{_⊎_, inl, inr}
 use mathlib.Core.Bool.{Bool, true, false, cond, _&&_}
 use mathlib.Core.Option.{Option, none, some}
@@ -12,22 +12,24 @@ use lib.Dec.{leb}
 use borrow.Author.Tests.{leb-true}
 use Rattle.refusal.specs.declared.Refusal.{Refusal}
 use Rattle.refusal.specs.declared.Refusal.the-variants.{Input}
-use Rattle.refusal.specs.declared.InputCause.the-variants.{WordFault, TaskFault}
+use Rattle.refusal.specs.declared.InputCause.the-variants.{WordFault, TaskFault, CeilingLimit}
 use Rattle.table_format.specs.Table.{Table}
 use Rattle.refusal.specs.Refusal.{numberOf}
 use Rattle.table_format.specs.Rules.{keepsRules}
 use Rattle.table_format.specs.Loaded.{countsIn, extent, tableIn, loaded}
 use Rattle.table_format.proofs.Tests.{and-left, and-right}
 use Rattle.table_format.proofs.Ruled.{Ruled}
-use Rattle.machine.specs.Query.{Task, Side, upperSide, lowerSide, reads, taskOf, Query, word, wordHolds, wordsHold, sidesHold}
+use Rattle.machine.specs.Query.{Task, Side, upperSide, lowerSide, reads, taskOf, Query, word, wordHolds, wordsHold, sidesHold, ceilingHolds, withCeiling}
 use Rattle.machine.specs.Transducer.{sideToRead, toReadOn, lettersToRead}
 use Rattle.machine.specs.Stack.{mostFrames}
 use Rattle.machine.specs.Asked.{Asked, turned, runs, askedWords, askedTask, askedTable, asked}
 
-pub record AskedFacts (t : Table) (q : Query) (task : ℕ) (upper lower : List ℕ) : Type 0 where
+pub record AskedFacts (t : Table) (q : Query) (task : ℕ) (upper lower : List ℕ) (ceiling : ℕ) : Type 0 where
   pub keeps-rules : keepsRules t ≡ true
   pub task-is : taskOf task ≡ some (q .task)
   pub words-hold : wordsHold q ≡ true
+  pub ceiling-holds : ceilingHolds q ≡ true
+  pub ceiling-is : q .ceiling ≡ ceiling
 
 -- two askings that run
 runs-table : (s t : Table) (p q : Query) → runs s p ≡ runs t q → s ≡ t
@@ -49,57 +51,62 @@ loaded-rules cells t e = go (leb (extent (countsIn cells)) (length cells)) (keep
     go true false k x = absurd (let z : _≡_ {A = ℕ} 0 1 = cc in omega arith)
     go false b k x = absurd (let z : _≡_ {A = ℕ} 0 1 = cc in omega arith)
 
-words-facts : (s t : Table) (p q : Query) → askedWords s p ≡ runs t q → (s ≡ t) × (p ≡ q) × (sidesHold p ≡ true) × (wordsHold p ≡ true)
-words-facts s t p q e = go (sidesHold p) (wordsHold p) e
+pub words-facts : (s t : Table) (p q : Query) → askedWords s p ≡ runs t q → (s ≡ t) × (p ≡ q) × (sidesHold p ≡ true) × (wordsHold p ≡ true) × (ceilingHolds p ≡ true)
+words-facts s t p q e = go (sidesHold p) (wordsHold p) (ceilingHolds p) e
   where
-    go : (a b : Bool) → cond a (cond b (runs s p) (turned (Input WordFault))) (turned (Input TaskFault)) ≡ runs t q → (s ≡ t) × (p ≡ q) × (a ≡ true) × (b ≡ true)
-    go true true x = (runs-table s t p q x, runs-query s t p q x, refl, refl)
-    go true false x = absurd (turned-runs (Input WordFault) t q x)
-    go false b x = absurd (turned-runs (Input TaskFault) t q x)
+    go : (a b c : Bool) → cond a (cond b (cond c (runs s p) (turned (Input CeilingLimit))) (turned (Input WordFault))) (turned (Input TaskFault)) ≡ runs t q
+        → (s ≡ t) × (p ≡ q) × (a ≡ true) × (b ≡ true) × (c ≡ true)
+    go true true true x = (runs-table s t p q x, runs-query s t p q x, refl, refl, refl)
+    go true true false x = absurd (turned-runs (Input CeilingLimit) t q x)
+    go true false c x = absurd (turned-runs (Input WordFault) t q x)
+    go false b c x = absurd (turned-runs (Input TaskFault) t q x)
 
-pub asked-facts : (cells : List ℕ) (task : ℕ) (upper lower : List ℕ) (t : Table) (q : Query) → asked cells task upper lower ≡ runs t q → AskedFacts t q task upper lower
+pub asked-facts : (cells : List ℕ) (task : ℕ) (upper lower : List ℕ) (ceiling : ℕ) (t : Table) (q : Query) → asked cells task upper lower ceiling ≡ runs t q → AskedFacts t q task upper lower ceiling
 unfolding asked
-asked-facts cells task upper lower t q e = by-table (loaded cells) refl e
+asked-facts cells task upper lower ceiling t q e = by-table (loaded cells) refl e
   where
-    by-task : (s : Table) → keepsRules s ≡ true → (o : Option Task) → taskOf task ≡ o → askedTask s o upper lower ≡ runs t q → AskedFacts t q task upper lower
+    by-task : (s : Table) → keepsRules s ≡ true → (o : Option Task) → taskOf task ≡ o → askedTask s o upper lower ceiling ≡ runs t q → AskedFacts t q task upper lower ceiling
     by-task s k none w x = absurd (turned-runs (Input TaskFault) t q x)
     by-task s k (some a) w x =
-        let p : Query = record { task = a; upperWord = upper; lowerWord = lower } in
+        let p : Query = record { task = a; upperWord = upper; lowerWord = lower; ceiling = ceiling } in
         let F = words-facts s t p q x in
         record {
           keeps-rules = subst (λ (z : Table). keepsRules z ≡ true) (F .0) k;
           task-is = w ∙ ap (λ (z : Query). some (z .task)) (F .1);
           words-hold = subst (λ (z : Query). wordsHold z ≡ true) (F .1) (F .3);
+          ceiling-holds = subst (λ (z : Query). ceilingHolds z ≡ true) (F .1) (F .4);
+          ceiling-is = sym (ap (λ (z : Query). z .ceiling) (F .1));
         }
 
-    by-table : (o : Option Table) → loaded cells ≡ o → askedTable o task upper lower ≡ runs t q → AskedFacts t q task upper lower
+    by-table : (o : Option Table) → loaded cells ≡ o → askedTable o task upper lower ceiling ≡ runs t q → AskedFacts t q task upper lower ceiling
     by-table none w x = absurd (turned-runs _ t q x)
     by-table (some s) w x = by-task s (loaded-rules cells s w) (taskOf task) refl x
 
--- what is turned down before anything runs has the numbers 20, 11 and 10
+-- what is turned down before anything runs has the numbers 20, 11, 10 and 39
 abbrev pub TurnedBy : Asked → Type 0
-TurnedBy (turned r) = (numberOf r ≡ 20) ⊎ ((numberOf r ≡ 11) ⊎ (numberOf r ≡ 10))
+TurnedBy (turned r) = (numberOf r ≡ 20) ⊎ ((numberOf r ≡ 11) ⊎ ((numberOf r ≡ 10) ⊎ (numberOf r ≡ 39)))
 TurnedBy (runs t q) = Unit {0}
 
 -- of the cells, the loaded table alone counts
-pub same-asked : (c d : List ℕ) → loaded c ≡ loaded d → (task : ℕ) (upper lower : List ℕ) → asked c task upper lower ≡ asked d task upper lower
+pub same-asked : (c d : List ℕ) → loaded c ≡ loaded d → (task : ℕ) (upper lower : List ℕ) (ceiling : ℕ) → asked c task upper lower ceiling ≡ asked d task upper lower ceiling
 unfolding asked
-same-asked c d e task upper lower = ap (λ (o : Option Table). askedTable o task upper lower) e
+same-asked c d e task upper lower ceiling = ap (λ (o : Option Table). askedTable o task upper lower ceiling) e
 
-pub turned-by : (cells : List ℕ) (task : ℕ) (upper lower : List ℕ) → TurnedBy (asked cells task upper lower)
+pub turned-by : (cells : List ℕ) (task : ℕ) (upper lower : List ℕ) (ceiling : ℕ) → TurnedBy (asked cells task upper lower ceiling)
 unfolding asked
-turned-by cells task upper lower = by-table (loaded cells)
+turned-by cells task upper lower ceiling = by-table (loaded cells)
   where
-    by-tests : (t : Table) (q : Query) (a b : Bool) → TurnedBy (cond a (cond b (runs t q) (turned (Input WordFault))) (turned (Input TaskFault)))
-    by-tests t q true true = tt
-    by-tests t q true false = inr (inr refl)
-    by-tests t q false b = inr (inl refl)
+    by-tests : (t : Table) (q : Query) (a b c : Bool) → TurnedBy (cond a (cond b (cond c (runs t q) (turned (Input CeilingLimit))) (turned (Input WordFault))) (turned (Input TaskFault)))
+    by-tests t q true true true = tt
+    by-tests t q true true false = inr (inr (inr refl))
+    by-tests t q true false c = inr (inr (inl refl))
+    by-tests t q false b c = inr (inl refl)
 
-    by-task : (t : Table) (o : Option Task) → TurnedBy (askedTask t o upper lower)
+    by-task : (t : Table) (o : Option Task) → TurnedBy (askedTask t o upper lower ceiling)
     by-task t none = inr (inl refl)
-    by-task t (some k) = let q : Query = record { task = k; upperWord = upper; lowerWord = lower } in by-tests t q (sidesHold q) (wordsHold q)
+    by-task t (some k) = let q : Query = record { task = k; upperWord = upper; lowerWord = lower; ceiling = ceiling } in by-tests t q (sidesHold q) (wordsHold q) (ceilingHolds q)
 
-    by-table : (o : Option Table) → TurnedBy (askedTable o task upper lower)
+    by-table : (o : Option Table) → TurnedBy (askedTable o task upper lower ceiling)
     by-table none = inl refl
     by-table (some t) = by-task t (taskOf task)
 
@@ -120,3 +127,19 @@ module _ (t : Table) (q : Query) (U : Ruled t) (W : wordsHold q ≡ true) where
   enough-frames =
       let h : lettersToRead q + 1 ≤ 129 = omega (arith, few-letters upperSide, few-letters lowerSide) in
       omega (arith, mul-le-mul-right (t .states) h, U .few-states)
+
+-- askings that differ in their ceilings alone
+pub same-query : (cells : List ℕ) (task : ℕ) (upper lower : List ℕ) (c d : ℕ) (t u : Table) (q r : Query) → asked cells task upper lower c ≡ runs t q → asked cells task upper lower d ≡ runs u r → (t ≡ u) × (withCeiling r c ≡ q)
+unfolding asked
+same-query cells task upper lower c d t u q r a b = by-table (loaded cells) a b
+  where
+    by-task : (s : Table) (o : Option Task) → askedTask s o upper lower c ≡ runs t q → askedTask s o upper lower d ≡ runs u r → (t ≡ u) × (withCeiling r c ≡ q)
+    by-task s none x y = absurd (let z : _≡_ {A = ℕ} 0 1 = cc in omega arith)
+    by-task s (some k) x y =
+        let F = words-facts s t (record { task = k; upperWord = upper; lowerWord = lower; ceiling = c }) q x in
+        let G = words-facts s u (record { task = k; upperWord = upper; lowerWord = lower; ceiling = d }) r y in
+        (sym (F .0) ∙ G .0, ap (λ (z : Query). withCeiling z c) (sym (G .1)) ∙ F .1)
+
+    by-table : (o : Option Table) → askedTable o task upper lower c ≡ runs t q → askedTable o task upper lower d ≡ runs u r → (t ≡ u) × (withCeiling r c ≡ q)
+    by-table none x y = absurd (let z : _≡_ {A = ℕ} 0 1 = cc in omega arith)
+    by-table (some s) x y = by-task s (taskOf task) x y

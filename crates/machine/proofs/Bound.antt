@@ -14,11 +14,12 @@ use Rattle.table_format.proofs.Ruled.{Ruled}
 use Rattle.graph.specs.Cost.{Costly, stay, freely, paying}
 use Rattle.graph.proofs.Cost.{few-edges}
 use Rattle.machine.specs.Query.{Side, upperSide, lowerSide, reads, letter, word, Query}
-use Rattle.machine.specs.Transducer.{arcAt, sideFollow, sideToRead, Passed, passed, nothingPassed, followArc, plainAt, toReadOn, lettersToRead, machine}
+use Rattle.machine.specs.Transducer.{arcAt, sideFollow, sideToRead, Passed, passed, nothingPassed, followArc, plainAt, toReadOn, lettersToRead, plainMachine}
 use Rattle.machine.specs.Machine.{Path, start, more, final, datum, size, Allowed, Bounded}
 use Rattle.machine.specs.Idle.{sideIdle, idleOn, idle, always, AnyArc, IdleArc, NoIdleCycle}
 use Rattle.machine.proofs.Idle.{among, any-arc}
-use Rattle.machine.proofs.Transducer.{arc-of, at-mem, step-parts, follow-parts, somewhen-parts, getD-lt}
+use Rattle.machine.proofs.Options.{somewhen-parts}
+use Rattle.machine.proofs.Transducer.{arc-of, at-mem, step-parts, follow-parts, getD-lt}
 use Rattle.machine.proofs.Classes.{nextOf, narrow-idle}
 
 abbrev pub countIf : Bool → ℕ → ℕ
@@ -61,7 +62,7 @@ module _ (t : Table) (q : Query) where
       go true = omega arith
       go false = omega arith
 
-  pub within : (p : Path) (d : Passed) → datum (machine t q) p ≡ some d → (s : Side) → readOn s d ≤ toReadOn q s
+  pub within : (p : Path) (d : Passed) → datum (plainMachine t q) p ≡ some d → (s : Side) → readOn s d ≤ toReadOn q s
   within (start i) d e s = subst (λ (x : Passed). readOn s x ≤ toReadOn q s) (cc) (go s)
     where
       go : (s : Side) → readOn s (nothingPassed) ≤ toReadOn q s
@@ -78,31 +79,31 @@ module _ (t : Table) (q : Query) where
       go true eb = omega (arith, arc-law a d e h upperSide .grows, arc-law a d e h lowerSide .steps (other-false (idleOn (q .task) upperSide a) (idleOn (q .task) lowerSide a) i eb))
       go false eb = omega (arith, arc-law a d e h upperSide .steps eb, arc-law a d e h lowerSide .grows)
 
-  pub has-datum : (p : Path) → Allowed (machine t q) p → (d : Passed) × (datum (machine t q) p ≡ some d)
+  pub has-datum : (p : Path) → Allowed (plainMachine t q) p → (d : Passed) × (datum (plainMachine t q) p ≡ some d)
   has-datum (start i) A = (nothingPassed, refl)
   has-datum (more p n) A = A .2
 
   module _ (none-idle : NoIdleCycle t (q .task)) (R : Ruled t) where
     -- an allowed path's last arc
-    last-arc : (p : Path) (n : ℕ) → Allowed (machine t q) (more p n) → List·Memᴰ (arcAt t n) (t .arcs) × (arcAt t n .source ≡ final (machine t q) p)
-    last-arc p n A = let h = arc-of t q (R .rising) (final (machine t q) p) n .0 (A .1) in (at-mem (t .arcs) n noArc (h .0), h .1)
+    last-arc : (p : Path) (n : ℕ) → Allowed (plainMachine t q) (more p n) → List·Memᴰ (arcAt t n) (t .arcs) × (arcAt t n .source ≡ final (plainMachine t q) p)
+    last-arc p n A = let h = arc-of t q (R .rising) (final (plainMachine t q) p) n .0 (A .1) in (at-mem (t .arcs) n noArc (h .0), h .1)
 
     -- a path is a walk whose idle arcs are free; its cost is at most what is read
     record CostOf (p : Path) (d : Passed) : Type 0 where
       from : ℕ
       initially : List·Memᴰ from (t .initials)
       cost : ℕ
-      walk : Costly (AnyArc (t .arcs)) (IdleArc t (q .task)) from (final (machine t q) p) (size p) cost
+      walk : Costly (AnyArc (t .arcs)) (IdleArc t (q .task)) from (final (plainMachine t q) p) (size p) cost
       within-read : cost ≤ readCount d
 
-    cost-of : (p : Path) → Allowed (machine t q) p → (d : Passed) → datum (machine t q) p ≡ some d → CostOf p d
+    cost-of : (p : Path) → Allowed (plainMachine t q) p → (d : Passed) → datum (plainMachine t q) p ≡ some d → CostOf p d
     cost-of (start i) A d e = record { from = getD (t .initials) i 0; initially = at-mem (t .initials) i 0 A; cost = 0; walk = stay; within-read = omega arith }
     cost-of (more p n) A d e =
         let P = step-parts t q p n d e in
         go (P .0) (P .1) (P .3) (P .4) (idle (q .task) (arcAt t n)) refl (cost-of p (A .0) (P .0) (P .2)) (last-arc p n A)
       where
         go : (c : Passed) (a : Arc) → plainAt t q (arcAt t n) c ≡ some a → followArc q a c ≡ some d → (b : Bool) → idle (q .task) (arcAt t n) ≡ b → CostOf p c
-            → List·Memᴰ (arcAt t n) (t .arcs) × (arcAt t n .source ≡ final (machine t q) p) → CostOf (more p n) d
+            → List·Memᴰ (arcAt t n) (t .arcs) × (arcAt t n .source ≡ final (plainMachine t q) p) → CostOf (more p n) d
         go c a z f true i C L =
             record {
               from = C .from;
@@ -120,7 +121,7 @@ module _ (t : Table) (q : Query) where
               within-read = omega (arith, C .within-read, reads-more a c d f (narrow-idle (t .classes) (arcAt t n) (nextOf q c) a z (q .task) i));
             }
 
-    pub bounded : Bounded (machine t q)
+    pub bounded : Bounded (plainMachine t q)
     bounded p A =
         let D = has-datum p A in
         let C = cost-of p A (D .0) (D .1) in

@@ -14,6 +14,7 @@ use Rattle.table_format.specs.Rules.{each, countsHold, headerFaults, initialFau
 use Rattle.table_format.specs.Loaded.{arcsCells, rowsCells, cellsOf, arcsIn, rowsIn, tableIn, loaded}
 use Rattle.graph.specs.Shown.{shownCycle}
 use Rattle.machine.specs.declared.StartAnswer.the-variants.{Ready}
+use Rattle.machine.specs.Query.{mostCeiling}
 use Rattle.machine.specs.Frames.{placeHolds}
 use Rattle.machine.specs.Step.{move, step}
 use Rattle.machine.specs.Call.{advance, call}
@@ -40,16 +41,16 @@ abbrev pub cellsK : List ℕ
 cellsK = cellsOf (tableK [])
 
 abbrev pub lentK : List Lent
-lentK = lentAll cellsK (1 ∷ 2 ∷ []) [] (firstRun 2) [] (big ∷ big ∷ big ∷ [])
+lentK = lentAll cellsK (1 ∷ 2 ∷ []) [] (firstRun 2 mostCeiling) [] (big ∷ big ∷ big ∷ [])
 
-pub ready-k : started cellsK 2 (1 ∷ 2 ∷ []) [] .answer ≡ Ready
+pub ready-k : started cellsK 2 (1 ∷ 2 ∷ []) [] mostCeiling .answer ≡ Ready
 unfolding started asked loaded tableIn arcsIn rowsIn cellsOf arcsCells rowsCells noClasses keepsRules headerFaults countsHold classesKeep rowHolds initialFaults terminalFaults arcFaults arcClassHolds each hasIdleCycle
 ready-k = refl
 
-pub handed-k : Handed (1 ∷ 2 ∷ []) [] cellsK (firstRun 2) [] lentK
-handed-k = handed-there cellsK (1 ∷ 2 ∷ []) [] (big ∷ big ∷ big ∷ []) (firstRun 2) [] refl
+pub handed-k : Handed (1 ∷ 2 ∷ []) [] cellsK (firstRun 2 mostCeiling) [] lentK
+handed-k = handed-there cellsK (1 ∷ 2 ∷ []) [] (big ∷ big ∷ big ∷ []) (firstRun 2 mostCeiling) [] refl
 
-pub ends-k : LastEnds (1 ∷ 2 ∷ []) [] (firstRun 2) lentK
+pub ends-k : LastEnds (1 ∷ 2 ∷ []) [] (firstRun 2 mostCeiling) lentK
 unfolding outcome asked loaded tableIn arcsIn rowsIn cellsOf arcsCells rowsCells noClasses keepsRules headerFaults countsHold classesKeep rowHolds initialFaults terminalFaults arcFaults arcClassHolds each call placeHolds advance step move
 ends-k = refl
 
@@ -60,12 +61,12 @@ least-k (suc n) = ((omega arith, omega arith, omega arith), least-k n)
 
 -- Calls of every kind: Paused, Found, 22, 21, Found, Ended, Ended.
 abbrev pub storyK : List Lent
-storyK = lentAll cellsK (1 ∷ 2 ∷ []) [] (firstRun 2) [] (ask 0 9 8 ∷ ask 1000 3 8 ∷ ask 1000 3 8 ∷ ask 1000 2 8 ∷ ask 1000 9 8 ∷ ask 1000 9 8 ∷ ask 1 9 8 ∷ [])
+storyK = lentAll cellsK (1 ∷ 2 ∷ []) [] (firstRun 2 mostCeiling) [] (ask 0 9 8 ∷ ask 1000 3 8 ∷ ask 1000 3 8 ∷ ask 1000 2 8 ∷ ask 1000 9 8 ∷ ask 1000 9 8 ∷ ask 1 9 8 ∷ [])
 
-pub unended-k : unended (1 ∷ 2 ∷ []) [] (firstRun 2) storyK ≡ 5
+pub unended-k : unended (1 ∷ 2 ∷ []) [] (firstRun 2 mostCeiling) storyK ≡ 5
 unfolding outcome asked loaded tableIn arcsIn rowsIn cellsOf arcsCells rowsCells noClasses keepsRules headerFaults countsHold classesKeep rowHolds initialFaults terminalFaults arcFaults arcClassHolds each call placeHolds advance step move
 unended-k = refl
 
-pub story-ends-k : LastEnds (1 ∷ 2 ∷ []) [] (firstRun 2) storyK
+pub story-ends-k : LastEnds (1 ∷ 2 ∷ []) [] (firstRun 2 mostCeiling) storyK
 unfolding outcome asked loaded tableIn arcsIn rowsIn cellsOf arcsCells rowsCells noClasses keepsRules headerFaults countsHold classesKeep rowHolds initialFaults terminalFaults arcFaults arcClassHolds each call placeHolds advance step move
 story-ends-k = refl

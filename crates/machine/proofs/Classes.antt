@@ -18,11 +18,12 @@ use Rattle.table_format.proofs.ClassFaults.{plain-is}
 use Rattle.table_format.proofs.All.{All, all-append, all-mem}
 use Rattle.graph.proofs.Lists.{member-mem, mem-member}
 use Rattle.machine.specs.Query.{Task, recognition, synthesis, analysis, Side, upperSide, lowerSide, reads, letter, Query, word}
-use Rattle.machine.specs.Machine.{Path, start, more, output, datum, bind, listed}
-use Rattle.machine.specs.Transducer.{member, somewhen, sideFollow, sideWrites, Passed, passed, both, followArc, writesArc, nextLetter, classArc, plainBy, plainAt, followAt, writesOn, writesAt, arcAt, machine}
+use Rattle.machine.specs.Machine.{Path, start, more, output, datum, bind, somewhen, listed}
+use Rattle.machine.specs.Transducer.{member, sideFollow, sideWrites, Passed, passed, both, followArc, writesArc, nextLetter, classArc, plainBy, plainAt, followAt, writesOn, writesAt, arcAt, machine}
 use Rattle.machine.specs.Idle.{sideIdle, idle}
 use Rattle.machine.specs.Classes.{Fits, oneMore, letterWritten}
-use Rattle.machine.proofs.Transducer.{bind-parts, follow-parts, somewhen-parts}
+use Rattle.machine.proofs.Options.{bind-parts, somewhen-parts}
+use Rattle.machine.proofs.Transducer.{follow-parts}
 
 -- What plain arc an arc is, where x is the next letter.
 
@@ -114,9 +115,9 @@ output-letters : (t : Table) → Ruled t → (q : Query) (p : Path) → All IsLe
 output-letters t U q (start i) = tt
 output-letters t U q (more p n) = all-append IsLetter (output (machine t q) p) _ (output-letters t U q p) (go (datum (machine t q) p))
   where
-    go : (o : Option Passed) → All IsLetter (listed o (machine t q .writes n))
+    go : (o : Option (Passed × ℕ)) → All IsLetter (listed o (machine t q .writes n))
     go none = tt
-    go (some d) = written-letters t U q (arcAt t n) d
+    go (some d) = written-letters t U q (arcAt t n) (d .0)
 
 pub reading-letters : (t : Table) → Ruled t → (q : Query) (p : Path) (x : ℕ) → List·Memᴰ x (output (machine t q) p) → (1 ≤ x) × (x ≤ 63)
 reading-letters t U q p = all-mem IsLetter (output (machine t q) p) (output-letters t U q p)

@@ -66,7 +66,7 @@ module _ (t : Table) (q : Query) (B : Bounded (machine t q)) (F : (lettersToRead
 
   -- the run and its used cells are a place in a search from which the entries es are left
   pub record At (r : Run) (used : List ℕ) (es : List Entry) : Type 0 where
-    pub frames : List (Frame Passed)
+    pub frames : List (Frame (Passed × ℕ))
     pub placed : Placed M (r .started) frames
     pub as-deep : length frames ≡ r .depth
     pub held : (c : List ℕ) → r .depth ≤ framesIn c → usedOf (r .depth) c ≡ used → framesOf store c (r .depth) ≡ frames
@@ -84,6 +84,7 @@ module _ (t : Table) (q : Query) (B : Bounded (machine t q)) (F : (lettersToRead
     pub read : readings M taken ≡ outputTold (toldBy o) (o .output)
     pub at : At (o .called .run) (usedBy r used x o) left
     pub same-task : o .called .run .task ≡ r .task
+    pub same-ceiling : o .called .run .ceiling ≡ r .ceiling
     pub tells : (n : ℕ) → n + length es ≡ treeSize M → CallTells t q n r x o
 
   module _ (es : List Entry) (r : Run) (used : List ℕ) (x : Lent) (A : At r used es) (J : r .depth ≤ framesIn (x .stack) → usedOf (r .depth) (x .stack) ≡ used) where
@@ -91,13 +92,13 @@ module _ (t : Table) (q : Query) (B : Bounded (machine t q)) (F : (lettersToRead
     T = call M store (x .allowance) (length (x .buffer)) (heldOf r (x .stack))
 
     abbrev o : Outcome
-    o = outcomeAs (r .task) (x .buffer) T
+    o = outcomeAs r (x .buffer) T
 
     shallow : r .depth ≤ mostFrames
     shallow = omega (arith, depth-law M B (r .started) (A .frames) (A .placed), A .as-deep)
 
     -- the used frames after the call
-    abbrev frames′ : Bool → List (Frame Passed)
+    abbrev frames′ : Bool → List (Frame (Passed × ℕ))
     frames′ b = cond b (framesOf store (T .after .cells) (T .after .depth)) (A .frames)
 
     L : OneLaw M store (after M) (heldOf r (x .stack)) (A .frames) T (frames′ (leb (r .depth) (roomIn (x .stack))))
@@ -128,6 +129,7 @@ module _ (t : Table) (q : Query) (B : Bounded (machine t q)) (F : (lettersToRead
           read = L .read ∙ sym (told-is (T .reply) (T .steps) (x .buffer));
           at = at-place;
           same-task = refl;
+          same-ceiling = refl;
           tells = λ n e. tells-law n e;
         }
       where
@@ -185,11 +187,11 @@ module _ (t : Table) (q : Query) (B : Bounded (machine t q)) (F : (lettersToRead
 
   module _ (cells upper lower : List ℕ) where
     -- a call on a run of the task that is asked, with the table that cells hold
-    on-call : (es : List Entry) (r : Run) (used : List ℕ) (x : Lent) → asked cells (r .task) upper lower ≡ runs t q → loaded (x .table) ≡ loaded cells → At r used es
+    on-call : (es : List Entry) (r : Run) (used : List ℕ) (x : Lent) → asked cells (r .task) upper lower (r .ceiling) ≡ runs t q → loaded (x .table) ≡ loaded cells → At r used es
         → (r .depth ≤ framesIn (x .stack) → usedOf (r .depth) (x .stack) ≡ used) → OneCall es r used x (callOn upper lower r x)
     unfolding outcome
     on-call es r used x a h A J =
-        subst (λ (w : Asked). OneCall es r used x (outcomeOf w r (x .stack) (x .allowance) (x .buffer))) (sym (same-asked (x .table) cells h (r .task) upper lower ∙ a))
+        subst (λ (w : Asked). OneCall es r used x (outcomeOf w r (x .stack) (x .allowance) (x .buffer))) (sym (same-asked (x .table) cells h (r .task) upper lower (r .ceiling) ∙ a))
         (one es r used x A J)
 
     pub record SessionLaw (es : List Entry) (n : ℕ) (r : Run) (xs : List Lent) : Type 0 where
@@ -212,26 +214,26 @@ module _ (t : Table) (q : Query) (B : Bounded (machine t q)) (F : (lettersToRead
           tells = (O .tells n e, S .tells);
         }
 
-    session : (xs : List Lent) (es : List Entry) (r : Run) (used : List ℕ) (n : ℕ) → asked cells (r .task) upper lower ≡ runs t q → At r used es → Handed upper lower cells r used xs
+    session : (xs : List Lent) (es : List Entry) (r : Run) (used : List ℕ) (n : ℕ) → asked cells (r .task) upper lower (r .ceiling) ≡ runs t q → At r used es → Handed upper lower cells r used xs
         → n + length es ≡ treeSize M → SessionLaw es n r xs
     unfolding readings
     session [] es r used n a A J e = record { taken = []; left = es; splits = refl; counted = refl; read = refl; tells = tt }
     session (x ∷ xs) es r used n a A J e =
         let O : OneCall es r used x (callOn upper lower r x) = on-call es r used x a (J .0) A (J .1) in
         joined x xs es r used n e O
-        (session xs (O .left) (runAfter upper lower r x) (usedAfter upper lower r used x) (n + stepsOn upper lower r x) (ap (λ (k : ℕ). asked cells k upper lower) (O .same-task) ∙ a) (O .at) (J .2)
+        (session xs (O .left) (runAfter upper lower r x) (usedAfter upper lower r used x) (n + stepsOn upper lower r x) (ap₂ (λ (k c : ℕ). asked cells k upper lower c) (O .same-task) (O .same-ceiling) ∙ a) (O .at) (J .2)
         (omega (arith, ap length (O .splits) ∙ length-append (O .taken) (O .left), O .counted)))
 
-    pub demand-3 : (task : ℕ) → asked cells task upper lower ≡ runs t q → (xs : List Lent) → Handed upper lower cells (firstRun task) [] xs → Demand3 upper lower t q (firstRun task) xs
+    pub demand-3 : (task ceiling : ℕ) → asked cells task upper lower ceiling ≡ runs t q → (xs : List Lent) → Handed upper lower cells (firstRun task ceiling) [] xs → Demand3 upper lower t q (firstRun task ceiling) xs
     unfolding tour
-    demand-3 task a xs J =
+    demand-3 task ceiling a xs J =
         record {
           same-readings = sym (S .read) ∙ ap (readings M) (sym (take-append-seam (S .taken) (S .left)) ∙ ap₂ (λ (n : ℕ) (es : List Entry). take n es) (S .counted) (sym (S .splits)));
           inside-tree = omega (arith, S .counted, tree-law M, ap length (S .splits) ∙ length-append (S .taken) (S .left));
           tells = S .tells;
         }
       where
-        begin : At (firstRun task) [] (tour M)
+        begin : At (firstRun task ceiling) [] (tour M)
         begin =
             record {
               frames = [];
@@ -241,8 +243,8 @@ module _ (t : Table) (q : Query) (B : Bounded (machine t q)) (F : (lettersToRead
               left = ap (λ (k : ℕ). tourFrom M (after M) 0 k) (sub-zero (length (M .initials)));
             }
 
-        S : SessionLaw (tour M) 0 (firstRun task) xs
-        S = session xs (tour M) (firstRun task) [] 0 a begin J (omega (arith, tree-law M))
+        S : SessionLaw (tour M) 0 (firstRun task ceiling) xs
+        S = session xs (tour M) (firstRun task ceiling) [] 0 a begin J (omega (arith, tree-law M))
 
 -- what CallTells says of a call has one solution
 pub call-tells-one : (t : Table) (q : Query) (n : ℕ) (r : Run) (x : Lent) (o v : Outcome) → CallTells t q n r x o → CallTells t q n r x v → o ≡ v

@@ -10,7 +10,7 @@ use Rattle.table_format.specs.Classes.{isPlain, rowOf, withLetter}
 use Rattle.table_format.specs.Ruled.{Ruled}
 use Rattle.table_format.proofs.ClassFaults.{plain-is}
 use Rattle.machine.specs.Query.{Task, Side, upperSide, lowerSide, letter}
-use Rattle.machine.specs.Report.{KernelPath, emptyPath, longerPath, label, Word, αOf, kernel, Input, Output, Solves}
+use Rattle.machine.specs.Report.{Kernel, KernelPath, emptyPath, longerPath, label, Word, adds, kernelUnder, Input, Output, Solves}
 use Rattle.machine.specs.Expand.{forEach, plainArcs, allPlain, expanded}
 use Rattle.machine.proofs.Members.{mem-left, mem-right, mem-either}
 use Rattle.machine.proofs.Classes.{PlainOf, itself, byLetter, plain-small, rows-keep}
@@ -67,35 +67,51 @@ module _ (t : Table) (U : Ruled t) where
   pub expanded-plain : (b : Arc) → List·Memᴰ b (t′ .arcs) → isPlain b ≡ true
   expanded-plain b m = let R = mem-all (t .classes) b (t .arcs) m in let B = mem-plain (t .classes) (R .0) b (R .2) in plain-of (R .0) (B .0) b (B .1)
 
-  same-ends : (rows : List (List ℕ)) (a : Arc) (x : ℕ) (b : Arc) → PlainOf rows a x b → (b .source ≡ a .source) × (b .target ≡ a .target)
-  same-ends rows a x b (itself p e) = (ap (λ (z : Arc). z .source) (sym e), ap (λ (z : Arc). z .target) (sym e))
-  same-ends rows a x b (byLetter y p n m e) = (ap (λ (z : Arc). z .source) (sym e), ap (λ (z : Arc). z .target) (sym e))
+  same-ends : (rows : List (List ℕ)) (a : Arc) (x : ℕ) (b : Arc) → PlainOf rows a x b → (b .source ≡ a .source) × (b .target ≡ a .target) × (b .penalty ≡ a .penalty)
+  same-ends rows a x b (itself p e) = (ap (λ (z : Arc). z .source) (sym e), ap (λ (z : Arc). z .target) (sym e), ap (λ (z : Arc). z .penalty) (sym e))
+  same-ends rows a x b (byLetter y p n m e) = (ap (λ (z : Arc). z .source) (sym e), ap (λ (z : Arc). z .target) (sym e), ap (λ (z : Arc). z .penalty) (sym e))
 
-  module _ (k : Task) where
-    -- an arc's relation, by one of its plain arcs
-    arc-to : (a : Arc) → List·Memᴰ a (t .arcs) → (d e : Word × Word) → αOf (t .classes) k a d e
-        → (b : Arc) × List·Memᴰ b (t′ .arcs) × (b .source ≡ a .source) × (b .target ≡ a .target) × αOf (t′ .classes) k b d e
+  module _ (k : Task) (c : ℕ) where
+    abbrev K : Table → Kernel
+    K u = kernelUnder u k c
+
+    -- an arc's relation, by one of its plain arcs, which has its penalty
+    arc-to : (a : Arc) → List·Memᴰ a (t .arcs) → (d e : (Word × Word) × ℕ) → K t .relation a d e
+        → (b : Arc) × List·Memᴰ b (t′ .arcs) × (b .source ≡ a .source) × (b .target ≡ a .target) × K t′ .relation b d e
     arc-to a m d e h =
-        let R = relation-parts (t .classes) k a d e h in
-        let S = same-ends (t .classes) a (R .0) (R .1) (R .2) in
-        (R .1, all-mem (t .classes) a (R .1) (t .arcs) m (plain-mem (t .classes) a (R .0) (R .1) (R .2)), S .0, S .1, relation-plain (t′ .classes) k (R .1) d e (plain-of a (R .0) (R .1) (R .2)) .1 (R .3))
+        let R = relation-parts (t .classes) k a (d .0) (e .0) (h .0) in
+        let S = same-ends (t .classes) a (R .0) (R .1) (R .2) in (
+          R .1,
+          all-mem (t .classes) a (R .1) (t .arcs) m (plain-mem (t .classes) a (R .0) (R .1) (R .2)),
+          S .0,
+          S .1,
+          (relation-plain (t′ .classes) k (R .1) (d .0) (e .0) (plain-of a (R .0) (R .1) (R .2)) .1 (R .3), subst (λ (p : ℕ). adds c p (d .1) (e .1)) (sym (S .2)) (h .1)),
+        )
 
-    arc-from : (b : Arc) → List·Memᴰ b (t′ .arcs) → (d e : Word × Word) → αOf (t′ .classes) k b d e
-        → (a : Arc) × List·Memᴰ a (t .arcs) × (a .source ≡ b .source) × (a .target ≡ b .target) × αOf (t .classes) k a d e
+    arc-from : (b : Arc) → List·Memᴰ b (t′ .arcs) → (d e : (Word × Word) × ℕ) → K t′ .relation b d e
+        → (a : Arc) × List·Memᴰ a (t .arcs) × (a .source ≡ b .source) × (a .target ≡ b .target) × K t .relation a d e
     arc-from b m d e h =
         let R = mem-all (t .classes) b (t .arcs) m in
         let B = mem-plain (t .classes) (R .0) b (R .2) in
-        let S = same-ends (t .classes) (R .0) (B .0) b (B .1) in
-        (R .0, R .1, sym (S .0), sym (S .1), relation-from (t .classes) k (R .0) d e (B .0) b (B .1) (relation-plain (t′ .classes) k b d e (expanded-plain b m) .0 h))
+        let S = same-ends (t .classes) (R .0) (B .0) b (B .1) in (
+          R .0,
+          R .1,
+          sym (S .0),
+          sym (S .1),
+          (
+            relation-from (t .classes) k (R .0) (d .0) (e .0) (B .0) b (B .1) (relation-plain (t′ .classes) k b (d .0) (e .0) (expanded-plain b m) .0 (h .0)),
+            subst (λ (p : ℕ). adds c p (d .1) (e .1)) (S .2) (h .1),
+          ),
+        )
 
-    path-to : {q r : ℕ} (w : KernelPath (kernel t k) q r) (d e : Word × Word) → label (kernel t k) w d e → (v : KernelPath (kernel t′ k) q r) × label (kernel t′ k) v d e
+    path-to : {q r : ℕ} (w : KernelPath (K t) q r) (d e : (Word × Word) × ℕ) → label (K t) w d e → (v : KernelPath (K t′) q r) × label (K t′) v d e
     path-to emptyPath d e l = (emptyPath, l)
     path-to (longerPath w a m f g) d e l =
         let R = path-to w d (l .0) (l .1) in
         let B = arc-to a m (l .0) e (l .2) in
         (longerPath (R .0) (B .0) (B .1) (B .2 ∙ f) (B .3 ∙ g), (l .0, R .1, B .4))
 
-    path-from : {q r : ℕ} (w : KernelPath (kernel t′ k) q r) (d e : Word × Word) → label (kernel t′ k) w d e → (v : KernelPath (kernel t k) q r) × label (kernel t k) v d e
+    path-from : {q r : ℕ} (w : KernelPath (K t′) q r) (d e : (Word × Word) × ℕ) → label (K t′) w d e → (v : KernelPath (K t) q r) × label (K t) v d e
     path-from emptyPath d e l = (emptyPath, l)
     path-from (longerPath w a m f g) d e l =
         let R = path-from w d (l .0) (l .1) in
@@ -103,7 +119,7 @@ module _ (t : Table) (U : Ruled t) where
         (longerPath (R .0) (B .0) (B .1) (B .2 ∙ f) (B .3 ∙ g), (l .0, R .1, B .4))
 
     -- both tables solve the same
-    pub expands : (x : Input k) (y : Output k) → Solves t k x y ↔ Solves t′ k x y
+    pub expands : (x : Input k) (y : Output k) → Solves t k c x y ↔ Solves t′ k c x y
     expands x y = (
       λ S. let C = S .1 .2 in let W = path-to (C .4 .0) (S .1 .0) (S .0) (C .4 .1) in (S .0, (S .1 .0, S .1 .1, (C .0, C .1, C .2, C .3, W)), S .2),
       λ S. let C = S .1 .2 in let W = path-from (C .4 .0) (S .1 .0) (S .0) (C .4 .1) in (S .0, (S .1 .0, S .1 .1, (C .0, C .1, C .2, C .3, W)), S .2),

@@ -19,14 +19,14 @@ use Rattle.table_format.proofs.ClassFaults.{plain-is}
 use Rattle.table_format.proofs.All.{All, all-getD}
 use Rattle.graph.proofs.Lists.{same?}
 use Rattle.machine.specs.Query.{Task, recognition, synthesis, analysis, upperSide, lowerSide, reads, Query}
-use Rattle.machine.specs.Machine.{bind, listed}
+use Rattle.machine.specs.Machine.{bind, somewhen, listed}
 use Rattle.machine.specs.Tour.{tour, readings, readingIf}
-use Rattle.machine.specs.Transducer.{member, somewhen, sideFollow, Passed, both, followArc, writesArc, classArc, followAt, writesAt, machine}
+use Rattle.machine.specs.Transducer.{member, sideFollow, Passed, both, followArc, writesArc, classArc, writesAt, machine}
 use Rattle.machine.specs.Denotation.{ifFits, stateTells, initialsTell}
 use Rattle.machine.specs.Expand.{forEach, plainArcs, allPlain, expanded}
 use Rattle.machine.proofs.Classes.{rows-keep, nextOf, plain-follows, plain-writes}
 use Rattle.machine.proofs.Denotation.{tour-tells}
-use Rattle.machine.proofs.ArcLists.{listTell, list-tell-same, list-tell-append, arcsFrom, from-append, from-own, from-other, part-rises, state-tells}
+use Rattle.machine.proofs.ArcLists.{lifted, followUnder, listTell, list-tell-same, list-tell-append, arcsFrom, from-append, from-own, from-other, part-rises, state-tells}
 
 -- The letters of a row rise, from above m on; 0 only fills it up.
 
@@ -70,20 +70,20 @@ other-letter q a d y h = other-by (q .task) (q .upperWord) (q .lowerWord) (d .up
 
 -- What the plain arcs of a class tell, at one place.
 
-module _ (t : Table) (q : Query) (g : ℕ → Passed → List ℕ → List (List ℕ)) (d : Passed) (o : List ℕ) (a : Arc) where
+module _ (t : Table) (q : Query) (g : ℕ → Passed × ℕ → List ℕ → List (List ℕ)) (d : Passed × ℕ) (o : List ℕ) (a : Arc) where
   -- what an arc tells that is another one here, if it is one
   abbrev tellsAs : Option Arc → List (List ℕ)
-  tellsAs b = ifFits (bind b (λ c. followArc q c d)) (λ e. g (a .target) e (o ++ listed b (writesArc q)))
+  tellsAs b = ifFits (lifted (q .ceiling) (a .penalty) (d .1) (bind b (λ c. followArc q c (d .0)))) (λ e. g (a .target) e (o ++ listed b (writesArc q)))
 
   small-plain : (y : ℕ) → y ≤ 63 → isPlain (withLetter a y) ≡ true
   small-plain y h = plain-is (withLetter a y) .1 (omega arith, omega arith)
 
-  module _ (x : ℕ) (next : nextOf q d ≡ x) where
+  module _ (x : ℕ) (next : nextOf q (d .0) ≡ x) where
     -- the arc of another letter tells nothing
     other-tells : (y : ℕ) → suc y ≤ 63 → (x ≡ suc y → ⊥) → (l : List Arc) → listTell t q g d o (withLetter a (suc y) ∷ l) ≡ listTell t q g d o l
     other-tells y h n l =
-        ap (λ (f : Option Passed). ifFits f (λ e. g (a .target) e (o ++ writesAt t q (withLetter a (suc y)) d)) ++ listTell t q g d o l)
-        (plain-follows t q (withLetter a (suc y)) d (small-plain (suc y) h) ∙ other-letter q a d y (λ e. n (sym next ∙ e)))
+        ap (λ (f : Option Passed). ifFits (lifted (q .ceiling) (a .penalty) (d .1) f) (λ e. g (a .target) e (o ++ writesAt t q (withLetter a (suc y)) (d .0))) ++ listTell t q g d o l)
+        (plain-follows t q (withLetter a (suc y)) (d .0) (small-plain (suc y) h) ∙ other-letter q a (d .0) y (λ e. n (sym next ∙ e)))
 
     -- letters above the next one tell nothing
     above-tell : (row : List ℕ) (m : ℕ) → x ≤ m → RowRises m row → ((y : ℕ) → List·Memᴰ y row → y ≤ 63) → listTell t q g d o (forEach a row) ≡ []
@@ -94,15 +94,15 @@ module _ (t : Table) (q : Query) (g : ℕ → Passed → List ℕ → List (List
         ∙ above-tell row (suc y) (let k : m < suc y = r .0 in omega arith) (r .1) (λ z i. s z (List·Memᴰ·tail i))
 
   -- the arc of the next letter tells what it does
-  letter-tells : (z : ℕ) → nextOf q d ≡ suc z → suc z ≤ 63 → (l : List Arc) → listTell t q g d o l ≡ [] → listTell t q g d o (withLetter a (suc z) ∷ l) ≡ tellsAs (some (withLetter a (suc z)))
+  letter-tells : (z : ℕ) → nextOf q (d .0) ≡ suc z → suc z ≤ 63 → (l : List Arc) → listTell t q g d o l ≡ [] → listTell t q g d o (withLetter a (suc z) ∷ l) ≡ tellsAs (some (withLetter a (suc z)))
   letter-tells z next h l e =
       let b : Arc = withLetter a (suc z) in
-      ap₂ (λ (f : Option Passed) (w : List ℕ). ifFits f (λ e. g (a .target) e (o ++ w)) ++ listTell t q g d o l)
-      (plain-follows t q b d (small-plain (suc z) h)) (plain-writes t q b d (small-plain (suc z) h))
+      ap₂ (λ (f : Option Passed) (w : List ℕ). ifFits (lifted (q .ceiling) (a .penalty) (d .1) f) (λ e. g (a .target) e (o ++ w)) ++ listTell t q g d o l)
+      (plain-follows t q b (d .0) (small-plain (suc z) h)) (plain-writes t q b (d .0) (small-plain (suc z) h))
       ∙ ap (λ (k : List (List ℕ)). tellsAs (some b) ++ k) e
       ∙ append-nil (tellsAs (some b))
 
-  row-tells : (z : ℕ) → nextOf q d ≡ suc z → (row : List ℕ) (m : ℕ) → RowRises m row → ((y : ℕ) → List·Memᴰ y row → y ≤ 63)
+  row-tells : (z : ℕ) → nextOf q (d .0) ≡ suc z → (row : List ℕ) (m : ℕ) → RowRises m row → ((y : ℕ) → List·Memᴰ y row → y ≤ 63)
       → listTell t q g d o (forEach a row) ≡ tellsAs (classArc row a (suc z))
   row-tells z next [] m r s = refl
   row-tells z next (zero ∷ row) m r s =
@@ -126,10 +126,10 @@ module _ (t : Table) (q : Query) (g : ℕ → Passed → List ℕ → List (List
           ∙ ap (λ (b : Bool). tellsAs (cond (b || member (suc z) row) (some (withLetter a (suc z))) none)) (sym (ne-eqb (suc y) (suc z) n))
 
   -- all plain arcs of a row: the one of the next letter, if there is one
-  class-tells : (row : List ℕ) → RowRises 0 row → ((y : ℕ) → List·Memᴰ y row → y ≤ 63) → listTell t q g d o (forEach a row) ≡ tellsAs (classArc row a (nextOf q d))
-  class-tells row r s = go (nextOf q d) refl
+  class-tells : (row : List ℕ) → RowRises 0 row → ((y : ℕ) → List·Memᴰ y row → y ≤ 63) → listTell t q g d o (forEach a row) ≡ tellsAs (classArc row a (nextOf q (d .0)))
+  class-tells row r s = go (nextOf q (d .0)) refl
     where
-      go : (x : ℕ) → nextOf q d ≡ x → listTell t q g d o (forEach a row) ≡ tellsAs (classArc row a x)
+      go : (x : ℕ) → nextOf q (d .0) ≡ x → listTell t q g d o (forEach a row) ≡ tellsAs (classArc row a x)
       go zero next = above-tell 0 next row 0 (omega arith) r s
       go (suc z) next = row-tells z next row 0 r s
 
@@ -172,19 +172,19 @@ module _ (t : Table) (U : Ruled t) (q : Query) where
   abbrev t′ : Table
   t′ = expanded t
 
-  module _ (g : ℕ → Passed → List ℕ → List (List ℕ)) (d : Passed) (o : List ℕ) where
+  module _ (g : ℕ → Passed × ℕ → List ℕ → List (List ℕ)) (d : Passed × ℕ) (o : List ℕ) where
     -- an arc tells what its plain arcs do
-    arc-tells : (a : Arc) → listTell t′ q g d o (plainArcs (t .classes) a) ≡ ifFits (followAt t q a d) (λ e. g (a .target) e (o ++ writesAt t q a d))
+    arc-tells : (a : Arc) → listTell t′ q g d o (plainArcs (t .classes) a) ≡ ifFits (followUnder t q a d) (λ e. g (a .target) e (o ++ writesAt t q a (d .0)))
     arc-tells a = go (isPlain a) refl
       where
         go : (b : Bool) → isPlain a ≡ b
-            → listTell t′ q g d o (cond b (a ∷ []) (forEach a (rowOf (t .classes) (a .upper)))) ≡ ifFits (followAt t q a d) (λ e. g (a .target) e (o ++ writesAt t q a d))
+            → listTell t′ q g d o (cond b (a ∷ []) (forEach a (rowOf (t .classes) (a .upper)))) ≡ ifFits (followUnder t q a d) (λ e. g (a .target) e (o ++ writesAt t q a (d .0)))
         go true p =
-            append-nil (ifFits (followAt t′ q a d) (λ e. g (a .target) e (o ++ writesAt t′ q a d)))
-            ∙ ap₂ (λ (f : Option Passed) (w : List ℕ). ifFits f (λ e. g (a .target) e (o ++ w))) (plain-follows t′ q a d p ∙ sym (plain-follows t q a d p)) (plain-writes t′ q a d p ∙ sym (plain-writes t q a d p))
+            append-nil (ifFits (followUnder t′ q a d) (λ e. g (a .target) e (o ++ writesAt t′ q a (d .0))))
+            ∙ ap₂ (λ (f : Option Passed) (w : List ℕ). ifFits (lifted (q .ceiling) (a .penalty) (d .1) f) (λ e. g (a .target) e (o ++ w))) (plain-follows t′ q a (d .0) p ∙ sym (plain-follows t q a (d .0) p)) (plain-writes t′ q a (d .0) p ∙ sym (plain-writes t q a (d .0) p))
         go false p =
             class-tells t′ q g d o a (rowOf (t .classes) (a .upper)) (row-rises t U (a .upper)) (row-small (t .classes) (rows-keep t U) (a .upper))
-            ∙ ap (λ (b : Bool). tellsAs t′ q g d o a (cond b (some a) (classArc (rowOf (t .classes) (a .upper)) a (nextOf q d)))) (sym p)
+            ∙ ap (λ (b : Bool). tellsAs t′ q g d o a (cond b (some a) (classArc (rowOf (t .classes) (a .upper)) a (nextOf q (d .0))))) (sym p)
 
     all-tell : (l : List Arc) → listTell t q g d o l ≡ listTell t′ q g d o (allPlain (t .classes) l)
     all-tell [] = refl
@@ -195,7 +195,7 @@ module _ (t : Table) (U : Ruled t) (q : Query) where
   reading-same false o = refl
 
   -- a state tells the same in both tables, after anything passed and to any number of arcs
-  pub state-same : (c s : ℕ) (d : Passed) (o : List ℕ) → stateTells (machine t q) c s d o ≡ stateTells (machine t′ q) c s d o
+  pub state-same : (c s : ℕ) (d : Passed × ℕ) (o : List ℕ) → stateTells (machine t q) c s d o ≡ stateTells (machine t′ q) c s d o
   unfolding stateTells
   state-same zero s d o = reading-same (machine t q .terminal s && machine t q .done d) o
   state-same (suc c) s d o =

@@ -5,14 +5,14 @@ use mathlib.Core.Path.{_≡_, refl, sym, ap, ap₂, subst}
 use mathlib.Core.Logic.{_↔_, ⊎-elim}
 use mathlib.Core.Bool.{Bool, true, false}
 use mathlib.Core.Option.{Option, none, some}
-use mathlib.Core.List.{List, [], _∷_, _++_, List·Memᴰ, List·Memᴰ·head, List·Memᴰ·tail, List·Memᴰ·not-nil, List·Memᴰ·cases-cons}
+use mathlib.Core.List.{List, [], _∷_, _++_, map, List·Memᴰ, List·Memᴰ·head, List·Memᴰ·tail, List·Memᴰ·not-nil, List·Memᴰ·cases-cons}
 use lib.ListN.{length, replicate, length-replicate}
-use lib.Dec.{eqb}
-use borrow.Author.Tests.{eqb-true, eqb-false}
+use lib.Dec.{eqb, leb}
+use borrow.Author.Tests.{eqb-true, eqb-false, leb-true, leb-false}
 use Rattle.table_format.specs.Table.{Arc}
 use Rattle.table_format.specs.Classes.{isPlain, rowOf, withLetter}
 use Rattle.machine.specs.Query.{Task, recognition, synthesis, analysis}
-use Rattle.machine.specs.Report.{Rel, identity, _⊗_, LocallyFinite, Word, L⁻¹, readLetter, writeLetter, α, αIf, αOf}
+use Rattle.machine.specs.Report.{Rel, identity, _⊗_, LocallyFinite, Word, L⁻¹, readLetter, writeLetter, α, αIf, αOf, adds}
 use Rattle.machine.proofs.Members.{mem-left, mem-right, mem-either}
 
 -- PARTIAL FUNCTIONS: a datum is related to what stands in an option, and to nothing else.
@@ -108,6 +108,30 @@ relation-finite rows k a = go (isPlain a)
     go : (c : Bool) → LocallyFinite (αIf c (rowOf rows (a .upper)) k a)
     go true = label-finite k a
     go false = union-finite (λ x. α k (withLetter a (suc x))) (λ x. label-finite k (withLetter a (suc x))) (rowOf rows (a .upper))
+
+-- the relation of an arc under a ceiling: each datum of the other with the one sum, where that is within the ceiling
+module _ {A : Type 0} (n : ℕ) where
+  with-sum : (l : List A) (y : A × ℕ) → List·Memᴰ (y .0) l → y .1 ≡ n → List·Memᴰ y (map (λ e. (e, n)) l)
+  with-sum [] y m e = absurd (List·Memᴰ·not-nil m)
+  with-sum (x ∷ l) y m e = ⊎-elim (λ w. List·Memᴰ·head (λ i. (w i, e i))) (λ w. List·Memᴰ·tail (with-sum l y w e)) (List·Memᴰ·cases-cons m)
+
+  sum-with : (l : List A) (y : A × ℕ) → List·Memᴰ y (map (λ e. (e, n)) l) → List·Memᴰ (y .0) l × (y .1 ≡ n)
+  sum-with [] y m = absurd (List·Memᴰ·not-nil m)
+  sum-with (x ∷ l) y m =
+      ⊎-elim (λ w. (List·Memᴰ·head (ap (λ (z : A × ℕ). z .0) w), ap (λ (z : A × ℕ). z .1) w)) (λ w. let R = sum-with l y w in (List·Memᴰ·tail (R .0), R .1)) (List·Memᴰ·cases-cons m)
+
+pub under-finite : {A : Type 0} (ρ : Rel A A) → LocallyFinite ρ → (c p : ℕ) → LocallyFinite (ρ ⊗ adds c p)
+under-finite {A} ρ F c p x = go (leb (x .1 + p) c) refl
+  where
+    go : (b : Bool) → leb (x .1 + p) c ≡ b → (l : List (A × ℕ)) × ((y : A × ℕ) → _⊗_ ρ (adds c p) x y ↔ List·Memᴰ y l)
+    go true e = (
+      map (λ d. (d, x .1 + p)) (F (x .0) .0),
+      λ y. (
+        λ r. with-sum (x .1 + p) (F (x .0) .0) y (F (x .0) .1 (y .0) .0 (r .0)) (r .1 .0),
+        λ m. let R = sum-with (x .1 + p) (F (x .0) .0) y m in (F (x .0) .1 (y .0) .1 (R .0), (R .1, subst (λ (s : ℕ). s ≤ c) (sym (R .1)) (leb-true _ _ e))),
+      ),
+    )
+    go false e = ([], λ y. (λ r. absurd (omega (arith, leb-false (x .1 + p) c e, r .1 .0, r .1 .1)), λ m. absurd (List·Memᴰ·not-nil m)))
 
 -- NOT LOCALLY FINITE is the relation of all words with all: a word is longer than all of a list.
 

@@ -64,13 +64,13 @@ module _ (t : Table) (q : Query) where
     unfolding step
     finding N d G k z = go (move M store d) refl z
       where
-        after : (b : Move (Frame Passed)) → move M store d ≡ b → RoomFor N (d .depth) b → Good M store N (effect M store b d)
-        after b e r = subst (λ (w : Move (Frame Passed)). RoomFor N (d .depth) w → Good M store N (effect M store w d)) e (move-good M store store-laws N d G) r
+        after : (b : Move (Frame (Passed × ℕ))) → move M store d ≡ b → RoomFor N (d .depth) b → Good M store N (effect M store b d)
+        after b e r = subst (λ (w : Move (Frame (Passed × ℕ))). RoomFor N (d .depth) w → Good M store N (effect M store w d)) e (move-good M store store-laws N d G) r
 
         room : ltb (d .depth) (roomIn (d .cells)) ≡ true → d .depth < N
         room b = omega (arith, ltb-true (d .depth) (roomIn (d .cells)) b, G .room)
 
-        go : (b : Move (Frame Passed)) → move M store d ≡ b → made M store l d b ≡ refuses (State OutputFull) → (e : Held (List ℕ)) × (o : List ℕ) × (made M store m d b ≡ finds e o)
+        go : (b : Move (Frame (Passed × ℕ))) → move M store d ≡ b → made M store l d b ≡ refuses (State OutputFull) → (e : Held (List ℕ)) × (o : List ℕ) × (made M store m d b ≡ finds e o)
         go over e z = absurd (let y : _≡_ {A = ℕ} 0 1 = cc in omega arith)
         go drops e z = absurd (let y : _≡_ {A = ℕ} 0 1 = cc in omega arith)
         go (begins g) e z =
@@ -88,7 +88,7 @@ module _ (t : Table) (q : Query) where
   enough-by run stack n buffer (goes-on I (at-reading w s j z)) e b m k a = absurd (omega arith)
   enough-by run stack n buffer (goes-on I (at-allowance s z)) e b m k a = absurd (omega arith)
   enough-by run stack n buffer (goes-on I (at-refusal {d = d} c s j z)) e b m k a =
-      (length (F .1), ap (λ (r : Replied (List ℕ)). outcomeAs (run .task) b r .called .answer) (in-place-call M store m (length b) d (search-place t q after (d .cells) J) ∙ turn))
+      (length (F .1), ap (λ (r : Replied (List ℕ)). outcomeAs run b r .called .answer) (in-place-call M store m (length b) d (search-place t q after (d .cells) J) ∙ turn))
     where
       full : c ≡ State OutputFull
       full = ⊎-elim (λ x. absurd (let y : _≡_ {A = ℕ} 22 23 = ap numberOf (sym x) ∙ e in omega arith)) (λ x. x) (step-full M store (length buffer) d c z)
@@ -100,7 +100,7 @@ module _ (t : Table) (q : Query) where
       F = finding (length buffer) (length b) (roomIn stack) d G k (z ∙ ap refuses full)
 
       after : Run
-      after = record { task = run .task; started = d .started; depth = d .depth }
+      after = record { task = run .task; started = d .started; depth = d .depth; ceiling = run .ceiling }
 
       J : InSearch t q after (d .cells)
       J = record { in-stack = omega (arith, G .deep, G .room); in-limit = omega (arith, G .deep, G .room); placed = G .placed }
@@ -108,7 +108,7 @@ module _ (t : Table) (q : Query) where
       turn : advance M store (length b) m d ≡ record { reply = found (F .1); steps = 1; after = F .0 }
       turn = ap (λ (j : ℕ). advance M store (length b) j d) (let y : m ≡ suc (pred m) = omega arith in y) ∙ found-turn M store (length b) d (pred m) (F .0) (F .1) (F .2)
 
-pub after-23 : (cells upper lower : List ℕ) (run : Run) (stack : List ℕ) (n : ℕ) (buffer : List ℕ) (t : Table) (q : Query) → asked cells (run .task) upper lower ≡ runs t q
+pub after-23 : (cells upper lower : List ℕ) (run : Run) (stack : List ℕ) (n : ℕ) (buffer : List ℕ) (t : Table) (q : Query) → asked cells (run .task) upper lower (run .ceiling) ≡ runs t q
     → toldBy (outcome cells upper lower run stack n buffer) .number ≡ 23
     → (b : List ℕ) (m : ℕ) → outcome cells upper lower run stack n buffer .called .run .depth ≤ length b → 0 < m
     → (k : ℕ) × (outcome cells upper lower (outcome cells upper lower run stack n buffer .called .run) (outcome cells upper lower run stack n buffer .stack) m b .called .answer ≡ Found 1 k)
@@ -118,7 +118,7 @@ after-23 cells upper lower run stack n buffer t q a e b m k p = subst Enough (sy
     Enough : Asked → Type 0
     Enough w =
         let o = outcomeOf w run stack n buffer in
-        toldBy o .number ≡ 23 → o .called .run .depth ≤ length b → (k : ℕ) × (outcomeOf (asked cells (o .called .run .task) upper lower) (o .called .run) (o .stack) m b .called .answer ≡ Found 1 k)
+        toldBy o .number ≡ 23 → o .called .run .depth ≤ length b → (k : ℕ) × (outcomeOf (asked cells (o .called .run .task) upper lower (o .called .run .ceiling)) (o .called .run) (o .stack) m b .called .answer ≡ Found 1 k)
 
     there : Enough (runs t q)
     there e k =

@@ -38,7 +38,7 @@ stack-by t q run stack n buffer (goes-on {c = c} I s) = record { long = λ k. om
 
 stack-law : (cells upper lower : List ℕ) (run : Run) (stack : List ℕ) (n : ℕ) (buffer : List ℕ) → StackLaw run stack (outcome cells upper lower run stack n buffer)
 unfolding outcome
-stack-law cells upper lower run stack n buffer = go (asked cells (run .task) upper lower)
+stack-law cells upper lower run stack n buffer = go (asked cells (run .task) upper lower (run .ceiling))
   where
     go : (w : Asked) → StackLaw run stack (outcomeOf w run stack n buffer)
     go (turned r) = record { long = λ k. k; short = λ k. refl }

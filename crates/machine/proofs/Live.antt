@@ -19,17 +19,16 @@ use Rattle.refusal.specs.Told.{endedKind, refusedKind}
 use Rattle.machine.specs.Answer.{told}
 use Rattle.machine.specs.Reading.{Outcome, toldBy, CallBy, no-place, goes-on}
 use Rattle.machine.specs.Demand.{Lent, CallTells, Ample, AmpleCalls, none, ample, other, oneUnlessEnded, callOn, stepsOn, runAfter, stepsTold, unended, LastEnds, Tells, Demand3}
-use Rattle.machine.proofs.Transducer.{written-length, passed-size}
-use Rattle.machine.proofs.Bound.{has-datum}
+use Rattle.machine.proofs.Penalties.{has-datum, written-length, passed-size}
 
 module _ (t : Table) (q : Query) where
   -- a path writes at most a letter for each arc
   pub output-size : (p : Path) → Allowed (machine t q) p → length (output (machine t q) p) ≤ size p
   output-size p A =
       let D = has-datum t q p A in
-      let u : D .0 .up ≤ size p = passed-size t q p (D .0) (D .1) upperSide in
-      let l : D .0 .low ≤ size p = passed-size t q p (D .0) (D .1) lowerSide in
-      subst (λ (k : ℕ). k ≤ size p) (sym (written-length t q p (D .0) (D .1))) (go (q .task) (D .0) u l)
+      let u : D .0 .0 .up ≤ size p = passed-size t q p (D .0) (D .1) upperSide in
+      let l : D .0 .0 .low ≤ size p = passed-size t q p (D .0) (D .1) lowerSide in
+      subst (λ (k : ℕ). k ≤ size p) (sym (written-length t q p (D .0) (D .1))) (go (q .task) (D .0 .0) u l)
     where
       go : (k : Task) (d : Passed) → d .up ≤ size p → d .low ≤ size p → sideWritten (reads k upperSide) (passed d upperSide) + sideWritten (reads k lowerSide) (passed d lowerSide) ≤ size p
       go recognition d u l = omega arith

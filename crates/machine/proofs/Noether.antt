@@ -14,7 +14,7 @@ use Rattle.graph.proofs.Walk.{rotated}
 use Rattle.graph.proofs.Reached.{reached-from}
 use Rattle.machine.specs.Query.{Task, Side, upperSide, lowerSide, reads, letter, Query}
 use Rattle.machine.specs.Machine.{Path, start, more, size}
-use Rattle.machine.specs.Transducer.{sideWrites, nothingPassed, machine}
+use Rattle.machine.specs.Transducer.{sideWrites, nothingPassed, plainMachine}
 use Rattle.machine.specs.Idle.{sideIdle, idle, AnyArc, StateReached, IdleArc, IdleWalk, NoIdleCycle}
 use Rattle.machine.specs.Report.{Word, Cell, Edge, InitialCell, Noetherian, αOf, kernel}
 use Rattle.machine.specs.Agree.{arcsBack}
@@ -37,7 +37,7 @@ module _ (t : Table) (k : Task) (U : Ruled t) where
     t′ = record { states = t .states; classes = t .classes; initials = c 0 .1 ∷ []; terminals = t .terminals; arcs = t .arcs }
 
     abbrev q′ : Query
-    q′ = record { task = k; upperWord = c 0 .0 .0; lowerWord = c 0 .0 .1 }
+    q′ = record { task = k; upperWord = c 0 .0 .0; lowerWord = c 0 .0 .1; ceiling = 0 }
 
     abbrev v : Side → Word
     v s = on s (c 0 .0)
@@ -63,6 +63,7 @@ module _ (t : Table) (k : Task) (U : Ruled t) where
           row-in = U .row-in;
           class-alike = U .class-alike;
           class-defined = U .class-defined;
+          penalty-in = U .penalty-in;
           arcs-differ = U .arcs-differ;
           initials-differ = λ d i j h m e. omega arith;
         }
@@ -93,7 +94,7 @@ module _ (t : Table) (k : Task) (U : Ruled t) where
 
     never : InitialCell (kernel t k) (c 0) → NoIdleCycle t k → ⊥
     never I N =
-        let n : ℕ = machine t′ q′ .limit in
+        let n : ℕ = plainMachine t′ q′ .limit in
         let P = path n in
         let h : size (P .path) < n = bounded t′ q′ (λ s R w. N s (reached-from (AnyArc (t .arcs)) (t .initials) (initial I) R) w) U′ (P .path) (P .allowed) in
         let e : size (P .path) ≡ n = size-is t′ (P .path) ∙ ap length (P .arcs-are) ∙ edges-length n in

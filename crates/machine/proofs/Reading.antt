@@ -112,34 +112,34 @@ module _ (t : Table) (q : Query) (run : Run) (stack : List ℕ) where
       where
         go : (b : Bool) → placeHolds (machine t q) store (heldOf run stack) ≡ b → o ≡ placeRefused run stack buffer
         go true p = absurd (h (in-search p))
-        go false p = ap (outcomeAs (run .task) buffer) (no-place-call (machine t q) store n (length buffer) (heldOf run stack) p)
+        go false p = ap (outcomeAs run buffer) (no-place-call (machine t q) store n (length buffer) (heldOf run stack) p)
 
     -- the outcome is the one solution of CallBy
     pub call-by : CallBy t q run stack n buffer o
     unfolding call
     call-by = go (placeHolds (machine t q) store (heldOf run stack)) refl
       where
-        go : (b : Bool) → placeHolds (machine t q) store (heldOf run stack) ≡ b → CallBy t q run stack n buffer (outcomeAs (run .task) buffer (entered (machine t q) store b n (length buffer) (heldOf run stack)))
+        go : (b : Bool) → placeHolds (machine t q) store (heldOf run stack) ≡ b → CallBy t q run stack n buffer (outcomeAs run buffer (entered (machine t q) store b n (length buffer) (heldOf run stack)))
         go true p = goes-on (in-search p) (advance-stops (machine t q) store (length buffer) n (heldOf run stack))
         go false p = no-place (λ I. let z : true ≡ false = sym (search-place I) ∙ p in let y : _≡_ {A = ℕ} 0 1 = cc in omega arith)
 
     pub by-call : {v : Outcome} → CallBy t q run stack n buffer v → v ≡ o
     by-call (no-place f) = sym (unplaced f)
     by-call (goes-on I s) =
-        ap (outcomeAs (run .task) buffer) (stops-advance (machine t q) store (length buffer) s ∙ sym (in-place-call (machine t q) store n (length buffer) (heldOf run stack) (search-place I)))
+        ap (outcomeAs run buffer) (stops-advance (machine t q) store (length buffer) s ∙ sym (in-place-call (machine t q) store n (length buffer) (heldOf run stack) (search-place I)))
 
 module _ (cells upper lower : List ℕ) (run : Run) (stack : List ℕ) (n : ℕ) (buffer : List ℕ) where
   pub twenty-one : (toldBy (outcome cells upper lower run stack n buffer) .number ≡ 21)
-      ↔ ((t : Table) × (q : Query) × (asked cells (run .task) upper lower ≡ runs t q) × (InSearch t q run stack → ⊥))
+      ↔ ((t : Table) × (q : Query) × (asked cells (run .task) upper lower (run .ceiling) ≡ runs t q) × (InSearch t q run stack → ⊥))
   unfolding outcome
   twenty-one = (
-    to (asked cells (run .task) upper lower) refl (turned-by cells (run .task) upper lower),
+    to (asked cells (run .task) upper lower (run .ceiling)) refl (turned-by cells (run .task) upper lower (run .ceiling)),
     λ w. subst (λ (z : Asked). toldBy (outcomeOf z run stack n buffer) .number ≡ 21) (sym (w .2)) (ap (λ (v : Outcome). toldBy v .number) (unplaced (w .0) (w .1) run stack n buffer (w .3))),
   )
     where
-      to : (z : Asked) → asked cells (run .task) upper lower ≡ z → TurnedBy z → toldBy (outcomeOf z run stack n buffer) .number ≡ 21
-          → (t : Table) × (q : Query) × (asked cells (run .task) upper lower ≡ runs t q) × (InSearch t q run stack → ⊥)
-      to (turned r) a N e = absurd (⊎-elim (λ x. omega arith) (⊎-elim (λ x. omega arith) (λ x. omega arith)) N)
+      to : (z : Asked) → asked cells (run .task) upper lower (run .ceiling) ≡ z → TurnedBy z → toldBy (outcomeOf z run stack n buffer) .number ≡ 21
+          → (t : Table) × (q : Query) × (asked cells (run .task) upper lower (run .ceiling) ≡ runs t q) × (InSearch t q run stack → ⊥)
+      to (turned r) a N e = absurd (⊎-elim (λ x. omega arith) (⊎-elim (λ x. omega arith) (⊎-elim (λ x. omega arith) (λ x. omega arith))) N)
       to (runs t q) a N e = (t, q, a, λ I. placed-number t q run stack n buffer I e)
 
   pub twenty-one-leaves : toldBy (outcome cells upper lower run stack n buffer) .number ≡ 21 → outcome cells upper lower run stack n buffer ≡ placeRefused run stack buffer
@@ -152,16 +152,16 @@ module _ (cells upper lower : List ℕ) (run : Run) (stack : List ℕ) (n : ℕ)
 
 leaves-by : (t : Table) (q : Query) (run : Run) (stack : List ℕ) (n : ℕ) (buffer : List ℕ) {o : Outcome} → CallBy t q run stack n buffer o → toldBy o .kind ≡ refusedKind
     → RefusedLeaves (runs t q) run stack buffer o
-leaves-by t q run stack n buffer (no-place f) e = (refl, refl, inl (f, (refl, refl, refl)))
+leaves-by t q run stack n buffer (no-place f) e = (refl, refl, refl, inl (f, (refl, refl, refl)))
 leaves-by t q run stack n buffer (goes-on I (R.at-end s k z)) e = absurd (omega arith)
 leaves-by t q run stack n buffer (goes-on I (R.at-reading w s k z)) e = absurd (omega arith)
 leaves-by t q run stack n buffer (goes-on I (R.at-allowance s z)) e = absurd (omega arith)
-leaves-by t q run stack n buffer (goes-on I (R.at-refusal c s k z)) e = (refl, refl, inr (I, record { refusal = c; is-refused = refl; steps-made = s; refused-there = z }))
+leaves-by t q run stack n buffer (goes-on I (R.at-refusal c s k z)) e = (refl, refl, refl, inr (I, record { refusal = c; is-refused = refl; steps-made = s; refused-there = z }))
 
 pub refused-leaves : (cells upper lower : List ℕ) (run : Run) (stack : List ℕ) (n : ℕ) (buffer : List ℕ)
-    → toldBy (outcome cells upper lower run stack n buffer) .kind ≡ refusedKind → RefusedLeaves (asked cells (run .task) upper lower) run stack buffer (outcome cells upper lower run stack n buffer)
+    → toldBy (outcome cells upper lower run stack n buffer) .kind ≡ refusedKind → RefusedLeaves (asked cells (run .task) upper lower (run .ceiling)) run stack buffer (outcome cells upper lower run stack n buffer)
 unfolding outcome
-refused-leaves cells upper lower run stack n buffer e = go (asked cells (run .task) upper lower) e
+refused-leaves cells upper lower run stack n buffer e = go (asked cells (run .task) upper lower (run .ceiling)) e
   where
     go : (w : Asked) → toldBy (outcomeOf w run stack n buffer) .kind ≡ refusedKind → RefusedLeaves w run stack buffer (outcomeOf w run stack n buffer)
     go (turned r) e = (refl, (refl, refl, refl))
@@ -169,21 +169,19 @@ refused-leaves cells upper lower run stack n buffer e = go (asked cells (run .ta
 
 -- And nothing else is left so.
 
--- an outcome by its answer, the run's task, the rest of the run with the stack, and the buffer
-abbrev whole : Answer → ℕ → Held (List ℕ) → List ℕ → Outcome
-whole a task h b = record { called = record { answer = a; run = record { task = task; started = h .started; depth = h .depth } }; stack = h .cells; output = b }
-
-same-parts : (o v : Outcome) → o .called .answer ≡ v .called .answer → o .called .run .task ≡ v .called .run .task
+same-parts : (o v : Outcome) → o .called .answer ≡ v .called .answer → o .called .run .task ≡ v .called .run .task → o .called .run .ceiling ≡ v .called .run .ceiling
     → heldOf (o .called .run) (o .stack) ≡ heldOf (v .called .run) (v .stack) → o .output ≡ v .output → o ≡ v
-same-parts o v a k h b =
-    ap (λ (x : Answer). whole x (o .called .run .task) (heldOf (o .called .run) (o .stack)) (o .output)) a
-    ∙ ap (λ (x : ℕ). whole (v .called .answer) x (heldOf (o .called .run) (o .stack)) (o .output)) k
-    ∙ ap (λ (x : Held (List ℕ)). whole (v .called .answer) (v .called .run .task) x (o .output)) h
-    ∙ ap (λ (x : List ℕ). whole (v .called .answer) (v .called .run .task) (heldOf (v .called .run) (v .stack)) x) b
+same-parts o v a k c h b =
+    λ i.
+    record {
+      called = record { answer = a i; run = record { task = k i; started = h i .started; depth = h i .depth; ceiling = c i } };
+      stack = h i .cells;
+      output = b i;
+    }
 
 unchanged-one : (c : Refusal) (run : Run) (stack : List ℕ) (o v : Outcome) → Unchanged c run stack o → Unchanged c run stack v → o .output ≡ v .output → o ≡ v
 unchanged-one c run stack o v O W b =
-    same-parts o v (O .0 ∙ sym (W .0)) (ap (λ (r : Run). r .task) (O .1 ∙ sym (W .1))) (ap₂ heldOf (O .1 ∙ sym (W .1)) (O .2 ∙ sym (W .2))) b
+    same-parts o v (O .0 ∙ sym (W .0)) (ap (λ (r : Run). r .task) (O .1 ∙ sym (W .1))) (ap (λ (r : Run). r .ceiling) (O .1 ∙ sym (W .1))) (ap₂ heldOf (O .1 ∙ sym (W .1)) (O .2 ∙ sym (W .2))) b
 
 before-one : (M : Machine) (S : Store (Frame (M .D))) (l : ℕ) (h d e : Held (S .Cells)) (a b : Answer) → BeforeStep M S l h d a → BeforeStep M S l h e b → (a ≡ b) × (d ≡ e)
 before-one M S l h d e a b A B =
@@ -196,9 +194,9 @@ before-one M S l h d e a b A B =
 pub refused-leaves-one : (w : Asked) (run : Run) (stack buffer : List ℕ) (o v : Outcome) → RefusedLeaves w run stack buffer o → RefusedLeaves w run stack buffer v → o ≡ v
 refused-leaves-one (turned c) run stack buffer o v O W = unchanged-one c run stack o v (O .1) (W .1) (O .0 ∙ sym (W .0))
 refused-leaves-one (runs t q) run stack buffer o v O W =
-    ⊎-elim (λ x. ⊎-elim (λ y. unchanged-one (State Place) run stack o v (x .1) (y .1) (O .0 ∙ sym (W .0))) (λ y. absurd (x .0 (y .0))) (W .2))
-    (λ x. ⊎-elim (λ y. absurd (y .0 (x .0))) (λ y. let z = before-one (machine t q) store (length buffer) (heldOf run stack) (heldOf (o .called .run) (o .stack)) (heldOf (v .called .run) (v .stack)) (o .called .answer) (v .called .answer) (x .1) (y .1) in same-parts o v (z .0) (O .1 ∙ sym (W .1)) (z .1) (O .0 ∙ sym (W .0))) (W .2))
-    (O .2)
+    ⊎-elim (λ x. ⊎-elim (λ y. unchanged-one (State Place) run stack o v (x .1) (y .1) (O .0 ∙ sym (W .0))) (λ y. absurd (x .0 (y .0))) (W .3))
+    (λ x. ⊎-elim (λ y. absurd (y .0 (x .0))) (λ y. let z = before-one (machine t q) store (length buffer) (heldOf run stack) (heldOf (o .called .run) (o .stack)) (heldOf (v .called .run) (v .stack)) (o .called .answer) (v .called .answer) (x .1) (y .1) in same-parts o v (z .0) (O .1 ∙ sym (W .1)) (O .2 ∙ sym (W .2)) (z .1) (O .0 ∙ sym (W .0))) (W .3))
+    (O .3)
 
 -- 23 is given only where some reading is longer than the buffer
 pub never-full : (t : Table) (q : Query) (run : Run) (stack : List ℕ) (n : ℕ) (buffer : List ℕ) {o : Outcome} → CallBy t q run stack n buffer o
@@ -215,7 +213,7 @@ never-full t q run stack n buffer (goes-on I (R.at-refusal {d = d} c s k z)) B e
     G = steps-good (machine t q) store (length buffer) store-laws (roomIn stack) s (record { placed = I .placed; deep = omega (arith, I .in-stack, I .in-limit); room = refl })
 
 -- a call on what is asked, for any run, stack, allowance and buffer, is the one that CallBy tells
-pub call-is : (cells upper lower : List ℕ) (run : Run) (stack : List ℕ) (n : ℕ) (buffer : List ℕ) (t : Table) (q : Query) → asked cells (run .task) upper lower ≡ runs t q → (o : Outcome)
+pub call-is : (cells upper lower : List ℕ) (run : Run) (stack : List ℕ) (n : ℕ) (buffer : List ℕ) (t : Table) (q : Query) → asked cells (run .task) upper lower (run .ceiling) ≡ runs t q → (o : Outcome)
     → CallBy t q run stack n buffer o ↔ (o ≡ outcome cells upper lower run stack n buffer)
 unfolding outcome
 call-is cells upper lower run stack n buffer t q a o = (
@@ -223,20 +221,20 @@ call-is cells upper lower run stack n buffer t q a o = (
   λ e. subst (λ (v : Outcome). CallBy t q run stack n buffer v) (sym (e ∙ sym same)) (call-by t q run stack n buffer),
 )
   where
-    same : outcomeOf (runs t q) run stack n buffer ≡ outcomeOf (asked cells (run .task) upper lower) run stack n buffer
+    same : outcomeOf (runs t q) run stack n buffer ≡ outcomeOf (asked cells (run .task) upper lower (run .ceiling)) run stack n buffer
     same = ap (λ (w : Asked). outcomeOf w run stack n buffer) (sym a)
 
 -- of the cells, the loaded table alone counts
 pub same-outcome : (c d : List ℕ) → loaded c ≡ loaded d → (upper lower : List ℕ) (run : Run) (stack : List ℕ) (n : ℕ) (buffer : List ℕ)
     → outcome c upper lower run stack n buffer ≡ outcome d upper lower run stack n buffer
 unfolding outcome
-same-outcome c d e upper lower run stack n buffer = ap (λ (w : Asked). outcomeOf w run stack n buffer) (same-asked c d e (run .task) upper lower)
+same-outcome c d e upper lower run stack n buffer = ap (λ (w : Asked). outcomeOf w run stack n buffer) (same-asked c d e (run .task) upper lower (run .ceiling))
 
 -- only Found writes output, from the front, and leaves the rest
 pub buffer-left : (cells upper lower : List ℕ) (run : Run) (stack : List ℕ) (n : ℕ) (buffer : List ℕ) → (toldBy (outcome cells upper lower run stack n buffer) .kind ≡ foundKind → ⊥)
     → outcome cells upper lower run stack n buffer .output ≡ buffer
 unfolding outcome
-buffer-left cells upper lower run stack n buffer h = go (asked cells (run .task) upper lower) h
+buffer-left cells upper lower run stack n buffer h = go (asked cells (run .task) upper lower (run .ceiling)) h
   where
     reply : (a : Reply) (k : ℕ) → (told (answerAs a k) .kind ≡ foundKind → ⊥) → outputAs a buffer ≡ buffer
     reply (R.found o) k f = absurd (f refl)
@@ -251,7 +249,7 @@ buffer-left cells upper lower run stack n buffer h = go (asked cells (run .task)
 pub found-left : (cells upper lower : List ℕ) (run : Run) (stack : List ℕ) (n : ℕ) (buffer : List ℕ) → toldBy (outcome cells upper lower run stack n buffer) .kind ≡ foundKind
     → drop (toldBy (outcome cells upper lower run stack n buffer) .length) (outcome cells upper lower run stack n buffer .output) ≡ drop (toldBy (outcome cells upper lower run stack n buffer) .length) buffer
 unfolding outcome
-found-left cells upper lower run stack n buffer h = go (asked cells (run .task) upper lower) h
+found-left cells upper lower run stack n buffer h = go (asked cells (run .task) upper lower (run .ceiling)) h
   where
     reply : (a : Reply) (k : ℕ) → told (answerAs a k) .kind ≡ foundKind → drop (told (answerAs a k) .length) (outputAs a buffer) ≡ drop (told (answerAs a k) .length) buffer
     reply (R.found o) k e = drop-append-seam o (drop (length o) buffer)
@@ -263,3 +261,13 @@ found-left cells upper lower run stack n buffer h = go (asked cells (run .task) 
         → drop (toldBy (outcomeOf w run stack n buffer) .length) (outcomeOf w run stack n buffer .output) ≡ drop (toldBy (outcomeOf w run stack n buffer) .length) buffer
     go (turned c) e = absurd (omega arith)
     go (runs t q) e = let T = call (machine t q) store n (length buffer) (heldOf run stack) in reply (T .reply) (T .steps) e
+
+-- Any call leaves the run its task and its ceiling.
+pub run-keeps : (cells upper lower : List ℕ) (run : Run) (stack : List ℕ) (n : ℕ) (buffer : List ℕ)
+    → (outcome cells upper lower run stack n buffer .called .run .task ≡ run .task) × (outcome cells upper lower run stack n buffer .called .run .ceiling ≡ run .ceiling)
+unfolding outcome
+run-keeps cells upper lower run stack n buffer = go (asked cells (run .task) upper lower (run .ceiling))
+  where
+    go : (w : Asked) → (outcomeOf w run stack n buffer .called .run .task ≡ run .task) × (outcomeOf w run stack n buffer .called .run .ceiling ≡ run .ceiling)
+    go (turned r) = (refl, refl)
+    go (runs t q) = (refl, refl)

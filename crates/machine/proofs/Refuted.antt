@@ -9,7 +9,7 @@ use Rattle.refusal.specs.declared.Refusal.the-variants.{State}
 use Rattle.refusal.specs.declared.StateCause.the-variants.{OutputFull}
 use Rattle.machine.specs.declared.Run.{Run}
 use Rattle.machine.specs.declared.Answer.the-variants.{Refused}
-use Rattle.machine.specs.Query.{Query, synthesis}
+use Rattle.machine.specs.Query.{Query, synthesis, mostCeiling}
 use Rattle.machine.specs.Frames.{placeHolds}
 use Rattle.machine.specs.Step.{move, step}
 use Rattle.machine.specs.Call.{advance, call}
@@ -27,25 +27,25 @@ refusesAll r x = record { called = record { answer = Refused 0 (State OutputFull
 
 -- the first row's query and what its first call is lent
 abbrev pub queryK : Query
-queryK = record { task = synthesis; upperWord = 1 ∷ 2 ∷ []; lowerWord = [] }
+queryK = record { task = synthesis; upperWord = 1 ∷ 2 ∷ []; lowerWord = []; ceiling = mostCeiling }
 
 abbrev pub firstK : Lent
 firstK = lentFor (cellsOf (tableK [])) big []
 
-first-finds : toldBy (outcomeOf (runs (tableK []) queryK) (firstRun 2) (firstK .stack) (firstK .allowance) (firstK .buffer)) .kind ≡ foundKind
+first-finds : toldBy (outcomeOf (runs (tableK []) queryK) (firstRun 2 mostCeiling) (firstK .stack) (firstK .allowance) (firstK .buffer)) .kind ≡ foundKind
 unfolding call placeHolds advance step move
 first-finds = refl
 
-pub refuses-all : (n : ℕ) → CallTells (tableK []) queryK n (firstRun 2) firstK (refusesAll (firstRun 2) firstK) → ⊥
+pub refuses-all : (n : ℕ) → CallTells (tableK []) queryK n (firstRun 2 mostCeiling) firstK (refusesAll (firstRun 2 mostCeiling) firstK) → ⊥
 refuses-all n T =
-    let z : _≡_ {A = ℕ} 4 1 = ap (λ (o : Outcome). toldBy o .kind) (by-call (tableK []) queryK (firstRun 2) (firstK .stack) (firstK .allowance) (firstK .buffer) (T .by-steps)) ∙ first-finds in
+    let z : _≡_ {A = ℕ} 4 1 = ap (λ (o : Outcome). toldBy o .kind) (by-call (tableK []) queryK (firstRun 2 mostCeiling) (firstK .stack) (firstK .allowance) (firstK .buffer) (T .by-steps)) ∙ first-finds in
     omega arith
 
 -- the same outcome with the task of its run cleared
 abbrev pub taskCleared : Outcome → Outcome
 taskCleared o =
     record {
-      called = record { answer = o .called .answer; run = record { task = 0; started = o .called .run .started; depth = o .called .run .depth } };
+      called = record { answer = o .called .answer; run = record { task = 0; started = o .called .run .started; depth = o .called .run .depth; ceiling = o .called .run .ceiling } };
       stack = o .stack;
       output = o .output;
     }

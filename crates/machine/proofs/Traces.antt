@@ -14,11 +14,12 @@ use Rattle.table_format.specs.Table.{Arc, Table, noArc}
 use Rattle.table_format.specs.Classes.{isPlain, rowOf, withLetter}
 use Rattle.table_format.proofs.Ruled.{Ruled}
 use Rattle.machine.specs.Query.{Task, recognition, synthesis, analysis, Side, upperSide, lowerSide, reads, letter, word, Query}
-use Rattle.machine.specs.Transducer.{arcAt, sideFollow, sideWrites, Passed, passed, nothingPassed, both, followOn, followArc, nextLetter, plainBy, plainAt, followAt, machine}
+use Rattle.machine.specs.Transducer.{arcAt, sideFollow, sideWrites, Passed, passed, nothingPassed, both, followOn, followArc, nextLetter, plainBy, plainAt, followAt, plainMachine}
 use Rattle.machine.specs.Machine.{Path, start, more, final, datum, bind, listed, Allowed}
 use Rattle.machine.specs.Agree.{place, arcsBack}
 use Rattle.machine.specs.Report.{Rel, identity, _∘_, _⊗_, upperAlone, lowerAlone, Cell, Edge, Trace, null, thence, arcsOf, Word, readLetter, writeLetter, α, αIf, αOf, kernel}
-use Rattle.machine.proofs.Transducer.{arc-of, at-mem, mem-at, step-parts, follow-parts, somewhen-parts, getD-lt}
+use Rattle.machine.proofs.Options.{somewhen-parts}
+use Rattle.machine.proofs.Transducer.{arc-of, at-mem, mem-at, step-parts, follow-parts, getD-lt}
 use Rattle.machine.proofs.Classes.{PlainOf, itself, byLetter, plain-by, class-by, plain-parts, nextOf}
 
 pub drop-head : (w : Word) (n x : ℕ) (v : Word) → drop n w ≡ x ∷ v → getD w n 0 ≡ x
@@ -167,9 +168,9 @@ module _ (t : Table) (q : Query) (v : Side → Word) where
   -- the letters written on a side along a path, and its data
   abbrev pub letters : Side → Path → Word
   letters s (start i) = v s
-  letters s (more p n) = letters s p ++ listed (bind (datum (machine t q) p) (plainAt t q (arcAt t n))) (λ b. sideWrites false (letter s b))
+  letters s (more p n) = letters s p ++ listed (bind (datum (plainMachine t q) p) (plainAt t q (arcAt t n))) (λ b. sideWrites false (letter s b))
 
-  pub letters-step : (s : Side) (p : Path) (n : ℕ) (c : Passed) (b : Arc) → datum (machine t q) p ≡ some c → plainAt t q (arcAt t n) c ≡ some b → letters s (more p n) ≡ letters s p ++ sideWrites false (letter s b)
+  pub letters-step : (s : Side) (p : Path) (n : ℕ) (c : Passed) (b : Arc) → datum (plainMachine t q) p ≡ some c → plainAt t q (arcAt t n) c ≡ some b → letters s (more p n) ≡ letters s p ++ sideWrites false (letter s b)
   letters-step s p n c b e f =
       ap (λ (o : Option Passed). letters s p ++ listed (bind o (plainAt t q (arcAt t n))) (λ x. sideWrites false (letter s x))) e
       ∙ ap (λ (o : Option Arc). letters s p ++ listed o (λ x. sideWrites false (letter s x))) f
@@ -188,31 +189,31 @@ module _ (t : Table) (q : Query) (v : Side → Word) where
 
   -- the trace of a path
   abbrev pub TraceOf : Path → Passed → Type 0
-  TraceOf p d = (T : Trace (kernel t (q .task)) (beginAt (place p)) (dataOf p d, final (machine t q) p)) × (arcsOf T ≡ arcsBack t p)
+  TraceOf p d = (T : Trace (kernel t (q .task)) (beginAt (place p)) (dataOf p d, final (plainMachine t q) p)) × (arcsOf T ≡ arcsBack t p)
 
   -- the path of a trace
   pub record PathOf (i : ℕ) (c : Cell (kernel t (q .task))) (arcs : List Arc) : Type 0 where
     pub path : Path
     pub passed-is : Passed
-    pub allowed : Allowed (machine t q) path
+    pub allowed : Allowed (plainMachine t q) path
     pub from : place path ≡ i
-    pub datum-is : datum (machine t q) path ≡ some passed-is
+    pub datum-is : datum (plainMachine t q) path ≡ some passed-is
     pub data-is : dataOf path passed-is ≡ c .0
-    pub state-is : final (machine t q) path ≡ c .1
+    pub state-is : final (plainMachine t q) path ≡ c .1
     pub arcs-are : arcsBack t path ≡ arcs
 
   module _ (U : Ruled t) where
-    pub path-trace : (p : Path) → Allowed (machine t q) p → (d : Passed) → datum (machine t q) p ≡ some d → TraceOf p d
+    pub path-trace : (p : Path) → Allowed (plainMachine t q) p → (d : Passed) → datum (plainMachine t q) p ≡ some d → TraceOf p d
     path-trace (start i) A d e = subst (λ (x : Passed). TraceOf (start i) x) (cc) (null, refl)
     path-trace (more p n) A d e =
         let P = step-parts t q p n d e in
         let T = path-trace p (A .0) (P .0) (P .2) in
-        let h = arc-of t q (U .rising) (final (machine t q) p) n .0 (A .1) in
+        let h = arc-of t q (U .rising) (final (plainMachine t q) p) n .0 (A .1) in
         (thence (T .0) (edge (P .0) (P .1) (P .2) (P .3) (P .4) h), ap (λ (l : List Arc). arcAt t n ∷ l) (T .1))
       where
-        edge : (c : Passed) (b : Arc) → datum (machine t q) p ≡ some c → plainAt t q (arcAt t n) c ≡ some b → followArc q b c ≡ some d
-            → (n < length (t .arcs)) × (arcAt t n .source ≡ final (machine t q) p)
-            → Edge (kernel t (q .task)) (dataOf p c, final (machine t q) p) (dataOf (more p n) d, arcAt t n .target)
+        edge : (c : Passed) (b : Arc) → datum (plainMachine t q) p ≡ some c → plainAt t q (arcAt t n) c ≡ some b → followArc q b c ≡ some d
+            → (n < length (t .arcs)) × (arcAt t n .source ≡ final (plainMachine t q) p)
+            → Edge (kernel t (q .task)) (dataOf p c, final (plainMachine t q) p) (dataOf (more p n) d, arcAt t n .target)
         edge c b u z f h =
             record {
               arc = arcAt t n;
@@ -239,7 +240,7 @@ module _ (t : Table) (q : Query) (v : Side → Word) where
         record {
           path = more p n;
           passed-is = d;
-          allowed = (P .allowed, arc-of t q (U .rising) (final (machine t q) p) n .1 (N .1, ap (λ (a : Arc). a .source) (N .2) ∙ E .from ∙ sym (P .state-is)), (d, follows));
+          allowed = (P .allowed, arc-of t q (U .rising) (final (plainMachine t q) p) n .1 (N .1, ap (λ (a : Arc). a .source) (N .2) ∙ E .from ∙ sym (P .state-is)), (d, follows));
           from = P .from;
           datum-is = follows;
           data-is = λ z. (side upperSide (up .0) (up .2) z, side lowerSide (low .0) (low .2) z);
@@ -280,7 +281,7 @@ module _ (t : Table) (q : Query) (v : Side → Word) where
         d : Passed
         d = record { up = up .0; low = low .0 }
 
-        follows : datum (machine t q) (more p n) ≡ some d
+        follows : datum (plainMachine t q) (more p n) ≡ some d
         follows =
             ap (λ (o : Option Passed). bind o (λ x. followAt t q (arcAt t n) x)) (P .datum-is)
             ∙ ap (λ (o : Option Arc). bind o (λ x. followArc q x (P .passed-is))) (B .1)
@@ -293,11 +294,11 @@ module _ (t : Table) (q : Query) (v : Side → Word) where
 
 module _ (t : Table) (q : Query) (U : Ruled t) where
   -- a path is told by its place and its arcs
-  pub path-unique : (p r : Path) → Allowed (machine t q) p → Allowed (machine t q) r → place p ≡ place r → arcsBack t p ≡ arcsBack t r → p ≡ r
+  pub path-unique : (p r : Path) → Allowed (plainMachine t q) p → Allowed (plainMachine t q) r → place p ≡ place r → arcsBack t p ≡ arcsBack t r → p ≡ r
   path-unique (start i) (start j) A B e f = ap start e
   path-unique (start i) (more r m) A B e f = absurd (nil≢cons f)
   path-unique (more p n) (start j) A B e f = absurd (cons≢nil f)
   path-unique (more p n) (more r m) A B e f =
-      let h = arc-of t q (U .rising) (final (machine t q) p) n .0 (A .1) in
-      let k = arc-of t q (U .rising) (final (machine t q) r) m .0 (B .1) in
+      let h = arc-of t q (U .rising) (final (plainMachine t q) p) n .0 (A .1) in
+      let k = arc-of t q (U .rising) (final (plainMachine t q) r) m .0 (B .1) in
       ap₂ more (path-unique p r (A .0) (B .0) e (cc)) (U .arcs-differ noArc n m (h .0) (k .0) (cc))

@@ -16,8 +16,9 @@ use Rattle.table_format.specs.Index.{below}
 pub use Rattle.table_format.proofs.All.{at-mem, mem-at}
 use Rattle.table_format.proofs.Ruled.{AtLeast}
 use Rattle.machine.specs.Query.{Side, upperSide, lowerSide, reads, letter, word, Query}
-use Rattle.machine.specs.Machine.{Path, start, more, size, bind, listed, datum, output, ArcOf}
-use Rattle.machine.specs.Transducer.{arcAt, somewhen, sideFollow, sideWrites, sideWritten, Passed, passed, nothingPassed, both, followOn, followArc, writesOn, writesArc, plainAt, followAt, writtenOn, writtenBy, machine}
+use Rattle.machine.specs.Machine.{Path, start, more, size, listed, datum, output, ArcOf}
+use Rattle.machine.specs.Transducer.{arcAt, sideFollow, sideWrites, sideWritten, Passed, passed, nothingPassed, both, followOn, followArc, writesOn, writesArc, plainAt, followAt, writtenOn, writtenBy, plainMachine}
+use Rattle.machine.proofs.Options.{bind-parts, somewhen-parts}
 
 at-least : (m : ℕ) (l : List Arc) (i : ℕ) → AtLeast m l → i < length l → m ≤ getD l i noArc .source
 at-least m [] i A h = absurd (not-suc-le-zero h)
@@ -51,31 +52,27 @@ below-from s m (a ∷ l) (suc i) A h k = go (ltb (a .source) s) refl (below-from
     go true e x = omega arith
     go false e x = absurd (let z : s ≤ a .source = ltb-false _ _ e in omega (arith, at-least (a .source) l i (A .1) (omega arith)))
 
-pub arc-of : (t : Table) (q : Query) → AtLeast 0 (t .arcs) → (s n : ℕ) → ArcOf (machine t q) s n ↔ ((n < length (t .arcs)) × (arcAt t n .source ≡ s))
+pub arc-of : (t : Table) (q : Query) → AtLeast 0 (t .arcs) → (s n : ℕ) → ArcOf (plainMachine t q) s n ↔ ((n < length (t .arcs)) × (arcAt t n .source ≡ s))
 arc-of t q A s n = (to, from)
   where
-    to : ArcOf (machine t q) s n → (n < length (t .arcs)) × (arcAt t n .source ≡ s)
+    to : ArcOf (plainMachine t q) s n → (n < length (t .arcs)) × (arcAt t n .source ≡ s)
     to h =
         let x = below-to (suc s) 0 (t .arcs) n A (omega arith) in
         let y : arcAt t n .source < s → n < below s (t .arcs) = λ k. below-from s 0 (t .arcs) n A (x .0) k in
         (x .0, by-cases (ltb (arcAt t n .source) s) refl x y h)
       where
-        by-cases : (b : Bool) → ltb (arcAt t n .source) s ≡ b → (n < length (t .arcs)) × (arcAt t n .source < suc s) → (arcAt t n .source < s → n < below s (t .arcs)) → ArcOf (machine t q) s n → arcAt t n .source ≡ s
+        by-cases : (b : Bool) → ltb (arcAt t n .source) s ≡ b → (n < length (t .arcs)) × (arcAt t n .source < suc s) → (arcAt t n .source < s → n < below s (t .arcs)) → ArcOf (plainMachine t q) s n → arcAt t n .source ≡ s
         by-cases true e x y h = absurd (let z : n < below s (t .arcs) = y (ltb-true _ _ e) in omega arith)
         by-cases false e x y h = let z : s ≤ arcAt t n .source = ltb-false _ _ e in omega arith
 
-    from : (n < length (t .arcs)) × (arcAt t n .source ≡ s) → ArcOf (machine t q) s n
+    from : (n < length (t .arcs)) × (arcAt t n .source ≡ s) → ArcOf (plainMachine t q) s n
     from h = by-cases (ltb n (below s (t .arcs))) refl (below-from (suc s) 0 (t .arcs) n A (h .0) (omega arith))
       where
-        by-cases : (b : Bool) → ltb n (below s (t .arcs)) ≡ b → n < below (suc s) (t .arcs) → ArcOf (machine t q) s n
+        by-cases : (b : Bool) → ltb n (below s (t .arcs)) ≡ b → n < below (suc s) (t .arcs) → ArcOf (plainMachine t q) s n
         by-cases true e x = absurd (let z : n < below s (t .arcs) = ltb-true _ _ e in omega (arith, below-to s 0 (t .arcs) n A z .1))
         by-cases false e x = let z : below s (t .arcs) ≤ n = ltb-false _ _ e in (omega arith, omega arith)
 
 -- the parts of a step that is made
-pub bind-parts : {A B : Type 0} (o : Option A) (f : A → Option B) (b : B) → bind o f ≡ some b → (a : A) × (o ≡ some a) × (f a ≡ some b)
-bind-parts none f b e = absurd (let z : _≡_ {A = ℕ} 0 1 = cc in omega arith)
-bind-parts (some a) f b e = (a, refl, e)
-
 pub both-parts : (x y : Option ℕ) (d : Passed) → both x y ≡ some d → (x ≡ some (d .up)) × (y ≡ some (d .low))
 both-parts none y d e = absurd (let z : _≡_ {A = ℕ} 0 1 = cc in omega arith)
 both-parts (some u) none d e = absurd (let z : _≡_ {A = ℕ} 0 1 = cc in omega arith)
@@ -89,10 +86,6 @@ pub getD-lt : (w : List ℕ) (n x : ℕ) → getD w n 0 ≡ suc x → n < length
 getD-lt [] n x e = omega arith
 getD-lt (y ∷ ys) zero x e = omega arith
 getD-lt (y ∷ ys) (suc n) x e = let h : n < length ys = getD-lt ys n x e in omega arith
-
-pub somewhen-parts : (b : Bool) (n m : ℕ) → somewhen b n ≡ some m → (b ≡ true) × (n ≡ m)
-somewhen-parts true n m e = (refl, cc)
-somewhen-parts false n m e = absurd (let z : _≡_ {A = ℕ} 0 1 = cc in omega arith)
 
 -- Counts: the output's length is what was passed on the written side, and no count is above the arcs of the path.
 
@@ -120,26 +113,26 @@ written-on q a d e h s = side-written (reads (q .task) s) (word s q) (letter s a
 
 module _ (t : Table) (q : Query) where
   -- the datum before a step, the plain arc that its arc is there, and the step
-  pub step-parts : (p : Path) (n : ℕ) (e : Passed) → datum (machine t q) (more p n) ≡ some e
-      → (d : Passed) × (b : Arc) × (datum (machine t q) p ≡ some d) × (plainAt t q (arcAt t n) d ≡ some b) × (followArc q b d ≡ some e)
+  pub step-parts : (p : Path) (n : ℕ) (e : Passed) → datum (plainMachine t q) (more p n) ≡ some e
+      → (d : Passed) × (b : Arc) × (datum (plainMachine t q) p ≡ some d) × (plainAt t q (arcAt t n) d ≡ some b) × (followArc q b d ≡ some e)
   step-parts p n e h =
-      let P = bind-parts (datum (machine t q) p) (λ x. followAt t q (arcAt t n) x) e h in
+      let P = bind-parts (datum (plainMachine t q) p) (λ x. followAt t q (arcAt t n) x) e h in
       let N = bind-parts (plainAt t q (arcAt t n) (P .0)) (λ b. followArc q b (P .0)) e (P .2) in
       (P .0, N .0, P .1, N .1, N .2)
 
-  pub written-length : (p : Path) (d : Passed) → datum (machine t q) p ≡ some d → length (output (machine t q) p) ≡ writtenBy q d
+  pub written-length : (p : Path) (d : Passed) → datum (plainMachine t q) p ≡ some d → length (output (plainMachine t q) p) ≡ writtenBy q d
   written-length (start i) d e =
       let k : _≡_ {A = Passed} nothingPassed d = cc in
       subst (λ (x : Passed). 0 ≡ writtenBy q x) k (omega (arith, none-written q upperSide, none-written q lowerSide))
   written-length (more p n) d e =
       let P = step-parts p n d e in
       let a : Arc = P .1 in
-      length-append (output (machine t q) p) (listed (datum (machine t q) p) (machine t q .writes n))
-      ∙ ap (λ (o : Option Passed). length (output (machine t q) p) + length (listed o (machine t q .writes n))) (P .2)
-      ∙ ap (λ (o : Option Arc). length (output (machine t q) p) + length (listed o (writesArc q))) (P .3)
+      length-append (output (plainMachine t q) p) (listed (datum (plainMachine t q) p) (plainMachine t q .writes n))
+      ∙ ap (λ (o : Option Passed). length (output (plainMachine t q) p) + length (listed o (plainMachine t q .writes n))) (P .2)
+      ∙ ap (λ (o : Option Arc). length (output (plainMachine t q) p) + length (listed o (writesArc q))) (P .3)
       ∙ omega (arith, written-length p (P .0) (P .2), written-on q a (P .0) d (P .4) upperSide, written-on q a (P .0) d (P .4) lowerSide, length-append (writesOn q upperSide a) (writesOn q lowerSide a))
 
-  pub passed-size : (p : Path) (d : Passed) → datum (machine t q) p ≡ some d → (s : Side) → passed d s ≤ size p
+  pub passed-size : (p : Path) (d : Passed) → datum (plainMachine t q) p ≡ some d → (s : Side) → passed d s ≤ size p
   passed-size (start i) d e s = let k : _≡_ {A = Passed} nothingPassed d = cc in subst (λ (x : Passed). passed x s ≤ 0) k (go s)
     where
       go : (s : Side) → passed nothingPassed s ≤ 0

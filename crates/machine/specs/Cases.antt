@@ -10,10 +10,10 @@ use lib.Dec.{eqb}
 use Rattle.table_format.specs.Table.{Arc, Table}
 use Rattle.table_format.specs.Classes.{rowWith, noClasses}
 use Rattle.table_format.specs.Loaded.{cellsOf}
-use Rattle.table_format.specs.Cells.{arcAs}
+use Rattle.table_format.specs.Cells.{arcWith, arcAs}
 use Rattle.machine.specs.declared.Run.{Run}
 use Rattle.machine.specs.declared.Started.{Started}
-use Rattle.machine.specs.Query.{sameWord}
+use Rattle.machine.specs.Query.{sameWord, mostCeiling}
 use Rattle.machine.specs.Tour.{treeSize}
 use Rattle.machine.specs.Transducer.{machine}
 use Rattle.machine.specs.Stack.{frameWidth}
@@ -39,11 +39,11 @@ pub data Says : Type 0 where
   saysRefused : ℕ → ℕ → Says
 
 -- a start that is refused with a number and the states of a cycle; or one that is not, calls after it with what they tell, and the tree's size;
--- or one call, with what it tells, on a run of any starts and depth
+-- or one call, with what it tells, on a run of any starts and depth, with any used frames
 pub data Course : Type 0 where
   refusedWith : ℕ → List ℕ → Course
   goes : List Ask → List Says → ℕ → Course
-  called : ℕ → ℕ → Ask → Says → Course
+  called : ℕ → ℕ → List ℕ → Ask → Says → Course
 
 -- a table, what is asked of it, and what is to be told
 pub record Row : Type 0 where
@@ -51,6 +51,7 @@ pub record Row : Type 0 where
   pub task : ℕ
   pub upper : List ℕ
   pub lower : List ℕ
+  pub ceiling : ℕ
   pub course : Course
 
 -- What the definitions give.
@@ -113,19 +114,20 @@ module _ (r : Row) where
 
   -- what a start gives
   abbrev pub startOf : Started
-  startOf = started cellsFor (r .task) (r .upper) (r .lower)
+  startOf = started cellsFor (r .task) (r .upper) (r .lower) (r .ceiling)
 
-  -- what calls after it give
-  abbrev pub callsFrom : Run → List Ask → List (List ℕ)
-  callsFrom run asks = callsGive cellsFor (r .upper) (r .lower) run [] asks
+  -- what calls give, on a run with its used frames
+  abbrev pub callsFrom : Run → List ℕ → List Ask → List (List ℕ)
+  callsFrom run used asks = callsGive cellsFor (r .upper) (r .lower) run used asks
 
   -- whether all goes as the row says
   abbrev pub courseHolds : Course → Bool
   courseHolds (refusedWith n states) = sameWord (startSpelled startOf) (refusedKind ∷ n ∷ states)
   courseHolds (goes asks says tree) =
       eqb (startToldBy startOf .kind) doneKind
-      && (sameSays (callsFrom (startOf .run) asks) says && eqb (treeOf (asked cellsFor (r .task) (r .upper) (r .lower))) tree)
-  courseHolds (called starts depth ask says) = sameSays (callsFrom (record { task = r .task; started = starts; depth = depth }) (ask ∷ [])) (says ∷ [])
+      && (sameSays (callsFrom (startOf .run) [] asks) says && eqb (treeOf (asked cellsFor (r .task) (r .upper) (r .lower) (r .ceiling))) tree)
+  courseHolds (called starts depth used ask says) =
+      sameSays (callsFrom (record { task = r .task; started = starts; depth = depth; ceiling = r .ceiling }) used (ask ∷ [])) (says ∷ [])
 
 -- a row is right
 abbrev pub rowHolds : Row → Bool
@@ -161,15 +163,15 @@ textK =
 
 -- a row on table K
 abbrev row : ℕ → List ℕ → List ℕ → Course → Row
-row k u l c = record { table = tableK []; task = k; upper = u; lower = l; course = c }
+row k u l c = record { table = tableK []; task = k; upper = u; lower = l; ceiling = mostCeiling; course = c }
 
 -- the same with an arc that stands there twice, so that the loaded table breaks a rule
 abbrev twice : ℕ → List ℕ → Course → Row
-twice k u c = record { table = tableK (arcAs 0 1 1 1 ∷ []); task = k; upper = u; lower = []; course = c }
+twice k u c = record { table = tableK (arcAs 0 1 1 1 ∷ []); task = k; upper = u; lower = []; ceiling = mostCeiling; course = c }
 
 -- empty words, and state 0 with one arc more, to itself
 abbrev loop : ℕ → ℕ → ℕ → Course → Row
-loop u l k c = record { table = tableK (arcAs 0 u l 0 ∷ []); task = k; upper = []; lower = []; course = c }
+loop u l k c = record { table = tableK (arcAs 0 u l 0 ∷ []); task = k; upper = []; lower = []; ceiling = mostCeiling; course = c }
 
 -- empty words, and a table of one state with one arc, to itself
 abbrev lone : ℕ → ℕ → ℕ → Course → Row
@@ -179,6 +181,7 @@ lone u l k c =
       task = k;
       upper = [];
       lower = [];
+      ceiling = mostCeiling;
       course = c;
     }
 
@@ -199,7 +202,7 @@ connected = arcAs 2 7 8 5 ∷ []
 
 -- a row on that table
 abbrev corner : List Arc → ℕ → List ℕ → List ℕ → Course → Row
-corner more k u l c = record { table = cornerK more; task = k; upper = u; lower = l; course = c }
+corner more k u l c = record { table = cornerK more; task = k; upper = u; lower = l; ceiling = mostCeiling; course = c }
 
 -- so many states, of which one is initial, and arcs with a loop that synthesis refuses, with the states told
 abbrev loops : ℕ → ℕ → List Arc → List ℕ → Row
@@ -209,6 +212,7 @@ loops n s arcs states =
       task = 2;
       upper = [];
       lower = [];
+      ceiling = mostCeiling;
       course = refusedWith 12 states;
     }
 
@@ -220,6 +224,7 @@ pair x y c =
       task = 2;
       upper = 1 ∷ [];
       lower = [];
+      ceiling = mostCeiling;
       course = c;
     }
 
@@ -231,6 +236,7 @@ round c =
       task = 2;
       upper = 1 ∷ [];
       lower = [];
+      ceiling = mostCeiling;
       course = c;
     }
 
@@ -250,12 +256,9 @@ classed more k u l c =
       task = k;
       upper = u;
       lower = l;
+      ceiling = mostCeiling;
       course = c;
     }
-
--- one state, initial and terminal, without arcs; synthesis of the empty word
-abbrev bare : Course → Row
-bare c = record { table = record { states = 1; classes = noClasses; initials = 0 ∷ []; terminals = 0 ∷ []; arcs = [] }; task = 2; upper = []; lower = []; course = c }
 
 -- a call by its allowance, frames and letters
 abbrev pub ask : ℕ → ℕ → ℕ → Ask
@@ -264,6 +267,34 @@ ask n f l = record { allowance = n; frames = f; letters = l }
 -- a call with room enough
 abbrev pub big : Ask
 big = ask 4294967295 64 64
+
+-- from state 0 to 1 two arcs that read 1, of penalty 2 and 3, then one to 2 that reads 2, of penalty 4; before them further arcs of state 0, and a
+-- ceiling
+abbrev weighted : List Arc → ℕ → ℕ → List ℕ → Course → Row
+weighted more ceiling k u c =
+    record {
+      table =
+          record {
+            states = 3;
+            classes = noClasses;
+            initials = 0 ∷ [];
+            terminals = 2 ∷ [];
+            arcs = more ++ (arcWith 0 1 5 1 2 ∷ arcWith 0 1 6 1 3 ∷ arcWith 1 2 7 2 4 ∷ []);
+          };
+      task = k;
+      upper = u;
+      lower = [];
+      ceiling = ceiling;
+      course = c;
+    }
+
+-- one call in synthesis of 01 02 on that table, where the first arc was followed and the frame of state 1 has some sum
+abbrev resumed : ℕ → ℕ → Says → Row
+resumed ceiling sum says = weighted [] ceiling 2 (1 ∷ 2 ∷ []) (called 1 2 (0 ∷ 1 ∷ 0 ∷ 0 ∷ 0 ∷ 1 ∷ 2 ∷ 1 ∷ 1 ∷ sum ∷ []) big says)
+
+-- one state, initial and terminal, without arcs; synthesis of the empty word
+abbrev bare : Course → Row
+bare c = record { table = record { states = 1; classes = noClasses; initials = 0 ∷ []; terminals = 0 ∷ []; arcs = [] }; task = 2; upper = []; lower = []; ceiling = mostCeiling; course = c }
 
 -- the starred cases, and a few more
 unfoldable pub rows : List Row
@@ -330,6 +361,33 @@ rows =
     -- "an undefined class or unlike sides": "in a loaded table such faults give 20"
     ∷ classed (arcAs 1 66 66 1 ∷ []) 2 [] [] (refusedWith 20 [])
     ∷ classed (arcAs 1 64 65 1 ∷ []) 2 [] [] (refusedWith 20 [])
+    -- Slip 10: "An arc that would lift the sum over the ceiling does not fit": the paths' sums are 6 and 7, which the last arc brings them to
+    ∷ weighted [] 0 2 (1 ∷ 2 ∷ []) (goes (big ∷ []) (saysEnded 4 ∷ []) 4)
+    ∷ weighted [] 5 2 (1 ∷ 2 ∷ []) (goes (big ∷ []) (saysEnded 8 ∷ []) 8)
+    ∷ weighted [] 6 2 (1 ∷ 2 ∷ []) (goes (big ∷ big ∷ []) (saysFound 3 (5 ∷ 7 ∷ []) ∷ saysEnded 6 ∷ []) 9)
+    ∷ weighted [] 7 2 (1 ∷ 2 ∷ []) (goes (big ∷ big ∷ big ∷ []) (saysFound 3 (5 ∷ 7 ∷ []) ∷ saysFound 4 (6 ∷ 7 ∷ []) ∷ saysEnded 3 ∷ []) 10)
+    -- the sum is kept from call to call, after refused ones too
+    ∷ weighted [] 6 2 (1 ∷ 2 ∷ []) (goes (ask 1000 2 2 ∷ ask 1 3 2 ∷ ask 3 3 2 ∷ ask 0 2 2 ∷ big ∷ []) (saysRefused 2 22 ∷ saysFound 1 (5 ∷ 7 ∷ []) ∷ saysPaused 3 ∷ saysPaused 0 ∷ saysEnded 3 ∷ []) 9)
+    -- a run handed back with another ceiling; "Every frame carries the sum of penalties on its path": 21 where it is another
+    ∷ resumed 7 2 (saysFound 1 (5 ∷ 7 ∷ []))
+    ∷ resumed 2 2 (saysEnded 4)
+    ∷ resumed 1 2 (saysRefused 0 21)
+    ∷ resumed 7 0 (saysRefused 0 21)
+    -- the five cells of a frame: on table K, after 01 was read and 01 03 were written
+    ∷ row 2 (1 ∷ 2 ∷ []) [] (called 1 3 (0 ∷ 1 ∷ 0 ∷ 0 ∷ 0 ∷ 1 ∷ 4 ∷ 1 ∷ 1 ∷ 0 ∷ 0 ∷ 0 ∷ 1 ∷ 2 ∷ 0 ∷ []) big (saysFound 2 (1 ∷ 3 ∷ 2 ∷ [])))
+    -- "A ceiling over 100,000 is refused at a start or call with 39, after 10 and before 12 or 21"
+    ∷ weighted [] 100000 2 (1 ∷ 2 ∷ []) (goes (big ∷ []) (saysFound 3 (5 ∷ 7 ∷ []) ∷ []) 10)
+    ∷ weighted [] 100001 2 (1 ∷ 2 ∷ []) (refusedWith 39 [])
+    ∷ weighted [] 100001 2 (0 ∷ []) (refusedWith 10 [])
+    ∷ weighted (arcWith 0 0 0 0 255 ∷ []) 100001 2 [] (refusedWith 39 [])
+    ∷ weighted [] 100001 2 (0 ∷ []) (called 0 1 [] big (saysRefused 0 10))
+    ∷ weighted [] 100001 2 [] (called 0 1 [] big (saysRefused 0 39))
+    -- "the refusal for loops ignores penalties"
+    ∷ weighted (arcWith 0 0 0 0 255 ∷ []) 0 2 [] (refusedWith 12 (0 ∷ []))
+    -- "a penalty of 0 to 255"; "Arcs are still compared for equality without it"
+    ∷ weighted (arcWith 0 0 0 1 255 ∷ []) 0 2 [] (goes (big ∷ []) (saysEnded 5 ∷ []) 5)
+    ∷ weighted (arcWith 0 0 0 1 256 ∷ []) 0 2 [] (refusedWith 20 [])
+    ∷ weighted (arcWith 0 1 5 1 9 ∷ []) 0 2 [] (refusedWith 20 [])
     -- "Here the first listed goes first."
     ∷ pair 5 6 (goes (big ∷ big ∷ big ∷ []) (saysFound 2 (6 ∷ []) ∷ saysFound 4 (5 ∷ []) ∷ saysEnded 2 ∷ []) 8)
     -- "two paths with the same output give it twice"
@@ -359,8 +417,8 @@ rows =
     ∷ row 3 (1 ∷ []) (0 ∷ []) (refusedWith 11 [])
     ∷ row 2 (0 ∷ []) [] (refusedWith 10 [])
     -- "Call: 20, 11, 10, 21": depth 1 with no start is no place in a search
-    ∷ twice 4 (0 ∷ []) (called 0 1 big (saysRefused 0 20))
-    ∷ row 4 (0 ∷ []) [] (called 0 1 big (saysRefused 0 11))
-    ∷ row 2 (0 ∷ []) [] (called 0 1 big (saysRefused 0 10))
-    ∷ row 2 (1 ∷ []) [] (called 0 1 big (saysRefused 0 21))
+    ∷ twice 4 (0 ∷ []) (called 0 1 [] big (saysRefused 0 20))
+    ∷ row 4 (0 ∷ []) [] (called 0 1 [] big (saysRefused 0 11))
+    ∷ row 2 (0 ∷ []) [] (called 0 1 [] big (saysRefused 0 10))
+    ∷ row 2 (1 ∷ []) [] (called 0 1 [] big (saysRefused 0 21))
     ∷ []

@@ -6,7 +6,7 @@ use lib.ListN.{length, getD}
 use lib.Dec.{eqb, ltb, leb}
 use Rattle.machine.specs.Machine.{Machine, Path, start, more, tested}
 
--- "A frame holds a state, the number of the next arc to try (..), and how many letters were passed" (the datum)
+-- "A frame holds a state, the number of the next arc to try (..), and how many letters were passed", with the sum of penalties (the datum)
 pub record Frame (D : Type 0) : Type 0 where
   pub state : ℕ
   pub next : ℕ

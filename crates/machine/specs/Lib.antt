@@ -1,6 +1,7 @@
 -- The theory of the search for readings. Top to bottom: what a reader has to believe.
 pub mod Query
 pub mod Machine
+pub mod Ceiling
 pub mod Tour
 pub mod Order
 pub mod Denotation

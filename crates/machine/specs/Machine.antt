@@ -2,7 +2,7 @@
 -- relations that are partial functions. Document 01's three tasks are one instance (Transducer).
 use Prim.Native.Nat.{ℕ, suc, _+_, _≤_, _<_}
 use mathlib.Core.Path.{_≡_}
-use mathlib.Core.Bool.{Bool, false, _&&_}
+use mathlib.Core.Bool.{Bool, true, false, _&&_}
 use mathlib.Core.Option.{Option, none, some}
 use mathlib.Core.List.{List, [], _∷_, _++_}
 use lib.ListN.{length, getD}
@@ -45,6 +45,11 @@ numbers (more p n) = numbers p ++ (n ∷ [])
 abbrev pub bind : {A B : Type 0} → Option A → (A → Option B) → Option B
 bind none f = none
 bind (some a) f = f a
+
+-- what there is, where a test holds
+abbrev pub somewhen : {A : Type 0} → Bool → A → Option A
+somewhen true a = some a
+somewhen false a = none
 
 -- what is written, if there is a datum
 abbrev pub listed : {A : Type 0} → Option A → (A → List ℕ) → List ℕ

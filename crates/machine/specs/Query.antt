@@ -1,4 +1,4 @@
--- Document 01, "Table and paths": the three tasks, the two sides, and what is asked of a table.
+-- Document 01, "Table and paths", and document 02, slip 10: the three tasks, the two sides, and what is asked of a table.
 use Prim.Native.Nat.{ℕ}
 use mathlib.Core.Bool.{Bool, true, false, cond, _&&_, _||_}
 use mathlib.Core.Option.{Option, none, some}
@@ -34,11 +34,12 @@ abbrev pub letter : Side → Arc → ℕ
 letter upperSide a = a .upper
 letter lowerSide a = a .lower
 
--- a task with its words; where 11 is not given, the word of a side that is not read is empty
+-- a task with its words, and the ceiling for penalties; where 11 is not given, the word of a side that is not read is empty
 pub record Query : Type 0 where
   pub task : Task
   pub upperWord : List ℕ
   pub lowerWord : List ℕ
+  pub ceiling : ℕ
 
 -- the word of a side
 abbrev pub word : Side → Query → List ℕ
@@ -72,3 +73,14 @@ sideHolds s q = reads (q .task) s || isEmpty (word s q)
 -- 11, of both sides
 abbrev pub sidesHold : Query → Bool
 sidesHold q = sideHolds upperSide q && sideHolds lowerSide q
+
+-- 39: "A ceiling over 100,000 is refused"; what holds where it is not
+abbrev pub mostCeiling : ℕ
+mostCeiling = 100000
+
+abbrev pub ceilingHolds : Query → Bool
+ceilingHolds q = leb (q .ceiling) mostCeiling
+
+-- the same question under another ceiling
+abbrev pub withCeiling : Query → ℕ → Query
+withCeiling q c = record { task = q .task; upperWord = q .upperWord; lowerWord = q .lowerWord; ceiling = c }

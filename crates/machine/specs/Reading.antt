@@ -1,4 +1,4 @@
--- The call for a reading: 20, 11, 10, 21, then steps. It gives the answer and the run, every cell of the lent stack and every cell of the
+-- The call for a reading: 20, 11, 10, 39, 21, then steps. It gives the answer and the run, every cell of the lent stack and every cell of the
 -- output buffer.
 --
 --   Reply, Replied    what the machine tells of a call: found with its output, paused, ended or refused; with the steps and the run after it
@@ -58,23 +58,27 @@ outputAs paused buffer = buffer
 outputAs ended buffer = buffer
 outputAs (refused r) buffer = buffer
 
+-- a run moved on: its task and its ceiling stay
+abbrev pub movedTo : Run → ℕ → ℕ → Run
+movedTo run started depth = record { task = run .task; started = started; depth = depth; ceiling = run .ceiling }
+
 -- a call that was begun
-abbrev pub outcomeAs : ℕ → List ℕ → Replied (List ℕ) → Outcome
-outcomeAs task buffer r =
+abbrev pub outcomeAs : Run → List ℕ → Replied (List ℕ) → Outcome
+outcomeAs run buffer r =
     record {
-      called = record { answer = answerAs (r .reply) (r .steps); run = record { task = task; started = r .after .started; depth = r .after .depth } };
+      called = record { answer = answerAs (r .reply) (r .steps); run = movedTo run (r .after .started) (r .after .depth) };
       stack = r .after .cells;
       output = outputAs (r .reply) buffer;
     }
 
--- 20, 11 and 10 come before 21 and the steps, and leave all as it was
+-- 20, 11, 10 and 39 come before 21 and the steps, and leave all as it was
 abbrev pub outcomeOf : Asked → Run → List ℕ → ℕ → List ℕ → Outcome
 outcomeOf (turned r) run stack allowance buffer = record { called = record { answer = Refused 0 r; run = run }; stack = stack; output = buffer }
-outcomeOf (runs t q) run stack allowance buffer = outcomeAs (run .task) buffer (call (machine t q) store allowance (length buffer) (heldOf run stack))
+outcomeOf (runs t q) run stack allowance buffer = outcomeAs run buffer (call (machine t q) store allowance (length buffer) (heldOf run stack))
 
 -- a loaded table's cells, the words, the run, the stack, the allowance and the output buffer
 unfoldable pub outcome : List ℕ → List ℕ → List ℕ → Run → List ℕ → ℕ → List ℕ → Outcome
-outcome cells upper lower run stack allowance buffer = outcomeOf (asked cells (run .task) upper lower) run stack allowance buffer
+outcome cells upper lower run stack allowance buffer = outcomeOf (asked cells (run .task) upper lower (run .ceiling)) run stack allowance buffer
 
 -- what a call ensures, of an outcome x: the answer in this paper's numbers, the run, and every cell of the stack and of the output at exit.
 -- It tells the answer itself (`outcome-called`).
@@ -84,13 +88,13 @@ pub record OutcomeIs (x : Outcome) (answer : Told) (run : Run) (stack output : L
   pub stack-is : stack ≡ x .stack
   pub output-is : output ≡ x .output
 
--- The same as a relation, from the step rule and without the loop: a call on a run, where 20, 11 and 10 are not given. It has one solution,
+-- The same as a relation, from the step rule and without the loop: a call on a run, where 20, 11, 10 and 39 are not given. It has one solution,
 -- the outcome (`call-is`).
 pub data CallBy (t : Table) (q : Query) (run : Run) (stack : List ℕ) (allowance : ℕ) (buffer : List ℕ) : Outcome → Type 0 where
   -- 21, with all as it was, exactly where "The run or its used frames are not a place in a search"
-  no-place : (InSearch t q run stack → ⊥) → CallBy t q run stack allowance buffer (outcomeAs (run .task) buffer (still (refused (State Place)) (heldOf run stack)))
+  no-place : (InSearch t q run stack → ⊥) → CallBy t q run stack allowance buffer (outcomeAs run buffer (still (refused (State Place)) (heldOf run stack)))
   -- else its steps, as they stop
-  goes-on : {c : Replied (List ℕ)} → InSearch t q run stack → Stops (machine t q) store (length buffer) allowance (heldOf run stack) c → CallBy t q run stack allowance buffer (outcomeAs (run .task) buffer c)
+  goes-on : {c : Replied (List ℕ)} → InSearch t q run stack → Stops (machine t q) store (length buffer) allowance (heldOf run stack) c → CallBy t q run stack allowance buffer (outcomeAs run buffer c)
 
 -- "Steps before a refused one stand"; "every lent buffer holds what it held before the refused step, or before the call where no step was
 -- begun". What a refused call leaves:
@@ -106,11 +110,12 @@ pub record BeforeStep (M : Machine) (S : Store (Frame (M .D))) (l : ℕ) (h d : 
   pub steps-made : Steps M S l (told a .steps) h d
   pub refused-there : step M S l d ≡ refuses refusal
 
--- what a call that is refused leaves, by what was asked: 20, 11 or 10; else 21, where it is no place in a search, or what a step is refused
+-- what a call that is refused leaves, by what was asked: 20, 11, 10 or 39; else 21, where it is no place in a search, or what a step is refused
 -- with, where it is one. It has one solution (`refused-leaves-one`).
 abbrev pub RefusedLeaves : Asked → Run → List ℕ → List ℕ → Outcome → Type 0
 RefusedLeaves (turned c) run stack buffer o = (o .output ≡ buffer) × Unchanged c run stack o
 RefusedLeaves (runs t q) run stack buffer o =
     (o .output ≡ buffer)
     × (o .called .run .task ≡ run .task)
+    × (o .called .run .ceiling ≡ run .ceiling)
     × (((InSearch t q run stack → ⊥) × Unchanged (State Place) run stack o) ⊎ (InSearch t q run stack × BeforeStep (machine t q) store (length buffer) (heldOf run stack) (heldOf (o .called .run) (o .stack)) (o .called .answer)))

@@ -1,6 +1,6 @@
 -- Report 6486, sections 1 and 2.2, on its own terms, but for noetherian, which is document 004's; of the rest of this crate it uses only the names
 -- of the tasks.
-use Prim.Native.Nat.{ℕ, zero, suc}
+use Prim.Native.Nat.{ℕ, zero, suc, _+_, _≤_}
 use mathlib.Core.Path.{_≡_}
 use mathlib.Core.Logic.{_↔_}
 use mathlib.Core.Bool.{Bool, true, false}
@@ -127,11 +127,11 @@ abbrev pub α : Task → Arc → Rel (Word × Word) (Word × Word)
 
 -- the arc with its upper letter alone, (σ, ε)
 abbrev pub upperAlone : Arc → Arc
-upperAlone a = record { source = a .source; upper = a .upper; lower = 0; target = a .target }
+upperAlone a = record { source = a .source; upper = a .upper; lower = 0; target = a .target; penalty = a .penalty }
 
 -- and with its lower letter alone, (ε, γ)
 abbrev pub lowerAlone : Arc → Arc
-lowerAlone a = record { source = a .source; upper = 0; lower = a .lower; target = a .target }
+lowerAlone a = record { source = a .source; upper = 0; lower = a .lower; target = a .target; penalty = a .penalty }
 
 -- Slip 6: the relation of an arc is α of it where it is plain; for a class it is the union of those of the plain arcs of its letters
 abbrev pub αIf : Bool → List ℕ → Task → Arc → Rel (Word × Word) (Word × Word)
@@ -141,9 +141,17 @@ abbrev pub αIf : Bool → List ℕ → Task → Arc → Rel (Word × Word) (Wor
 abbrev pub αOf : List (List ℕ) → Task → Arc → Rel (Word × Word) (Word × Word)
 αOf rows k a = αIf (isPlain a) (rowOf rows (a .upper)) k a
 
--- the machine α(A) of a table and a task
+-- the machine α(A) of a table and a task, whatever the penalties: "the refusal for loops ignores penalties"
 abbrev pub kernel : Table → Task → Kernel
 kernel t k = record { Data = Word × Word; table = t; relation = αOf (t .classes) k }
+
+-- Slip 10: a penalty p is added to the sum of those before it, where that stays within the ceiling c
+abbrev pub adds : ℕ → ℕ → Rel ℕ ℕ
+adds c p s r = (r ≡ s + p) × (r ≤ c)
+
+-- "Paths, also demand 2's, .. go by this narrower meaning of fitting": the machine under a ceiling, whose data have the sum beside the words
+abbrev pub kernelUnder : Table → Task → ℕ → Kernel
+kernelUnder t k c = record { Data = (Word × Word) × ℕ; table = t; relation = λ a. αOf (t .classes) k a ⊗ adds c (a .penalty) }
 
 -- D₋, the input set
 abbrev pub Input : Task → Type 0
@@ -176,6 +184,13 @@ abbrev pub φ₊ : (k : Task) → Rel (Word × Word) (Output k)
 φ₊ synthesis d w = (d .0 ≡ []) × (d .1 ≡ w)
 φ₊ analysis d w = (d .0 ≡ w) × (d .1 ≡ [])
 
--- "A machine kernel with its interface defines a relation": φ₋ ∘ ‖M‖ ∘ φ₊
-abbrev pub Solves : (t : Table) (k : Task) → Rel (Input k) (Output k)
-Solves t k = φ₋ k ∘ Characteristic (kernel t k) ∘ φ₊ k
+-- the interface of the machine under a ceiling: the sum is 0 at first, and none is asked for at last
+abbrev pub feeds : (k : Task) → Rel (Input k) ((Word × Word) × ℕ)
+feeds k w d = φ₋ k w (d .0) × (d .1 ≡ 0)
+
+abbrev pub tells : (k : Task) → Rel ((Word × Word) × ℕ) (Output k)
+tells k d x = φ₊ k (d .0) x
+
+-- "A machine kernel with its interface defines a relation": φ₋ ∘ ‖M‖ ∘ φ₊, here with the sum (`feeds`, `tells`)
+abbrev pub Solves : (t : Table) (k : Task) (c : ℕ) → Rel (Input k) (Output k)
+Solves t k c = feeds k ∘ Characteristic (kernelUnder t k c) ∘ tells k

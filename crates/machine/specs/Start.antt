@@ -1,4 +1,4 @@
--- The start: 20, 11, 10, 12. "A start that passes sets the task, 0 started and depth 0, and touches no frame." A start that is refused
+-- The start: 20, 11, 10, 39, 12. "A start that passes sets the task, 0 started and depth 0, and touches no frame." A start that is refused
 -- gives a run of zeros; the cycle's cells are 0 where no state is told.
 use Prim.Native.Nat.{ℕ, _-_}
 use mathlib.Core.Path.{_≡_}
@@ -18,9 +18,13 @@ use Rattle.machine.specs.Query.{Query}
 use Rattle.machine.specs.Idle.{hasIdleCycle, shownIdle}
 use Rattle.machine.specs.Asked.{Asked, turned, runs, asked}
 
--- "sets the task, 0 started and depth 0"
-abbrev pub firstRun : ℕ → Run
-firstRun task = record { task = task; started = 0; depth = 0 }
+-- "sets the task, 0 started and depth 0"; "a run has a ceiling fixed at its start"
+abbrev pub firstRun : ℕ → ℕ → Run
+firstRun task ceiling = record { task = task; started = 0; depth = 0; ceiling = ceiling }
+
+-- the run of a start that is refused
+abbrev pub noRun : Run
+noRun = firstRun 0 0
 
 -- the states of a cycle in 256 cells
 abbrev pub inCells : List ℕ → List ℕ
@@ -31,17 +35,17 @@ abbrev pub startedWith : StartAnswer → Run → List ℕ → Started
 startedWith answer run cycle = record { answer = answer; run = run; cycle = inCells cycle; length = length cycle }
 
 -- a start that is asked for a table and a query, by whether an idle cycle is reached; 12 tells the cycle that is to be shown
-abbrev pub byTest : Table → Query → ℕ → Bool → Started
-byTest t q task b = cond b (startedWith (Refused (Input IdleCycle)) (firstRun 0) (shownIdle t (q .task))) (startedWith Ready (firstRun task) [])
+abbrev pub byTest : Table → Query → Run → Bool → Started
+byTest t q run b = cond b (startedWith (Refused (Input IdleCycle)) noRun (shownIdle t (q .task))) (startedWith Ready run [])
 
 -- any start
-abbrev pub startedAs : Asked → ℕ → Started
-startedAs (turned r) task = startedWith (Refused r) (firstRun 0) []
-startedAs (runs t q) task = byTest t q task (hasIdleCycle t (q .task))
+abbrev pub startedAs : Asked → Run → Started
+startedAs (turned r) run = startedWith (Refused r) noRun []
+startedAs (runs t q) run = byTest t q run (hasIdleCycle t (q .task))
 
--- a start on a loaded table's cells, the task's number and the words
-unfoldable pub started : List ℕ → ℕ → List ℕ → List ℕ → Started
-started cells task upper lower = startedAs (asked cells task upper lower) task
+-- a start on a loaded table's cells, the task's number, the words and the ceiling
+unfoldable pub started : List ℕ → ℕ → List ℕ → List ℕ → ℕ → Started
+started cells task upper lower ceiling = startedAs (asked cells task upper lower ceiling) (firstRun task ceiling)
 
 -- what a start tells in this paper's numbers
 abbrev pub startToldBy : Started → Told

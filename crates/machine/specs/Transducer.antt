@@ -1,5 +1,5 @@
--- Document 01, "Table and paths", and document 02, slip 6: the machine of a table and a query. Each side is read or written; its datum is how
--- many of its letters were passed.
+-- Document 01, "Table and paths", and document 02, slips 6 and 10: the machine of a table and a query. Each side is read or written; its datum is
+-- how many of its letters were passed, and the sum of the penalties.
 use Prim.Native.Nat.{ℕ, zero, suc, _+_, _-_, _*_}
 use mathlib.Core.Bool.{Bool, true, false, cond, _&&_}
 use mathlib.Core.Option.{Option, none, some}
@@ -11,16 +11,12 @@ use Rattle.table_format.specs.Classes.{isPlain, rowOf, withLetter}
 use Rattle.table_format.specs.Index.{below}
 pub use Rattle.graph.specs.Lists.{member}
 use Rattle.machine.specs.Query.{Side, upperSide, lowerSide, reads, letter, Query, word}
-use Rattle.machine.specs.Machine.{Machine, bind, listed}
+use Rattle.machine.specs.Machine.{Machine, bind, somewhen, listed}
+use Rattle.machine.specs.Ceiling.{ceiled}
 
 -- "Arcs are numbered from 0 in file order"
 abbrev pub arcAt : Table → ℕ → Arc
 arcAt t n = getD (t .arcs) n noArc
-
--- a count, where the letter fits
-abbrev pub somewhen : Bool → ℕ → Option ℕ
-somewhen true n = some n
-somewhen false n = none
 
 -- One side, read (true) or written (false), with its word w, a letter x of an arc, and n letters passed.
 
@@ -140,9 +136,9 @@ followAt t q a d = bind (plainAt t q a d) (λ b. followArc q b d)
 abbrev pub writesAt : Table → Query → Arc → Passed → List ℕ
 writesAt t q a d = listed (plainAt t q a d) (writesArc q)
 
--- the machine of a table and a query
-abbrev pub machine : Table → Query → Machine
-machine t q =
+-- the machine of a table and a query, whatever the arcs' penalties
+abbrev pub plainMachine : Table → Query → Machine
+plainMachine t q =
     record {
       D = Passed;
       initials = t .initials;
@@ -157,3 +153,12 @@ machine t q =
       same = λ d e. eqb (d .up) (e .up) && eqb (d .low) (e .low);
       limit = (lettersToRead q + 1) * t .states;
     }
+
+-- Slip 10. The penalty of an arc; "An arc that would lift the sum over the ceiling does not fit".
+
+abbrev pub penaltyAt : Table → ℕ → ℕ
+penaltyAt t n = arcAt t n .penalty
+
+-- the machine of a table and a query
+abbrev pub machine : Table → Query → Machine
+machine t q = ceiled (plainMachine t q) (penaltyAt t) (q .ceiling)

@@ -3,7 +3,7 @@ use Prim.Native.Nat.{ℕ}
 use mathlib.Core.Path.{_≡_, refl, sym, ap, _∙_}
 use mathlib.Core.Bool.{cond}
 use lib.Dec.{eqb}
-use Rattle.refusal.specs.declared.InputCause.the-variants.{Malformed, Misplaced, CountLimit, StateNumber, LetterLimit, StateOrder, SourceOrder, ArcRepeated, LineCount, WordFault, TaskFault, IdleCycle, ListedWord, WordOrder, StateLimit, SheetFault, ClassFault}
+use Rattle.refusal.specs.declared.InputCause.the-variants.{Malformed, Misplaced, CountLimit, StateNumber, LetterLimit, StateOrder, SourceOrder, ArcRepeated, LineCount, WordFault, TaskFault, IdleCycle, ListedWord, WordOrder, StateLimit, SheetFault, ClassFault, CeilingLimit}
 use Rattle.refusal.specs.declared.StateCause.the-variants.{LoadedTable, Place, StackFull, OutputFull, DestinationShort}
 use Rattle.refusal.specs.declared.Refusal.{Refusal}
 use Rattle.refusal.specs.declared.Refusal.the-variants.{Input, State}
@@ -32,7 +32,8 @@ refusalAt n =
     (cond (eqb n 30) (Input ListedWord)
     (cond (eqb n 31) (Input WordOrder)
     (cond (eqb n 32) (Input StateLimit)
-    (cond (eqb n 33) (Input SheetFault) (Input ClassFault)))))))))))))))))))))
+    (cond (eqb n 33) (Input SheetFault)
+    (cond (eqb n 34) (Input ClassFault) (Input CeilingLimit))))))))))))))))))))))
 
 number-at : (r : Refusal) → refusalAt (numberOf r) ≡ r
 unfolding refusalAt
@@ -53,6 +54,7 @@ number-at (Input WordOrder) = refl
 number-at (Input StateLimit) = refl
 number-at (Input SheetFault) = refl
 number-at (Input ClassFault) = refl
+number-at (Input CeilingLimit) = refl
 number-at (State LoadedTable) = refl
 number-at (State Place) = refl
 number-at (State StackFull) = refl

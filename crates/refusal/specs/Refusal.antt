@@ -1,7 +1,7 @@
 -- Document 01, "Turned down for the input" and "Turned down for the state", and document 02: the number of each refusal.
 use Prim.Native.Nat.{ℕ}
 use Rattle.refusal.specs.declared.InputCause.{InputCause}
-use Rattle.refusal.specs.declared.InputCause.the-variants.{Malformed, Misplaced, CountLimit, StateNumber, LetterLimit, StateOrder, SourceOrder, ArcRepeated, LineCount, WordFault, TaskFault, IdleCycle, ListedWord, WordOrder, StateLimit, SheetFault, ClassFault}
+use Rattle.refusal.specs.declared.InputCause.the-variants.{Malformed, Misplaced, CountLimit, StateNumber, LetterLimit, StateOrder, SourceOrder, ArcRepeated, LineCount, WordFault, TaskFault, IdleCycle, ListedWord, WordOrder, StateLimit, SheetFault, ClassFault, CeilingLimit}
 use Rattle.refusal.specs.declared.StateCause.{StateCause}
 use Rattle.refusal.specs.declared.StateCause.the-variants.{LoadedTable, Place, StackFull, OutputFull, DestinationShort}
 use Rattle.refusal.specs.declared.Refusal.{Refusal}
@@ -25,6 +25,7 @@ inputNumber WordOrder = 31
 inputNumber StateLimit = 32
 inputNumber SheetFault = 33
 inputNumber ClassFault = 34
+inputNumber CeilingLimit = 39
 
 abbrev pub stateNumber : StateCause → ℕ
 stateNumber LoadedTable = 20

@@ -2,7 +2,7 @@
 ghost use mathlib.Core.Path.{_≡_};
 ghost use Rattle.refusal.specs.Refusal.{inputNumber, stateNumber, numberOf};
 
-// Why an input is turned down: document 01's 1 to 12, and document 02's 30 to 34.
+// Why an input is turned down: document 01's 1 to 12, and document 02's 30 to 34 and 39.
 pub enum InputCause {
     Malformed,
     Misplaced,
@@ -21,6 +21,7 @@ pub enum InputCause {
     StateLimit,
     SheetFault,
     ClassFault,
+    CeilingLimit,
 }
 
 // Why a state is turned down, document 01's 20 to 24.
@@ -58,6 +59,7 @@ fn input_number(cause: InputCause) -> u8
         InputCause::StateLimit => 32,
         InputCause::SheetFault => 33,
         InputCause::ClassFault => 34,
+        InputCause::CeilingLimit => 39,
     }
 }
 

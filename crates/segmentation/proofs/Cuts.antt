@@ -8,7 +8,7 @@ use mathlib.Core.Bool.{Bool, true, false, cond, _&&_}
 use mathlib.Core.Option.{Option, none, some}
 use mathlib.Core.List.{List, [], _∷_, _++_, map, append-assoc, append-nil, map-append}
 use lib.ListN.{length, getD, drop, List·getD-eq-default}
-use lib.Dec.{eqb}
+use lib.Dec.{eqb, leb·zero}
 use borrow.Author.Tests.{eq-eqb, ne-eqb}
 use Rattle.graph.proofs.Lists.{most?}
 use Rattle.machine.specs.Machine.{Machine}
@@ -33,9 +33,9 @@ record Left (w : Word) (n : ℕ) (v : Word) : Type 0 where
   rest : drop n w ≡ v
   count : n + length v ≡ length w
 
-module _ (ws bs : List Word) (N : Names ws bs) (w : Word) where
+module _ (ws bs : List Word) (N : Names ws bs) (w : Word) (ceiling : ℕ) where
   abbrev M : Machine
-  M = machine (tableOn ws bs) (synthesisOf w)
+  M = machine (tableOn ws bs) (synthesisOf w ceiling)
 
   abbrev name : ℕ → Word
   name k = getD bs k []
@@ -44,12 +44,12 @@ module _ (ws bs : List Word) (N : Names ws bs) (w : Word) where
   abbrev told : Word → List (List Word) → List (List ℕ)
   told o Z = map (λ z. o ++ joined z) Z
 
-  abbrev tells : ℕ → ℕ → Passed → List ℕ → List (List ℕ)
+  abbrev tells : ℕ → ℕ → Passed × ℕ → List ℕ → List (List ℕ)
   tells c s d o = stateTells M c s d o
 
   -- what arcs tell where states tell as with c arcs more
   abbrev arcsFrom : ℕ → ℕ → ℕ → Word → ℕ → Word → List (List ℕ)
-  arcsFrom c n m p i b = listTell (tableOn ws bs) (synthesisOf w) (λ r e z. tells c r e z) (at n m) p (letterArcs bs i b 1 62)
+  arcsFrom c n m p i b = listTell (tableOn ws bs) (synthesisOf w ceiling) (λ r e z. tells c r e z) (at n m) p (letterArcs bs i b 1 62)
 
   next : (n x : ℕ) (v : Word) → Left w n (x ∷ v) → Left w (suc n) v
   next n x v L = record { rest = drop-tail w n x v (L .rest); count = omega (arith, L .count) }
@@ -73,10 +73,10 @@ module _ (ws bs : List Word) (N : Names ws bs) (w : Word) where
 
       miss : ((x ≤ 0) ⊎ (63 ≤ x)) → arcsFrom c n m p i b ≡ told o (cutsFrom ws (b ++ (x ∷ [])) v)
       miss h =
-          letters-miss (tableOn ws bs) w (λ r e z. tells c r e z) n m p bs i b 62 0 (omega arith) (⊎-elim (λ l. inl (omega (arith, here))) (λ l. inr (omega (arith, here))) h)
+          letters-miss (tableOn ws bs) w ceiling (λ r e z. tells c r e z) n m p bs i b 62 0 (omega arith) (⊎-elim (λ l. inl (omega (arith, here))) (λ l. inr (omega (arith, here))) h)
           ∙ sym (ap (told o) (cuts-none ws v (b ++ (x ∷ [])) (N .letters b x h)))
 
-      to : (q : Option ℕ) → placeFrom 0 (b ++ (x ∷ [])) bs ≡ q → onto (tableOn ws bs) w (λ r e z. tells c r e z) n m p x q ≡ told o (cutsFrom ws (b ++ (x ∷ [])) v)
+      to : (q : Option ℕ) → placeFrom 0 (b ++ (x ∷ [])) bs ≡ q → onto (tableOn ws bs) w ceiling (λ r e z. tells c r e z) n m p x q ≡ told o (cutsFrom ws (b ++ (x ∷ [])) v)
       to none f = sym (ap (told o) (cuts-none ws v (b ++ (x ∷ [])) (N .complete b x f)))
       to (some j) f =
           let R = place-found bs (b ++ (x ∷ [])) 0 j f in
@@ -86,13 +86,13 @@ module _ (ws bs : List Word) (N : Names ws bs) (w : Word) where
           ∙ ap (λ (z : Word). told o (cutsFrom ws z v)) E
 
       hit : 0 < x → x ≤ 62 → arcsFrom c n m p i b ≡ told o (cutsFrom ws (b ++ (x ∷ [])) v)
-      hit l h = letters-hit (tableOn ws bs) w (λ r e z. tells c r e z) n m p bs i b 62 0 x (omega arith) here l (omega arith) ∙ to (placeFrom 0 (b ++ (x ∷ [])) bs) refl
+      hit l h = letters-hit (tableOn ws bs) w ceiling (λ r e z. tells c r e z) n m p bs i b 62 0 x (omega arith) here l (omega arith) ∙ to (placeFrom 0 (b ++ (x ∷ [])) bs) refl
 
   -- and where none is left
   stays : (c i : ℕ) (b : Word) (n m : ℕ) (p : Word) → Left w n [] → arcsFrom c n m p i b ≡ []
   stays c i b n m p L =
       let Z : getD w n 0 ≡ 0 = List·getD-eq-default w 0 (omega (arith, L .count)) in
-      letters-miss (tableOn ws bs) w (λ r e z. tells c r e z) n m p bs i b 62 0 (omega arith) (inl (omega arith))
+      letters-miss (tableOn ws bs) w ceiling (λ r e z. tells c r e z) n m p bs i b 62 0 (omega arith) (inl (omega arith))
 
   -- a state in parts, by whether it is a word's end, whether all is read, and what its arcs by letters tell
   abbrev parts : ℕ → ℕ → ℕ → Word → Bool → Bool → List (List ℕ) → List (List ℕ)
@@ -103,13 +103,13 @@ module _ (ws bs : List Word) (N : Names ws bs) (w : Word) where
   opened c k n m p h =
       ap₂ (λ (a b : List (List ℕ)). a ++ b)
       (ap (λ (b : Bool). readingIf M (b && (eqb n (length w) && true)) p) (ends-are (listed ws) bs k 0 k (omega arith) h))
-      (state-part (arcsOf ws bs) (arcs-from ws bs) (tableOn ws bs) (synthesisOf w) bs refl (λ r e z. stateTells M c r e z) (at n m) p k h
-      ∙ list-tell-append (tableOn ws bs) (synthesisOf w) (λ r e z. stateTells M c r e z) (at n m) p (letterArcs bs k (name k) 1 62) _
+      (state-part (arcsOf ws bs) (arcs-from ws bs) (tableOn ws bs) (synthesisOf w ceiling) bs refl (λ r e z. stateTells M c r e z) (at n m) p k h
+      ∙ list-tell-append (tableOn ws bs) (synthesisOf w ceiling) (λ r e z. stateTells M c r e z) (at n m) p (letterArcs bs k (name k) 1 62) _
       ∙ ap (λ (l : List (List ℕ)). arcsFrom c n m p k (name k) ++ l) (go (listed ws (name k))))
     where
-      go : (x : Bool) → listTell (tableOn ws bs) (synthesisOf w) (λ r e z. stateTells M c r e z) (at n m) p (cond x (cutArc k ∷ []) [])
+      go : (x : Bool) → listTell (tableOn ws bs) (synthesisOf w ceiling) (λ r e z. stateTells M c r e z) (at n m) p (cond x (cutArc k ∷ []) [])
           ≡ cond x (stateTells M c 0 (at n (suc m)) (p ++ (63 ∷ []))) []
-      go true = append-nil _
+      go true = rw (leb·zero ceiling) (append-nil _)
       go false = refl
 
   no-root : listed ws (name 0) ≡ false
@@ -184,9 +184,9 @@ module _ (ws bs : List Word) (N : Names ws bs) (w : Word) where
       }
 
 -- the readings of a table whose states' beginnings are such
-pub cuts-on : (ws bs : List Word) → Names ws bs → (x : ℕ) (v : Word)
-    → readings (machine (tableOn ws bs) (synthesisOf (x ∷ v))) (tour (machine (tableOn ws bs) (synthesisOf (x ∷ v)))) ≡ map joined (waysToCut ws (x ∷ v))
-cuts-on ws bs N x v = tour-tells (machine (tableOn ws bs) (synthesisOf (x ∷ v))) ∙ append-nil _ ∙ ⊎-elim one-state more-states (most? (length bs) 1)
+pub cuts-on : (ws bs : List Word) → Names ws bs → (x : ℕ) (v : Word) (ceiling : ℕ)
+    → readings (machine (tableOn ws bs) (synthesisOf (x ∷ v) ceiling)) (tour (machine (tableOn ws bs) (synthesisOf (x ∷ v) ceiling))) ≡ map joined (waysToCut ws (x ∷ v))
+cuts-on ws bs N x v ceiling = tour-tells (machine (tableOn ws bs) (synthesisOf (x ∷ v) ceiling)) ∙ append-nil _ ∙ ⊎-elim one-state more-states (most? (length bs) 1)
   where
     L : Left (x ∷ v) 0 (x ∷ v)
     L = record { rest = refl; count = omega arith }
@@ -195,18 +195,18 @@ cuts-on ws bs N x v = tour-tells (machine (tableOn ws bs) (synthesisOf (x ∷ v)
     limit = (suc (length v) + 0 + 1) * length bs
 
     Goal : ℕ → Type 0
-    Goal c = stateTells (machine (tableOn ws bs) (synthesisOf (x ∷ v))) c 0 (at 0 0) [] ≡ map joined (cutsFrom ws (x ∷ []) v)
+    Goal c = stateTells (machine (tableOn ws bs) (synthesisOf (x ∷ v) ceiling)) c 0 (at 0 0) [] ≡ map joined (cutsFrom ws (x ∷ []) v)
 
     one-state : length bs ≤ 1 → Goal limit
     one-state h = go limit (mul-le-mul-left (suc (length v) + 0 + 1) (N .some-state))
       where
         go : (c : ℕ) → (suc (length v) + 0 + 1) * 1 ≤ c → Goal c
         go zero l = absurd (omega arith)
-        go (suc c) l = root-from ws bs N (x ∷ v) c 0 0 x v [] L (λ j p q. absurd (omega arith))
+        go (suc c) l = root-from ws bs N (x ∷ v) ceiling c 0 0 x v [] L (λ j p q. absurd (omega arith))
 
     more-states : 1 < length bs → Goal limit
-    more-states h = good ws bs N (x ∷ v) limit .root 0 0 x v [] L (omega (arith, mul-le-mul-left (suc (length v) + 0 + 1) h))
+    more-states h = good ws bs N (x ∷ v) ceiling limit .root 0 0 x v [] L (omega (arith, mul-le-mul-left (suc (length v) + 0 + 1) h))
 
 -- a word of no letters has no reading
-pub none-on : (ws bs : List Word) → Names ws bs → readings (machine (tableOn ws bs) (synthesisOf [])) (tour (machine (tableOn ws bs) (synthesisOf []))) ≡ []
-none-on ws bs N = tour-tells (machine (tableOn ws bs) (synthesisOf [])) ∙ append-nil _ ∙ end ws bs N [] _ 0 0 [] (record { rest = refl; count = omega arith })
+pub none-on : (ws bs : List Word) → Names ws bs → (ceiling : ℕ) → readings (machine (tableOn ws bs) (synthesisOf [] ceiling)) (tour (machine (tableOn ws bs) (synthesisOf [] ceiling))) ≡ []
+none-on ws bs N ceiling = tour-tells (machine (tableOn ws bs) (synthesisOf [] ceiling)) ∙ append-nil _ ∙ end ws bs N [] ceiling _ 0 0 [] (record { rest = refl; count = omega arith })

@@ -6,6 +6,7 @@ use mathlib.Core.Logic.{_⊎_, inl, inr, ⊎-elim}
 use mathlib.Core.Option.{Option, none, some}
 use mathlib.Core.List.{List, [], _∷_, _++_, append-nil}
 use lib.ListN.{getD}
+use lib.Dec.{leb·zero}
 use borrow.Author.Tests.{eq-eqb, ne-eqb, lt-ltb}
 use Rattle.table_format.specs.Table.{Arc, Table}
 use Rattle.graph.proofs.Lists.{same?}
@@ -16,13 +17,13 @@ use Rattle.trie_format.specs.Trie.{placeFrom, letterArc, letterArcs}
 use Rattle.segmentation.specs.Readings.{synthesisOf}
 use Rattle.machine.proofs.ArcLists.{listTell, list-tell-append}
 
--- letters passed
-abbrev pub at : ℕ → ℕ → Passed
-at n m = record { up = n; low = m }
+-- letters passed, with no penalty
+abbrev pub at : ℕ → ℕ → Passed × ℕ
+at n m = (record { up = n; low = m }, 0)
 
-module _ (t : Table) (w : Word) (g : ℕ → Passed → List ℕ → List (List ℕ)) (n m : ℕ) (o : List ℕ) where
+module _ (t : Table) (w : Word) (ceiling : ℕ) (g : ℕ → Passed × ℕ → List ℕ → List (List ℕ)) (n m : ℕ) (o : List ℕ) where
   abbrev tells : List Arc → List (List ℕ)
-  tells l = listTell t (synthesisOf w) g (at n m) o l
+  tells l = listTell t (synthesisOf w ceiling) g (at n m) o l
 
   -- what a letter's arc tells where it fits
   abbrev pub onto : ℕ → Option ℕ → List (List ℕ)
@@ -34,7 +35,7 @@ module _ (t : Table) (w : Word) (g : ℕ → Passed → List ℕ → List (List 
 
   one-hit : (i x : ℕ) (p : Option ℕ) → suc x < 64 → getD w n 0 ≡ suc x → tells (letterArc i (suc x) p) ≡ onto (suc x) p
   one-hit i x none s h = refl
-  one-hit i x (some j) s h = rw (lt-ltb (suc x) 64 s, eq-eqb (getD w n 0) (suc x) h) (append-nil _)
+  one-hit i x (some j) s h = rw (lt-ltb (suc x) 64 s, eq-eqb (getD w n 0) (suc x) h, leb·zero ceiling) (append-nil _)
 
   module _ (bs : List Word) (i : ℕ) (b : Word) where
     -- the arc by the first letter, and the others
@@ -43,7 +44,7 @@ module _ (t : Table) (w : Word) (g : ℕ → Passed → List ℕ → List (List 
 
     split : (k x : ℕ) {u v : List (List ℕ)} → tells (first x) ≡ u → tells (letterArcs bs i b (suc x) k) ≡ v → tells (letterArcs bs i b x (suc k)) ≡ u ++ v
     unfolding letterArcs
-    split k x p q = list-tell-append t (synthesisOf w) g (at n m) o (first x) (letterArcs bs i b (suc x) k) ∙ ap₂ (λ (u v : List (List ℕ)). u ++ v) p q
+    split k x p q = list-tell-append t (synthesisOf w ceiling) g (at n m) o (first x) (letterArcs bs i b (suc x) k) ∙ ap₂ (λ (u v : List (List ℕ)). u ++ v) p q
 
     pub letters-miss : (k x : ℕ) → suc x + k ≤ 64 → ((getD w n 0 ≤ x) ⊎ (suc x + k ≤ getD w n 0)) → tells (letterArcs bs i b (suc x) k) ≡ []
     unfolding letterArcs

@@ -40,7 +40,7 @@ module _ (f : ℕ → Word → List Arc) (from : (i : ℕ) (b : Word) → All (�
       ∙ ap₂ (λ (x y : List Arc). x ++ y) (from-other s i (λ z. omega arith) (f i b) (from i b)) (arcs-at bs (suc i) k s (omega arith) (omega arith))
 
   -- so what a state's arcs tell is what their list tells
-  pub state-part : (t : Table) (q : Query) (bs : List Word) → t .arcs ≡ byState f 0 bs → (g : ℕ → Passed → List ℕ → List (List ℕ)) (d : Passed) (o : List ℕ) (s : ℕ) → s < length bs
+  pub state-part : (t : Table) (q : Query) (bs : List Word) → t .arcs ≡ byState f 0 bs → (g : ℕ → Passed × ℕ → List ℕ → List (List ℕ)) (d : Passed × ℕ) (o : List ℕ) (s : ℕ) → s < length bs
       → arcsTell (machine t q) g d o (machine t q .first s) (machine t q .arity s) ≡ listTell t q g d o (f s (getD bs s []))
   state-part t q bs e g d o s h =
       state-tells t q (subst (AtLeast 0) (sym e) (rises bs 0)) g d o s ∙ ap (listTell t q g d o) (ap (arcsFrom s) e ∙ arcs-at bs 0 s s (omega arith) h)

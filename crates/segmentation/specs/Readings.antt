@@ -1,4 +1,4 @@
--- The readings in synthesis of a word over the letter tree's table of a list of words.
+-- The readings in synthesis of a word over the letter tree's table of a list of words, under a ceiling; no arc of the tree has a penalty.
 use Prim.Native.Nat.{ℕ}
 use mathlib.Core.List.{List, []}
 use Rattle.machine.specs.Query.{Query, synthesis}
@@ -9,13 +9,13 @@ use Rattle.lexicon.specs.Words.{Word}
 use Rattle.trie_format.specs.Trie.{trieTable}
 
 -- what is asked
-abbrev pub synthesisOf : Word → Query
-synthesisOf w = record { task = synthesis; upperWord = w; lowerWord = [] }
+abbrev pub synthesisOf : Word → ℕ → Query
+synthesisOf w ceiling = record { task = synthesis; upperWord = w; lowerWord = []; ceiling = ceiling }
 
 -- the machine of the tree's table
-abbrev pub treeMachine : List Word → Word → Machine
-treeMachine ws w = machine (trieTable ws) (synthesisOf w)
+abbrev pub treeMachine : List Word → Word → ℕ → Machine
+treeMachine ws w ceiling = machine (trieTable ws) (synthesisOf w ceiling)
 
 -- the readings of its accepting paths, in the order of its tour
-abbrev pub treeReadings : List Word → Word → List (List ℕ)
-treeReadings ws w = readings (treeMachine ws w) (tour (treeMachine ws w))
+abbrev pub treeReadings : List Word → Word → ℕ → List (List ℕ)
+treeReadings ws w ceiling = readings (treeMachine ws w ceiling) (tour (treeMachine ws w ceiling))

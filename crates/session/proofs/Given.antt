@@ -129,7 +129,7 @@ module _ (t : Table) (keeps : keepsRules t ≡ true) (rest upper lower : List �
       → outcome (cellsOf t ++ rest) upper lower run stack allowance output ≡ outcome (cellsOf t) upper lower run stack allowance output
   unfolding outcome asked
   outcome-same run stack allowance output =
-      ap (λ (o : Option Table). outcomeOf (askedTable o (run .task) upper lower) run stack allowance output)
+      ap (λ (o : Option Table). outcomeOf (askedTable o (run .task) upper lower (run .ceiling)) run stack allowance output)
       (loaded-cells t rest keeps ∙ sym (loaded-cells t [] keeps) ∙ ap loaded (append-nil (cellsOf t)))
 
   left-same : (calls : ℕ) (run : Run) (stack output : List ℕ) (count : ℕ)

@@ -23,7 +23,7 @@ mostReadings = 1000
 abbrev pub stackFrames : ℕ
 stackFrames = 4096
 
--- a frame has four cells
+-- a frame has five cells
 abbrev pub stackCells : ℕ
 stackCells = stackFrames * frameWidth
 

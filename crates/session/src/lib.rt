@@ -20,7 +20,7 @@ pub const MOST_READINGS: u16 = 1000;
 // The frames of its stack.
 pub const STACK_FRAMES: usize = 4096;
 
-// Their cells: four each.
+// Their cells: five each.
 pub const STACK_CELLS: usize = STACK_FRAMES * machine::FRAME_WIDTH;
 
 // A line's length, and the state to go on with where another line follows.

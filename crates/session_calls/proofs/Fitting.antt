@@ -27,7 +27,7 @@ module _ (cells upper lower : List ℕ) where
   found-inside : (run : Run) (stack : List ℕ) (allowance : ℕ) (buffer : List ℕ) (steps n : ℕ) → outcome cells upper lower run stack allowance buffer .called .answer ≡ Found steps n
       → n ≤ length (outcome cells upper lower run stack allowance buffer .output)
   unfolding outcome
-  found-inside run stack allowance buffer steps n e = go (asked cells (run .task) upper lower) e
+  found-inside run stack allowance buffer steps n e = go (asked cells (run .task) upper lower (run .ceiling)) e
     where
       go : (w : Asked) → outcomeOf w run stack allowance buffer .called .answer ≡ Found steps n → n ≤ length (outcomeOf w run stack allowance buffer .output)
       go (turned r) e = absurd (let z : _≡_ {A = ℕ} 0 1 = cc in omega arith)

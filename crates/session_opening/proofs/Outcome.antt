@@ -35,7 +35,7 @@ use Rattle.session_query.proofs.Parts.{size-inside}
 use Rattle.session_query.proofs.Query.{fault-is, Asks, asks-is}
 use Rattle.session_opening.specs.declared.SessionState.{SessionState}
 use Rattle.session_opening.specs.declared.Opening.the-variants.{Ready, Refused}
-use Rattle.session_opening.specs.Opened.{mostInput, Opened, unopened, ready, openedAs, startedOn, openedQuery, openedTable, opened}
+use Rattle.session_opening.specs.Opened.{mostInput, Opened, unopened, ready, openedAs, sessionCeiling, startedOn, openedQuery, openedTable, opened}
 use Rattle.session_opening.specs.Outcome.{OpeningTold, openingTold, OpeningOutcome, firstState, openingOutcome, OpeningOutcomeIs}
 
 -- What is answered and left, by what an input gives.
@@ -54,7 +54,7 @@ query-faults cells ls x cause e f = ap (openedQuery cells) (fault-is (queryOf ls
 
 module _ (cells : List ℕ) (ls : List Line) (x : Question) (e : x ≡ questionOf (queryOf ls)) (f : x .asking ≡ Query)
     (task : ℕ) (task-is : task ≡ taskIn (x .bytes)) (upper lower : List ℕ) (upper-is : upper ≡ upperIn (x .bytes)) (lower-is : lower ≡ lowerIn (x .bytes))
-    (s : Started) (S : StartedIs (started cells task upper lower) s) where
+    (s : Started) (S : StartedIs (started cells task upper lower sessionCeiling) s) where
   asks : Asks ls x
   asks = asks-is ls x e f
 
@@ -65,7 +65,7 @@ module _ (cells : List ℕ) (ls : List Line) (x : Question) (e : x ≡ questionO
       let u = upper-is ∙ asks .upper-is in
       let l = lower-is ∙ asks .lower-is in
       ap (openedQuery cells) (asks .is)
-      ∙ ap (λ (z : Started). openedAs cells (asks .query) (z .answer) (z .run)) (sym (start-is {s = s} S ∙ (λ i. started cells (t i) (u i) (l i))))
+      ∙ ap (λ (z : Started). openedAs cells (asks .query) (z .answer) (z .run)) (sym (start-is {s = s} S ∙ (λ i. started cells (t i) (u i) (l i) sessionCeiling)))
 
   pub start-refused : (table query : List ℕ) (r : Refusal) → s .answer ≡ T.Refused r → OpeningOutcomeIs (openingOutcome (openedQuery cells (queryOf ls)) table query) (openingTold (Refused r)) table query
   start-refused table query r g =

@@ -16,11 +16,10 @@ use Rattle.table_format.proofs.Determine.{read-text}
 use Rattle.machine.specs.declared.Run.{Run}
 use Rattle.machine.specs.declared.StartAnswer.{StartAnswer}
 use Rattle.machine.specs.declared.StartAnswer.the-variants as T
-use Rattle.machine.specs.Start.{started}
 use Rattle.session_query.specs.Parts.{tableText, queryText}
-use Rattle.session_query.specs.Query.{QueryRead, fault, says, taskIn, upperIn, lowerIn, queryOf}
+use Rattle.session_query.specs.Query.{QueryRead, fault, says, queryOf}
 use Rattle.session_query.proofs.Query.{IsQuery, query-whole}
-use Rattle.session_opening.specs.Opened.{mostInput, Opened, unopened, ready, openedAs, startedOn, openedQuery, openedTable, opened}
+use Rattle.session_opening.specs.Opened.{mostInput, Opened, unopened, ready, openedAs, startOf, startedOn, openedQuery, openedTable, opened}
 
 pub record Whole (cells b : List ℕ) : Type 0 where
   pub table : Table
@@ -49,5 +48,5 @@ opened-whole input = go (ltb mostInput (length input)) (parsed (tableText input)
     go false (accepted t) e (says b) f =
         subst (λ (y : Parsed). WholeIf (openedTable y (linesOf (queryText input)))) (sym e)
         (subst (λ (y : QueryRead). WholeIf (openedQuery (cellsOf t) y)) (sym f)
-        (begins (cellsOf t) b (started (cellsOf t) (taskIn b) (upperIn b) (lowerIn b) .answer) (started (cellsOf t) (taskIn b) (upperIn b) (lowerIn b) .run)
+        (begins (cellsOf t) b (startOf (cellsOf t) b .answer) (startOf (cellsOf t) b .run)
         (record { table = t; cells-are = refl; keeps = read-text (tableText input) t e .0; query = query-whole (linesOf (queryText input)) b f })))

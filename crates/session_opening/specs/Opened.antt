@@ -1,5 +1,5 @@
 -- Document 01, "Lines of the text": "Too long an input is refused before any line is read, then the table's faults come before the query's".
--- Then the start's refusals: 11, 10, 12.
+-- Then the start's refusals: 11, 10, 12; never 39.
 use Prim.Native.Nat.{ℕ}
 use mathlib.Core.Bool.{cond}
 use mathlib.Core.List.{List}
@@ -14,6 +14,7 @@ use Rattle.table_format.specs.Parse.{Parsed, accepted, turnedDown, parsed}
 use Rattle.machine.specs.declared.Run.{Run}
 use Rattle.machine.specs.declared.StartAnswer.{StartAnswer}
 use Rattle.machine.specs.declared.StartAnswer.the-variants.{Ready, Refused}
+use Rattle.machine.specs.declared.Started.{Started}
 use Rattle.machine.specs.Start.{started}
 use Rattle.session_query.specs.Parts.{tableText, queryText}
 use Rattle.session_query.specs.Query.{QueryRead, fault, says, taskIn, upperIn, lowerIn, queryOf}
@@ -28,10 +29,17 @@ abbrev pub openedAs : List ℕ → List ℕ → StartAnswer → Run → Opened
 openedAs cells b Ready run = ready cells b run
 openedAs cells b (Refused r) run = unopened r
 
+-- "a run has a ceiling fixed at its start (100,000 in the session ..)"
+abbrev pub sessionCeiling : ℕ
+sessionCeiling = 100000
+
+-- what the start by a query's bytes gives
+abbrev pub startOf : List ℕ → List ℕ → Started
+startOf cells b = started cells (taskIn b) (upperIn b) (lowerIn b) sessionCeiling
+
 -- the start
 unfoldable pub startedOn : List ℕ → List ℕ → Opened
-startedOn cells b =
-    openedAs cells b (started cells (taskIn b) (upperIn b) (lowerIn b) .answer) (started cells (taskIn b) (upperIn b) (lowerIn b) .run)
+startedOn cells b = openedAs cells b (startOf cells b .answer) (startOf cells b .run)
 
 -- the query's faults
 abbrev pub openedQuery : List ℕ → QueryRead → Opened

@@ -22,6 +22,9 @@ ghost use Rattle.session_opening.specs.Outcome.{openingTold, firstState,
 // The bytes of an input.
 pub const MOST_INPUT: usize = 65536;
 
+// The ceiling of a session's run.
+const CEILING: u32 = machine::MOST_CEILING;
+
 // What an opening answers: the state to begin with, or a refusal.
 pub enum Opening {
     Ready(SessionState),
@@ -64,7 +67,13 @@ fn begin_query(
     let bytes = question.bytes;
     let task = widen::byte_as_count(bytes[1]);
     let asked = &bytes;
-    let started = engine_start::start(cells, task, words::upper(asked), words::lower(asked));
+    let started = engine_start::start(
+        cells,
+        task,
+        words::upper(asked),
+        words::lower(asked),
+        CEILING,
+    );
     let answer = started.answer;
     if let StartAnswer::Refused(refusal) = answer {
         return Opening::Refused(refusal);

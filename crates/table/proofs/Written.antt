@@ -12,11 +12,11 @@ use Rattle.table_format.specs.Classes.{classCount}
 use Rattle.table_format.specs.Loaded.{arcWidth, classesAt, classCells, initialsAt, countsIn, arcIn, arcsIn, rowsIn, classesIn, tableIn, loaded}
 use Rattle.table_format.specs.Line.{charsOf, lineText, charactersOf}
 use Rattle.table_format.specs.Text.{headerBytes, initialBytes, terminalBytes, arcBytes, endBytes, lineBytes, classLines, linesBefore, joinLines, textOf}
-use Rattle.table_format.specs.Parse.{initial, terminal, arc, widthOf, headerLine, stateLine, arcLine}
+use Rattle.table_format.specs.Parse.{initial, terminal, widthOf, headerLine, stateLine, penaltyWidth}
 use Rattle.table_format.specs.Cells.{arcCount, arcsAs}
 use Rattle.table_check.specs.Check.{layoutOf, LaidOut}
 use Rattle.table_format.proofs.All.{All, all-getD}
-use Rattle.table_format.proofs.Rules.{keeps-parts, ArcBounded, arcs-bounded}
+use Rattle.table_format.proofs.Rules.{keeps-parts, ArcBounded, arcs-bounded, penalties-bounded}
 use Rattle.table_format.proofs.Classes.{cells-small, rows-of}
 use Rattle.table_format.proofs.Loaded.{counts-of}
 use Rattle.table_check.proofs.Parts.{classesPart, classes-part, initials-part, terminals-part, arcsPart, arcs-part, arcs-length, laid-out}
@@ -24,6 +24,7 @@ use Rattle.table_check.proofs.Holding.{Holding, holding}
 use Rattle.table_format.proofs.Line.{IsByte}
 use Rattle.table_format.proofs.Text.{text-parts, classes-few, classes-size, length-lines, length-text}
 use Rattle.table_format.proofs.Stores.{then}
+use Rattle.table_printer.proofs.Lines.{arcs-most}
 
 -- the lines of the classes in cells
 abbrev pub linesIn : List ℕ → List (List ℕ)
@@ -47,8 +48,9 @@ pub record HeldText (cells : List ℕ) : Type 0 where
   pub letters : (i : ℕ) → getD (classesPart cells) i 0 < 256
   pub few-classes : length (linesIn cells) ≤ classCount
   pub classes-size : length (joinLines (linesIn cells)) ≤ classCount * charactersOf lineBytes
+  pub arcs-size : length (joinLines (map arcBytes (tableIn cells .arcs))) ≤ charactersOf penaltyWidth * getD cells 3 0
   pub size : length (textOf (tableIn cells))
-      ≡ headerLine + length (joinLines (linesIn cells)) + stateLine * getD cells 1 0 + stateLine * getD cells 2 0 + arcLine * getD cells 3 0 + stateLine
+      ≡ headerLine + length (joinLines (linesIn cells)) + stateLine * getD cells 1 0 + stateLine * getD cells 2 0 + length (joinLines (map arcBytes (tableIn cells .arcs))) + stateLine
 
 pub held-text : (cells : List ℕ) → loaded cells ≡ some (tableIn cells) → HeldText cells
 held-text cells l =
@@ -66,20 +68,23 @@ held-text cells l =
       letters = classes-bytes cells h;
       few-classes = omega (arith, classes-few (tableIn cells) (h .keeps));
       classes-size = omega (arith, classes-size (tableIn cells) (h .keeps));
+      arcs-size = omega (arith, arcs-most (tableIn cells .arcs));
       size = omega arith;
     }
 
--- every cell of arcs between at most 256 states is a byte
-arcs-bytes : (states n : ℕ) (cells : List ℕ) → states ≤ 256 → length cells ≡ arcWidth * n → All (ArcBounded states) (arcsIn n cells) → All IsByte cells
+-- every cell of arcs between at most 256 states, with penalties of at most 255, is a byte
+arcs-bytes : (states n : ℕ) (cells : List ℕ) → states ≤ 256 → length cells ≡ arcWidth * n → All (ArcBounded states) (arcsIn n cells)
+    → All (λ a. a .penalty ≤ 255) (arcsIn n cells) → All IsByte cells
 unfolding arcsIn
-arcs-bytes states n [] s e p = tt
-arcs-bytes states zero (x ∷ cells) s e p = absurd (omega arith)
-arcs-bytes states (suc n) (x ∷ []) s e p = absurd (omega arith)
-arcs-bytes states (suc n) (x ∷ y ∷ []) s e p = absurd (omega arith)
-arcs-bytes states (suc n) (x ∷ y ∷ z ∷ []) s e p = absurd (omega arith)
-arcs-bytes states (suc n) (x ∷ y ∷ z ∷ w ∷ cells) s e p =
-    let b : ArcBounded states (arcIn (x ∷ y ∷ z ∷ w ∷ cells)) = p .0 in
-    (omega arith, (omega arith, (omega arith, (omega arith, arcs-bytes states n cells s (omega arith) (p .1)))))
+arcs-bytes states n [] s e p q = tt
+arcs-bytes states zero (x ∷ cells) s e p q = absurd (omega arith)
+arcs-bytes states (suc n) (x ∷ []) s e p q = absurd (omega arith)
+arcs-bytes states (suc n) (x ∷ y ∷ []) s e p q = absurd (omega arith)
+arcs-bytes states (suc n) (x ∷ y ∷ z ∷ []) s e p q = absurd (omega arith)
+arcs-bytes states (suc n) (x ∷ y ∷ z ∷ w ∷ []) s e p q = absurd (omega arith)
+arcs-bytes states (suc n) (x ∷ y ∷ z ∷ w ∷ v ∷ cells) s e p q =
+    let b : ArcBounded states (arcIn (x ∷ y ∷ z ∷ w ∷ v ∷ cells)) = p .0 in
+    (omega arith, (omega arith, (omega arith, (omega arith, (omega (arith, q .0), arcs-bytes states n cells s (omega arith) (p .1) (q .1))))))
 
 -- the parts of the cells, by the layout
 module _ (cells : List ℕ) (l : Layout) where
@@ -98,6 +103,7 @@ module _ (cells : List ℕ) (l : Layout) where
     pub initials-count : length initialsPart ≡ getD cells 1 0
     pub terminals-count : length terminalsPart ≡ getD cells 2 0
     pub arcs-count : length (arcsPart cells l laid) ≡ arcWidth * getD cells 3 0
+    pub arcs-characters : length (joinLines (map arcBytes (arcsAs (arcsPart cells l laid)))) ≡ length (joinLines (map arcBytes (tableIn cells .arcs)))
     pub bytes : (i : ℕ) → getD (arcsPart cells l laid) i 0 < 256
 
   pub parted : l ≡ layoutOf (countsIn cells) → loaded cells ≡ some (tableIn cells) → Parted
@@ -123,20 +129,22 @@ module _ (cells : List ℕ) (l : Layout) where
         initials-count = ap length pi ∙ ap (λ (c : Counts). c .initials) e;
         terminals-count = ap length pm ∙ ap (λ (c : Counts). c .terminals) e;
         arcs-count = n;
+        arcs-characters = ap (λ (xs : List Arc). length (joinLines (map arcBytes xs))) pa;
         bytes =
             λ i.
             all-getD IsByte part i 0 (omega arith)
             (arcs-bytes (tableIn cells .states) (arcCount part) part (omega arith) (omega arith)
-            (subst (All (ArcBounded (tableIn cells .states))) (sym pa) (arcs-bounded (tableIn cells) (h .keeps))));
+            (subst (All (ArcBounded (tableIn cells .states))) (sym pa) (arcs-bounded (tableIn cells) (h .keeps)))
+            (subst (All (λ a. a .penalty ≤ 255)) (sym pa) (penalties-bounded (tableIn cells) (h .keeps))));
       }
 
   -- where the arcs' lines begin, a text of n characters that has room for all lines has room for the rest
   module _ (h : Parted) (n m p₂ p₃ p₄ : ℕ) (room : length (textOf (tableIn cells)) ≤ m) (same : n ≡ m)
       (q₂ : p₂ ≡ headerLine + length (joinLines (linesIn cells))) (q₃ : p₃ ≡ p₂ + stateLine * length initialsPart) (q₄ : p₄ ≡ p₃ + stateLine * length terminalsPart) where
-    pub arcs-fit : p₄ + arcLine * arcCount (arcsPart cells l (h .laid)) ≤ n
+    pub arcs-fit : p₄ + length (joinLines (map arcBytes (arcsAs (arcsPart cells l (h .laid))))) ≤ n
     arcs-fit = omega arith
 
-    pub end-fits : (p₅ : ℕ) → p₅ ≡ p₄ + arcLine * arcCount (arcsPart cells l (h .laid)) → p₅ + stateLine ≤ n
+    pub end-fits : (p₅ : ℕ) → p₅ ≡ p₄ + length (joinLines (map arcBytes (arcsAs (arcsPart cells l (h .laid))))) → p₅ + stateLine ≤ n
     end-fits p₅ q₅ = omega arith
 
   -- the lines of a table, one run after the other, are its text, with what stood after it
@@ -146,7 +154,7 @@ module _ (cells : List ℕ) (l : Layout) where
       → (p₂ ≡ headerLine + length (joinLines (linesIn cells))) × (m₂ ≡ sets m₁ headerLine (joinLines (linesIn cells)))
       → (p₃ ≡ p₂ + stateLine * length initialsPart) × (m₃ ≡ sets m₂ p₂ (joinLines (map initialBytes initialsPart)))
       → (p₄ ≡ p₃ + stateLine * length terminalsPart) × (m₄ ≡ sets m₃ p₃ (joinLines (map terminalBytes terminalsPart)))
-      → (p₅ ≡ p₄ + arcLine * arcCount (arcsPart cells l (h .laid))) × (m₅ ≡ sets m₄ p₄ (joinLines (map arcBytes (arcsAs (arcsPart cells l (h .laid))))))
+      → (p₅ ≡ p₄ + length (joinLines (map arcBytes (arcsAs (arcsPart cells l (h .laid)))))) × (m₅ ≡ sets m₄ p₄ (joinLines (map arcBytes (arcsAs (arcsPart cells l (h .laid))))))
       → m₆ ≡ sets m₅ p₅ (lineText (endBytes (1 + n + getD cells 1 0 + getD cells 2 0 + getD cells 3 0)))
       → m₆ ≡ textOf (tableIn cells) ++ drop (length (textOf (tableIn cells))) d
   unfolding charsOf
@@ -156,7 +164,6 @@ module _ (cells : List ℕ) (l : Layout) where
       let f : linesIn cells ≡ classLines 0 (t .classes) = lines-in cells in
       let c₁ = length-lines initialBytes (widthOf initial) (λ s. refl) (t .initials) in
       let c₂ = length-lines terminalBytes (widthOf terminal) (λ s. refl) (t .terminals) in
-      let c₃ = length-lines arcBytes (widthOf arc) (λ a. refl) (t .arcs) in
       let k = ap (λ (ls : List (List ℕ)). length (joinLines ls)) f in
       let i = ap length (h .initials) in
       let m = ap length (h .terminals) in

@@ -2,7 +2,6 @@
 use destination::Answer;
 use refusal::Refusal;
 use refusal::StateCause;
-use table_format::ARC_LINE;
 use table_format::CLASSES_AT;
 use table_format::END_KIND;
 use table_format::HEADER_LINE;
@@ -25,9 +24,13 @@ fn text_size(cells: &[u16]) -> usize
     requires { ⌜ loaded (now cells) ≡ some (tableIn (now cells)) ⌝ }
     ensures { λ r. ⌜ r ≡ length (textOf (tableIn (now (cells .entry)))) ⌝ }
 {
+    let at = table_check::layout_of(cells);
+    let from = at.arcs;
+    let end = at.end;
     let classes = table_printer::class_size(&cells[CLASSES_AT..INITIALS_AT]);
     let states = cells[1] as usize + cells[2] as usize;
-    HEADER_LINE + classes + STATE_LINE * states + ARC_LINE * cells[3] as usize + STATE_LINE
+    let arcs = table_printer::arc_size(&cells[from..end]);
+    HEADER_LINE + classes + STATE_LINE * states + arcs + STATE_LINE
 }
 
 // The whole text of a loaded table, line by line.

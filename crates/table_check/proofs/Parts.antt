@@ -12,7 +12,7 @@ use borrow.Author.Tests.{le-leb, lt-leb}
 use Rattle.table_check.specs.declared.Layout.{Layout}
 use Rattle.table_format.specs.Table.{Arc, countsOf}
 use Rattle.table_format.specs.Classes.{classCount, rowWidth}
-use Rattle.table_format.specs.Rules.{countsHold, classesKeep, initialsKeep, terminalsKeep, arcsKeep, keepsRules}
+use Rattle.table_format.specs.Rules.{countsHold, classesKeep, initialsKeep, terminalsKeep, arcsKeep, penaltiesKeep, keepsRules}
 use Rattle.table_format.specs.Loaded.{arcWidth, classesAt, initialsAt, countsIn, arcsIn, rowsIn, extent, tableIn, loaded}
 use Rattle.table_format.specs.Index.{firstIndex, firstArcs}
 use Rattle.table_format.specs.Cells.{countsAs, arcCount, arcsAs}
@@ -79,13 +79,13 @@ module _ (cells : List ℕ) (l : Layout) (L : LaidOut cells l) where
       && (classesKeep (rowsIn classCount (classesPart cells))
       && (initialsKeep (l .states) (take (l .terminals - initialsAt) (drop initialsAt cells))
       && (terminalsKeep (l .states) (take (l .arcs - l .terminals) (drop (l .terminals) cells))
-      && arcsKeep (l .states) (rowsIn classCount (classesPart cells)) (arcsAs arcsPart)))))
+      && (arcsKeep (l .states) (rowsIn classCount (classesPart cells)) (arcsAs arcsPart) && penaltiesKeep (arcsAs arcsPart))))))
   unfolding keepsRules
   rules-parts =
       ap₂ _&&_ (header-clear (countsOf (tableIn cells)) ∙ ap countsHold (counts-of cells (L .whole) ∙ ap (λ (n : ℕ). countsAs n (getD cells 1 0) (getD cells 2 0) (getD cells 3 0)) (sym (L .states-is))))
       (ap₂ _&&_ (ap classesKeep (sym (classes-part cells)))
       (ap₂ _&&_ (ap₂ initialsKeep states-part (sym initials-part))
-      (ap₂ _&&_ (ap₂ terminalsKeep states-part (sym terminals-part)) (λ i. arcsKeep (states-part i) (sym (classes-part cells) i) (sym arcs-part i)))))
+      (ap₂ _&&_ (ap₂ terminalsKeep states-part (sym terminals-part)) (λ i. arcsKeep (states-part i) (sym (classes-part cells) i) (sym arcs-part i) && penaltiesKeep (sym arcs-part i)))))
 
   -- what the index asks, where the rules are kept, and what it is of
   pub index-ready : keepsRules (tableIn cells) ≡ true

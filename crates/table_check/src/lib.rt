@@ -5,12 +5,12 @@ use table_format::INITIALS_AT;
 use table_format::arc_at;
 use table_rules::Judged;
 ghost use mathlib.Core.Path.{_≡_};
-ghost use mathlib.Core.Bool.{true};
+ghost use mathlib.Core.Bool.{true, _&&_};
 ghost use mathlib.Core.List.{List};
 ghost use Prim.Native.Nat.{ℕ, _≤_};
 ghost use lib.ListN.{length, getD};
 ghost use Rattle.table_format.specs.Classes.{classCount};
-ghost use Rattle.table_format.specs.Rules.{initialsKeep, arcsKeep, keepsRules};
+ghost use Rattle.table_format.specs.Rules.{initialsKeep, arcsKeep, penaltiesKeep, keepsRules};
 ghost use Rattle.table_format.specs.Loaded.{classCells, rowsIn, countsIn, tableIn};
 ghost use Rattle.table_format.specs.Cells.{arcCount, arcsAs};
 ghost use Rattle.table_format.specs.Index.{firstIndex};
@@ -77,12 +77,15 @@ fn each_arc_holds(rows: &[u16], cells: &[u16], states: u16) -> bool
 // Arcs in order are held by one look at each, others each with those before it.
 fn arcs_hold(rows: &[u16], cells: &[u16], states: u16) -> bool
     requires { ⌜ length (now rows) ≡ classCells ⌝ }
-    ensures { λ r. ⌜ r ≡ arcsKeep states (rowsIn classCount (now (rows .entry))) (arcsAs (now (cells .entry))) ⌝ }
+    ensures { λ r. ⌜ r ≡ (arcsKeep states (rowsIn classCount (now (rows .entry))) (arcsAs (now (cells .entry))) && penaltiesKeep (arcsAs (now (cells .entry)))) ⌝ }
 {
     if table_order::arcs_rise(rows, cells, states) {
         return true;
     }
-    each_arc_holds(rows, cells, states)
+    if !each_arc_holds(rows, cells, states) {
+        return false;
+    }
+    table_order::penalties_hold(cells)
 }
 
 // The first-arc index of arcs that keep the rules: the arcs of each source are counted, then the counts are added up.
@@ -92,13 +95,12 @@ fn first_arcs(cells: &[u16], states: u16) -> [u16; 257]
     ensures { λ r. ⌜ r ≡ firstIndex states (arcsAs (now (cells .entry))) ⌝ }
 {
     let mut first = [0u16; 257];
-    let count = cells.len() / ARC_WIDTH;
-    let mut n = 0;
-    while n < count {
+    let mut n = cells.len() / ARC_WIDTH;
+    while 0 < n {
+        n -= 1;
         let arc = arc_at(cells, n);
         let next = arc.source as usize + 1;
         first[next] = first[next] + 1;
-        n += 1;
     }
     let mut q: usize = 0;
     while q < states as usize {
@@ -131,7 +133,7 @@ pub fn layout_of(cells: &[u16]) -> Layout
     }
 }
 
-// Rules 3 to 8 and 34 on a table that the cells hold whole.
+// Rules 3 to 8, 34 and the limit of penalties on a table that the cells hold whole.
 fn keeps_rules(cells: &[u16], at: Layout) -> bool
     requires { ⌜ LaidOut (now cells) at ⌝ }
     ensures { λ r. ⌜ r ≡ keepsRules (tableIn (now (cells .entry))) ⌝ }

@@ -1,4 +1,4 @@
--- Laws of arcs in cells, four cells an arc.
+-- Laws of arcs in cells, five cells an arc.
 use Prim.Native.Nat.{ℕ, zero, suc, _+_, _*_, _<_, _≤_}
 use native.Mathlib.Omega.{arith}
 use mathlib.Core.Path.{_≡_, refl, sym, ap, ap₂, _∙_}
@@ -9,7 +9,7 @@ use mathlib.Core.Bool.{Bool, false}
 use Rattle.table_format.specs.Table.{Arc, noArc}
 use Rattle.table_format.specs.Rules.{each}
 use Rattle.table_format.specs.Loaded.{arcWidth, arcIn, arcsIn}
-use Rattle.table_format.specs.Cells.{arcAs, arcCount, arcsAs, arcOf}
+use Rattle.table_format.specs.Cells.{arcWith, arcCount, arcsAs, arcOf}
 use Rattle.table_format.proofs.Each.{each-fails}
 
 -- a function at equal numbers
@@ -18,7 +18,7 @@ at-equal f m n e = ap f e
 
 -- the arc from a cell on
 abbrev pub arcHere : List ℕ → ℕ → Arc
-arcHere cells at = arcAs (getD cells at 0) (getD cells (at + 1) 0) (getD cells (at + 2) 0) (getD cells (at + 3) 0)
+arcHere cells at = arcWith (getD cells at 0) (getD cells (at + 1) 0) (getD cells (at + 2) 0) (getD cells (at + 3) 0) (getD cells (at + 4) 0)
 
 pub length-arcs : (n : ℕ) (cells : List ℕ) → length (arcsIn n cells) ≡ n
 unfolding arcsIn
@@ -32,6 +32,7 @@ arc-dropped cells at =
       upper = getD-drop at cells 1 0 i;
       lower = getD-drop at cells 2 0 i;
       target = getD-drop at cells 3 0 i;
+      penalty = getD-drop at cells 4 0 i;
     }
 
 pub getD-arcs : (n : ℕ) (cells : List ℕ) (k : ℕ) (d : Arc) → k < n → getD (arcsIn n cells) k d ≡ arcOf cells k
@@ -69,6 +70,7 @@ arcs-take (suc k) m cells h g =
           upper = getD-take m cells (arcWidth * k + 1) 0 (omega arith) i;
           lower = getD-take m cells (arcWidth * k + 2) 0 (omega arith) i;
           target = getD-take m cells (arcWidth * k + 3) 0 (omega arith) i;
+          penalty = getD-take m cells (arcWidth * k + 4) 0 (omega arith) i;
         }
 
 -- the first k of n arcs

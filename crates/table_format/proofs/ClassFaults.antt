@@ -1,9 +1,9 @@
 -- What a line that begins as a class's earns, and an arc by its letters and its class.
 use Prim.Native.Nat.{ℕ, _+_, _-_, _≤_, _<_}
 use native.Mathlib.Omega.{arith}
-use mathlib.Core.Path.{_≡_, refl, sym, ap, _∙_}
+use mathlib.Core.Path.{_≡_, refl, sym, ap, ap₂, _∙_}
 use mathlib.Core.Logic.{_↔_, _⊎_, ⊎-elim}
-use mathlib.Core.Bool.{Bool, true, false, cond, _&&_, and-false}
+use mathlib.Core.Bool.{Bool, true, false, cond, not, _&&_, _||_, and-false}
 use mathlib.Core.List.{List, [], _∷_, _++_, List·Memᴰ}
 use lib.Dec.{eqb, leb, ltb}
 use lib.ListN.{length, getD}
@@ -15,7 +15,7 @@ use Rattle.table_format.specs.Classes.{firstClass, rowWith, isDefined, i
 use Rattle.table_format.specs.Rules.{isEmpty, unless, letterHolds, classHolds, arcClassHolds, sourceHolds, arcIsNew, classFaults, arcEarns, arcFaults, keepsRules}
 use Rattle.table_format.specs.Ruled.{ClassRow}
 use Rattle.table_format.specs.Text.{lineBytes}
-use Rattle.table_format.specs.Parse.{class, initial, terminal, arc, end, codeOf, widthOf, classFrom, lettersFrom, hasForm, inPlace, isOf, due, itemFaults, kindFaults, within, bytesFaults}
+use Rattle.table_format.specs.Parse.{class, initial, terminal, arc, end, codeOf, widthOf, arcFrom, classFrom, lettersFrom, hasForm, inPlace, penaltyKind, penaltyWidth, isOf, due, itemFaults, kindFaults, within, bytesFaults}
 use Rattle.table_format.proofs.Tests.{and-left, and-right, and-both}
 use Rattle.table_format.proofs.Classes.{plain-holds, class-holds}
 use Rattle.table_format.proofs.Ruled.{ruled}
@@ -51,9 +51,14 @@ module _ (c : Counts) (t : Table) (b : List ℕ) (begins : getD b 0 0 ≡ codeOf
 
   -- after one it is misplaced
 
+  no-form : (code width : ℕ) → (codeOf class ≡ code → ⊥) → hasForm code width b ≡ false
+  no-form code width h = ap (λ (x : Bool). x && eqb (length b) width) (ne-eqb (getD b 0 0) code (λ e. h (sym begins ∙ e)))
+
   other : (code width : ℕ) → (codeOf class ≡ code → ⊥) → (faults : List InputCause) → inPlace (hasForm code width b) faults ≡ Misplaced ∷ []
-  other code width h faults =
-      ap (λ (x : Bool). inPlace (x && eqb (length b) width) faults) (ne-eqb (getD b 0 0) code (λ e. h (sym begins ∙ e)))
+  other code width h faults = ap (λ (x : Bool). inPlace x faults) (no-form code width h)
+
+  no-arc : isOf arc b ≡ false
+  no-arc = ap₂ (λ (x y : Bool). x || (y && not (eqb (arcFrom b .penalty) 0))) (no-form (codeOf arc) (widthOf arc) (λ e. omega arith)) (no-form penaltyKind penaltyWidth (λ e. omega arith))
 
   pub line-late : 0 < length (t .initials) → bytesFaults (within c t) b ≡ Misplaced ∷ []
   unfolding bytesFaults
@@ -64,7 +69,7 @@ module _ (c : Counts) (t : Table) (b : List ℕ) (begins : getD b 0 0 ≡ codeOf
       go : (x y z : Bool) → kindFaults (cond x initial (cond y terminal (cond z arc end))) t b ≡ Misplaced ∷ []
       go true y z = other (codeOf initial) (widthOf initial) (λ e. omega arith) (itemFaults initial t b)
       go false true z = other (codeOf terminal) (widthOf terminal) (λ e. omega arith) (itemFaults terminal t b)
-      go false false true = other (codeOf arc) (widthOf arc) (λ e. omega arith) (itemFaults arc t b)
+      go false false true = ap (λ (x : Bool). inPlace x (itemFaults arc t b)) no-arc
       go false false false = other (codeOf end) (widthOf end) (λ e. omega arith) (itemFaults end t b)
 
 -- What an arc without a class is, and which row a letter means.

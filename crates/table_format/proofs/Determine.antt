@@ -20,7 +20,7 @@ use Rattle.table_format.proofs.All.{All}
 use Rattle.table_format.proofs.Classes.{no-classes-keep}
 use Rattle.table_format.proofs.Rules.{Keeps, keeps-parts, counts-bounded}
 use Rattle.table_format.proofs.Line.{IsByte, lines-join, join-lines}
-use Rattle.table_format.proofs.Text.{number-value, header-says, header-only, end-only, lines-bytes}
+use Rattle.table_format.proofs.Text.{number-value, header-says, header-only, end-only, bytes-penalties, lines-bytes}
 use Rattle.table_format.proofs.Parse.{parseBytes, parse-one, one-parsed, parse-lines, ParsedLines, lines-parsed, no-class, initialPhase, terminalPhase, arcPhase, parse-items, Items, items-parsed, header-line-clear, header-onward, end-clear, end-onward, closed-parsed}
 use Rattle.table_format.proofs.ParseClasses.{parse-classes, ClassesRead, classes-parsed, all-lines}
 
@@ -126,6 +126,7 @@ module _ (c : Counts) (bs : List (List ℕ)) (t : Table) (hold : countsHold c �
                   initials = i .kept;
                   terminals = j .kept;
                   arcs = k .kept;
+                  penalties = bytes-penalties (k .items) (k .rest) (subst (All (All IsByte)) (k .lines) (j .small));
                 };
             lines =
                 all-lines c (c .states) bs t r

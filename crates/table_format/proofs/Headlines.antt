@@ -10,14 +10,14 @@ use lib.ListN.{length, getD, take, drop}
 use lib.Seq.{drop-drop}
 use Rattle.refusal.specs.declared.InputCause.{InputCause}
 use Rattle.refusal.specs.declared.InputCause.the-variants.{Misplaced, LetterLimit, SourceOrder, ArcRepeated, ClassFault}
-use Rattle.table_format.specs.Table.{Arc, Table, Counts, countsOf}
+use Rattle.table_format.specs.Table.{Arc, Table, Counts, noArc, withoutPenalty, countsOf}
 use Rattle.table_format.specs.Classes.{isDefined, isPlain, rowOf}
 use Rattle.table_format.specs.Rules.{unless, classHolds, sourceHolds, arcIsNew, arcFaults, keepsRules}
 use Rattle.table_format.specs.Ruled.{Rise, ClassRow, Ruled}
-use Rattle.table_format.specs.Loaded.{cellsOf, tableIn, loaded}
+use Rattle.table_format.specs.Loaded.{cellsOf, countsIn, arcsAt, tableIn, loaded}
 use Rattle.table_format.specs.Line.{linesOf, lineText}
-use Rattle.table_format.specs.Text.{headerBytes, classBytes, initialBytes, terminalBytes, arcBytes, endBytes, classLines, linesBefore, joinLines, textOf}
-use Rattle.table_format.specs.Parse.{classFrom, lettersFrom, opening, within, bytesFaults, accepted, turnedDown, parsed}
+use Rattle.table_format.specs.Text.{headerBytes, classBytes, initialBytes, terminalBytes, fieldBytes, arcBytes, endBytes, classLines, linesBefore, joinLines, textOf}
+use Rattle.table_format.specs.Parse.{arc, classFrom, lettersFrom, opening, within, due, itemFaults, bytesFaults, accepted, turnedDown, parsed}
 use Rattle.table_format.specs.FirstBad.{FirstBad, LineMissing}
 use Rattle.table_format.proofs.Ruled as rules
 use Rattle.table_format.proofs.Classes as rows
@@ -25,11 +25,13 @@ use Rattle.table_format.proofs.Loaded as cells
 use Rattle.table_format.proofs.Text as parts
 use Rattle.table_format.proofs.ClassLines as lines
 use Rattle.table_format.proofs.ClassFaults as class
+use Rattle.table_format.proofs.Penalties as penalties
 use Rattle.table_format.proofs.Determine as texts
 use Rattle.table_format.proofs.FirstBad as faults
 
 -- THE RULES: a table keeps them exactly where it is as "Table and paths" and "Lines of the text" say, fact by fact (`Ruled`): "No two arcs
--- agree in all four fields" is its `arcs-differ`, "An arc with a class carries the same class on both sides" its `class-alike`.
+-- agree in all four fields" is its `arcs-differ`, where penalties do not count, "An arc with a class carries the same class on both sides" its
+-- `class-alike`, "An arc may carry a penalty of 0 to 255" its `penalty-in`.
 pub rules-are : (t : Table) → (keepsRules t ≡ true) ↔ Ruled t
 rules-are = rules.rules-are
 
@@ -128,6 +130,28 @@ pub letter-64 : (states : ℕ) (rows : List (List ℕ)) (before : List Arc) (a :
     → arcFaults states rows before a ≡ ClassFault ∷ (unless (sourceHolds before a) SourceOrder ++ unless (arcIsNew before a) ArcRepeated)
 letter-64 = class.letter-64
 
+-- PENALTIES (document 02, slip 10): "kind `07` is kind `04` with a penalty byte at the end, used exactly when the penalty is not 0",
+pub line-without : (a : Arc) → a .penalty ≡ 0 → arcBytes a ≡ 4 ∷ fieldBytes a
+line-without = penalties.line-without
+
+pub line-with : (a : Arc) → (a .penalty ≡ 0 → ⊥) → arcBytes a ≡ 7 ∷ (fieldBytes a ++ (a .penalty ∷ []))
+line-with = penalties.line-with
+
+-- "(a 0 there gives 2)", as does another length; any other line of that kind is judged as an arc's, where one is due.
+pub penalty-none : (c : Counts) (t : Table) (b : List ℕ) → due c t b ≡ arc → getD b 0 0 ≡ 7 → getD b 7 0 ≡ 0 → bytesFaults (within c t) b ≡ Misplaced ∷ []
+penalty-none = penalties.penalty-none
+
+pub penalty-length : (c : Counts) (t : Table) (b : List ℕ) → due c t b ≡ arc → getD b 0 0 ≡ 7 → (length b ≡ 8 → ⊥) → bytesFaults (within c t) b ≡ Misplaced ∷ []
+penalty-length = penalties.penalty-length
+
+pub penalty-judged : (c : Counts) (t : Table) (b : List ℕ) → due c t b ≡ arc → getD b 0 0 ≡ 7 → length b ≡ 8 → (getD b 7 0 ≡ 0 → ⊥)
+    → bytesFaults (within c t) b ≡ itemFaults arc t b
+penalty-judged = penalties.penalty-judged
+
+-- "Arcs are still compared for equality without it": one that agrees with an arc before it but for the penalty is not new (8).
+pub equal-but-penalty : (before : List Arc) (a : Arc) (k : ℕ) → k < length before → withoutPenalty (getD before k noArc) ≡ withoutPenalty a → arcIsNew before a ≡ false
+equal-but-penalty = penalties.equal-but-penalty
+
 -- CELLS AND TABLE determine each other: cells hold a table exactly where it keeps the rules and they begin with its cells. "In a loaded table
 -- such faults give 20": cells whose classes break the rules hold none.
 pub loads : (c : List ℕ) (t : Table) → (loaded c ≡ some t) ↔ ((keepsRules t ≡ true) × (c ≡ cellsOf t ++ drop (length (cellsOf t)) c))
@@ -137,3 +161,7 @@ loads = cells.loads
 pub class-cells : (c : List ℕ) (k : ℕ) → k < 8 → getD (tableIn c .classes) k [] ≡ take 16 (drop (4 + 16 * k) c)
 unfolding tableIn
 class-cells c k h = rows.row-at 8 (drop 4 c) k h ∙ ap (take 16) (drop-drop (16 * k) 4 c)
+
+-- The penalty of arc k is the last of its five cells.
+pub penalty-cell : (c : List ℕ) (k : ℕ) → k < getD c 3 0 → getD (tableIn c .arcs) k noArc .penalty ≡ getD c (arcsAt (countsIn c) + (5 * k + 4)) 0
+penalty-cell = penalties.penalty-cell

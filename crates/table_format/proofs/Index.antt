@@ -1,13 +1,13 @@
 -- Laws of the first-arc index: arcs are counted by source, and the counts added up.
 use Prim.Native.Nat.{ℕ, zero, suc, _+_, _-_, _<_, _≤_}
 use native.Mathlib.Omega.{arith}
-use mathlib.Core.Path.{_≡_, refl, sym, ap, _∙_}
+use mathlib.Core.Path.{_≡_, refl, sym, ap, subst, _∙_}
 use mathlib.Core.Bool.{Bool, true, false, cond}
 use mathlib.Core.List.{List, [], _∷_, _++_}
 use lib.Dec.{eqb, ltb, leb}
-use lib.ListN.{length, getD, set, length-append, length-replicate, getD-replicate, replicate, List·getD-append, length-set}
-use lib.Seq.{ext-getD, getD-append-add, getD-set-same, getD-set-other}
-use borrow.Author.Tests.{eqb-true, eqb-false, ltb-true, ltb-false, leb-true, leb-false, eq-eqb, ne-eqb}
+use lib.ListN.{length, getD, set, drop, drop-of-length-le, length-append, length-replicate, getD-replicate, replicate, List·getD-append, length-set}
+use lib.Seq.{ext-getD, drop-cons, getD-append-add, getD-set-same, getD-set-other}
+use borrow.Author.Tests.{eqb-true, eqb-false, ltb-true, ltb-false, leb-true, leb-false, ne-eqb}
 use Rattle.table_format.specs.Table.{Arc, noArc}
 use Rattle.table_format.specs.Rules.{arcsKeep}
 use Rattle.table_format.specs.Index.{below, tabulate, firstIndex}
@@ -21,19 +21,6 @@ use Rattle.table_format.proofs.Arcs.{at-equal, getD-arcs, length-arcs}
 abbrev pub ending : List Arc → ℕ → ℕ
 ending [] n = 0
 ending (a ∷ rest) n = cond (eqb (a .source + 1) n) (suc (ending rest n)) (ending rest n)
-
-pub ending-same : (arcs : List Arc) (a : Arc) → ending (arcs ++ (a ∷ [])) (a .source + 1) ≡ ending arcs (a .source + 1) + 1
-ending-same [] a = ap (λ (b : Bool). cond b 1 0) (eq-eqb (a .source + 1) (a .source + 1) refl)
-ending-same (b ∷ rest) a = go (eqb (b .source + 1) (a .source + 1)) (ending-same rest a)
-  where
-    go : (x : Bool) → ending (rest ++ (a ∷ [])) (a .source + 1) ≡ ending rest (a .source + 1) + 1
-        → cond x (suc (ending (rest ++ (a ∷ [])) (a .source + 1))) (ending (rest ++ (a ∷ [])) (a .source + 1)) ≡ cond x (suc (ending rest (a .source + 1))) (ending rest (a .source + 1)) + 1
-    go true e = omega arith
-    go false e = e
-
-pub ending-other : (arcs : List Arc) (a : Arc) (n : ℕ) → (a .source + 1 ≡ n → ⊥) → ending (arcs ++ (a ∷ [])) n ≡ ending arcs n
-ending-other [] a n h = ap (λ (b : Bool). cond b 1 0) (ne-eqb (a .source + 1) n h)
-ending-other (b ∷ rest) a n h = ap (λ (k : ℕ). cond (eqb (b .source + 1) n) (suc k) k) (ending-other rest a n h)
 
 pub ending-few : (arcs : List Arc) (n : ℕ) → ending arcs n ≤ length arcs
 ending-few [] n = omega arith
@@ -125,7 +112,7 @@ pub record Sums (arcs : List Arc) (q : ℕ) (first : List ℕ) : Type 0 where
   pub summed : (n : ℕ) → n ≤ q → getD first n 0 ≡ below n arcs
   pub counted : (n : ℕ) → q < n → n < 257 → getD first n 0 ≡ ending arcs n
 
-pub counts-none : Counts [] (replicate 257 0)
+counts-none : Counts [] (replicate 257 0)
 counts-none = (length-replicate {A = ℕ} 257 0, λ n h. getD-replicate 257 n 0 0 h)
 
 -- an arc that keeps the rules starts at a state
@@ -133,23 +120,37 @@ pub source-inside : (states : ℕ) (rows : List (List ℕ)) (cells : List ℕ) (
 source-inside states rows cells m k h K =
     omega (arith, ap (λ (a : Arc). a .source) (getD-arcs m cells k noArc h), all-at (ArcBounded states) (arcsIn m cells) k noArc (arcs-inside states rows (arcsIn m cells) K) (omega (arith, length-arcs m cells)) .source)
 
--- one arc is counted
-pub counts-more : (arcs : List Arc) (a : Arc) (first : List ℕ) → a .source < 256 → Counts arcs first
-    → Counts (arcs ++ (a ∷ [])) (set first (a .source + 1) (getD first (a .source + 1) 0 + 1))
-counts-more arcs a first h C = (length-set first (a .source + 1) (getD first (a .source + 1) 0 + 1) ∙ C .0, cell)
+-- one arc is counted, before those that are
+counts-more : (arcs : List Arc) (a : Arc) (first : List ℕ) → a .source < 256 → Counts arcs first
+    → Counts (a ∷ arcs) (set first (a .source + 1) (getD first (a .source + 1) 0 + 1))
+counts-more arcs a first h C = (length-set first (a .source + 1) (getD first (a .source + 1) 0 + 1) ∙ C .0, λ n g. cell n g (eqb (a .source + 1) n) refl)
   where
-    cell : (n : ℕ) → n < 257 → getD (set first (a .source + 1) (getD first (a .source + 1) 0 + 1)) n 0 ≡ ending (arcs ++ (a ∷ [])) n
-    cell n g = go (eqb (a .source + 1) n) refl
-      where
-        go : (b : Bool) → eqb (a .source + 1) n ≡ b → getD (set first (a .source + 1) (getD first (a .source + 1) 0 + 1)) n 0 ≡ ending (arcs ++ (a ∷ [])) n
-        go true e =
-            let q : a .source + 1 ≡ n = eqb-true (a .source + 1) n e in
-            at-equal (λ m. getD (set first (a .source + 1) (getD first (a .source + 1) 0 + 1)) m 0) n (a .source + 1) (sym q)
-            ∙ getD-set-same first (a .source + 1) (getD first (a .source + 1) 0 + 1) 0 (omega (arith, C .0))
-            ∙ ap (λ (m : ℕ). m + 1) (C .1 (a .source + 1) (omega arith)) ∙ sym (ending-same arcs a) ∙ at-equal (ending (arcs ++ (a ∷ []))) (a .source + 1) n q
-        go false e =
-            let q : a .source + 1 ≡ n → ⊥ = eqb-false (a .source + 1) n e in
-            getD-set-other first (a .source + 1) n (getD first (a .source + 1) 0 + 1) 0 (λ z. q (sym z)) ∙ C .1 n g ∙ sym (ending-other arcs a n q)
+    cell : (n : ℕ) → n < 257 → (b : Bool) → eqb (a .source + 1) n ≡ b
+        → getD (set first (a .source + 1) (getD first (a .source + 1) 0 + 1)) n 0 ≡ cond b (suc (ending arcs n)) (ending arcs n)
+    cell n g true e =
+        let q : a .source + 1 ≡ n = eqb-true (a .source + 1) n e in
+        at-equal (λ m. getD (set first (a .source + 1) (getD first (a .source + 1) 0 + 1)) m 0) n (a .source + 1) (sym q)
+        ∙ getD-set-same first (a .source + 1) (getD first (a .source + 1) 0 + 1) 0 (omega (arith, C .0))
+        ∙ omega (arith, C .1 n g, at-equal (λ m. getD first m 0) (a .source + 1) n q)
+    cell n g false e =
+        getD-set-other first (a .source + 1) n (getD first (a .source + 1) 0 + 1) 0 (λ z. eqb-false (a .source + 1) n e (sym z)) ∙ C .1 n g
+
+-- from the last of m arcs back
+module _ (cells : List ℕ) (m : ℕ) where
+  pub counts-last : Counts (drop m (arcsIn m cells)) (replicate 257 0)
+  counts-last = subst (λ (arcs : List Arc). Counts arcs (replicate 257 0)) (sym (drop-of-length-le (arcsIn m cells) {i = m} (omega (arith, length-arcs m cells)))) counts-none
+
+  pub counts-back : (n : ℕ) (first : List ℕ) → 0 < n → n ≤ m → arcOf cells (n - 1) .source < 256 → Counts (drop n (arcsIn m cells)) first
+      → Counts (drop (n - 1) (arcsIn m cells)) (set first (arcOf cells (n - 1) .source + 1) (getD first (arcOf cells (n - 1) .source + 1) 0 + 1))
+  counts-back n first h g k C =
+      subst (λ (arcs : List Arc). Counts arcs (set first (arcOf cells (n - 1) .source + 1) (getD first (arcOf cells (n - 1) .source + 1) 0 + 1))) (sym one-more)
+      (counts-more (drop n (arcsIn m cells)) (arcOf cells (n - 1)) first k C)
+    where
+      one-more : drop (n - 1) (arcsIn m cells) ≡ arcOf cells (n - 1) ∷ drop n (arcsIn m cells)
+      one-more =
+          drop-cons (arcsIn m cells) (n - 1) noArc (omega (arith, length-arcs m cells))
+          ∙ ap (λ (a : Arc). a ∷ drop (suc (n - 1)) (arcsIn m cells)) (getD-arcs m cells (n - 1) noArc (omega arith))
+          ∙ at-equal (λ k. arcOf cells (n - 1) ∷ drop k (arcsIn m cells)) (suc (n - 1)) n (omega arith)
 
 -- nothing is added up yet
 pub sums-none : (arcs : List Arc) (first : List ℕ) → Counts arcs first → Sums arcs 0 first

@@ -19,4 +19,5 @@ pub mod Lowest
 pub mod FirstBad
 pub mod Determine
 pub mod Stores
+pub mod Penalties
 pub mod Headlines

@@ -48,11 +48,16 @@ four (a ∷ b ∷ []) h = absurd (omega arith)
 four (a ∷ b ∷ c ∷ []) h = absurd (omega arith)
 four (a ∷ b ∷ c ∷ d ∷ cells) h = refl
 
+-- and five
+five : (cells : List ℕ) → 5 ≤ length cells → getD cells 0 0 ∷ getD cells 1 0 ∷ getD cells 2 0 ∷ getD cells 3 0 ∷ getD cells 4 0 ∷ [] ≡ take 5 cells
+five [] h = absurd (omega arith)
+five (a ∷ cells) h = ap (λ (l : List ℕ). a ∷ l) (four cells (omega arith))
+
 arcs-of : (n : ℕ) (cells : List ℕ) → arcWidth * n ≤ length cells → arcsCells (arcsIn n cells) ≡ take (arcWidth * n) cells
 unfolding arcsIn arcsCells
 arcs-of zero cells h = refl
 arcs-of (suc n) cells h =
-    ap₂ (λ (x y : List ℕ). x ++ y) (four cells (omega arith)) (arcs-of n (drop arcWidth cells) (simp length-drop (omega arith)))
+    ap₂ (λ (x y : List ℕ). x ++ y) (five cells (omega arith)) (arcs-of n (drop arcWidth cells) (simp length-drop (omega arith)))
     ∙ sym (take-add arcWidth (arcWidth * n) cells)
     ∙ ap (λ (k : ℕ). take k cells) step
   where

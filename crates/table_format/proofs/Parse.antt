@@ -18,7 +18,7 @@ use Rattle.table_format.proofs.All.{All}
 use Rattle.table_format.proofs.Tests.{empty-nil}
 use Rattle.table_format.proofs.Rules.{clear-last, header-clear, class-clear, initialPasses, terminalPasses, arcPasses}
 use Rattle.table_format.proofs.Line.{IsByte, Bytes, lineWith, bytes-chars, line-well, line-bytes}
-use Rattle.table_format.proofs.Text.{number-value, arc-says, initial-only, terminal-only, arc-only}
+use Rattle.table_format.proofs.Text.{number-value, arc-says, arc-is, initial-only, terminal-only, arc-only}
 
 -- An accepted line earns no refusal, and the lines after it are accepted.
 
@@ -235,7 +235,7 @@ module _ (c : Counts) (s : ℕ) (rows : List (List ℕ)) where
           is-due = λ rs b n h. due-arc c (tableWith s rows is ts rs) b n all full h;
           adds = λ rs b. refl;
           judges = λ rs b. judges-arc (tableWith s rows is ts rs) b;
-          is-kind = λ x. refl;
+          is-kind = arc-is;
           says = arc-says;
           only = arc-only;
         }

@@ -2,37 +2,37 @@
 use Prim.Native.Nat.{ℕ, zero, suc, _≤_, _<_}
 use native.Mathlib.Omega.{arith}
 use mathlib.Core.Path.{_≡_, refl, sym, ap, _∙_}
-use mathlib.Core.Bool.{Bool, true, false, not, _&&_}
+use mathlib.Core.Bool.{Bool, true, false, not}
 use mathlib.Core.Logic.{_↔_}
 use mathlib.Core.List.{List, [], _∷_, _++_, List·Memᴰ}
 use lib.ListN.{length, getD, take}
 use lib.Seq.{getD-take, length-take-le}
 use lib.Dec.{eqb, leb, ltb}
 use borrow.Author.Tests.{leb-true, ltb-true, ltb-false, eqb-true, le-leb, lt-ltb, eq-eqb, not-true}
-use Rattle.table_format.specs.Table.{Arc, Table, countsOf}
-use Rattle.table_format.specs.Rules.{any, lastIs, each, countsHold, stateHolds, letterHolds, arcClassHolds, initialIsNew, terminalRises, sourceHolds, sameArc, arcIsNew, keepsRules}
-pub use Rattle.table_format.specs.Ruled.{Differ, Rise, AtLeast, ClassRow, Ruled}
+use Rattle.table_format.specs.Table.{Arc, Table, noArc, withoutPenalty, countsOf}
+use Rattle.table_format.specs.Rules.{any, lastIs, each, countsHold, stateHolds, arcClassHolds, initialIsNew, terminalRises, sourceHolds, sameArc, penaltyHolds, penaltiesKeep, keepsRules}
+pub use Rattle.table_format.specs.Ruled.{DifferBy, Differ, Rise, AtLeast, ClassRow, Ruled}
 use Rattle.table_format.proofs.Tests.{and-left, and-right, and-both, and-four}
 use Rattle.table_format.proofs.All.{all-mem, all-each, at-mem}
 use Rattle.table_format.proofs.Each.{any-none, any-some, last-snoc, last-take, each-at, each-last, each-from, each-weaken}
 use Rattle.table_format.specs.Classes.{isPlain}
 use Rattle.table_format.proofs.Classes.{classes-are, plain-holds, class-holds}
-use Rattle.table_format.proofs.Rules.{initialPasses, terminalPasses, arcPasses, initial-clear, terminal-clear, ArcKeeps, arc-parts, Keeps, keeps-parts, Bounded, table-bounded, ArcBounded, initials-below, terminals-below, arcs-bounded, arcs-rise}
+use Rattle.table_format.proofs.Rules.{initialPasses, terminalPasses, arcPasses, initial-clear, terminal-clear, arc-parts, Keeps, keeps-parts, Bounded, table-bounded, ArcBounded, initials-below, terminals-below, arcs-bounded, penalties-bounded, arcs-rise}
 
 -- Elements that are none of those before them differ, and the other way round.
 
-module _ {A : Type 0} (same : A → A → Bool) where
-  module _ (test : List A → A → Bool) (same-refl : (x : A) → same x x ≡ true) (new : (before : List A) (x : A) → test before x ≡ true → any (λ y. same y x) before ≡ false) where
-    apart : (xs : List A) → each test [] xs ≡ true → (d : A) (i j : ℕ) → i < j → j < length xs → getD xs i d ≡ getD xs j d → ⊥
+module _ {A B : Type 0} (f : A → B) (same : A → A → Bool) where
+  module _ (test : List A → A → Bool) (same-by : (x y : A) → f x ≡ f y → same x y ≡ true) (new : (before : List A) (x : A) → test before x ≡ true → any (λ y. same y x) before ≡ false) where
+    apart : (xs : List A) → each test [] xs ≡ true → (d : A) (i j : ℕ) → i < j → j < length xs → f (getD xs i d) ≡ f (getD xs j d) → ⊥
     apart xs e d i j h k s =
         let p : any (λ y. same y (getD xs j d)) (take j xs) ≡ false = new (take j xs) (getD xs j d) (each-at test d xs e j k) in
         let q : any (λ y. same y (getD xs j d)) (take j xs) ≡ true =
         any-some (λ y. same y (getD xs j d)) d (take j xs) i (omega (arith, length-take-le j xs (omega arith)))
-        (ap (λ (x : A). same x (getD xs j d)) (getD-take j xs i d h ∙ s) ∙ same-refl (getD xs j d)) in
+        (same-by (getD (take j xs) i d) (getD xs j d) (ap f (getD-take j xs i d h) ∙ s)) in
         let z : _≡_ {A = ℕ} 0 1 = cc in
         omega arith
 
-    pub each-differ : (xs : List A) → each test [] xs ≡ true → Differ xs
+    pub each-differ : (xs : List A) → each test [] xs ≡ true → DifferBy f xs
     each-differ xs e d i j h k s = go (ltb i j) (ltb j i) refl refl
       where
         go : (a b : Bool) → ltb i j ≡ a → ltb j i ≡ b → i ≡ j
@@ -40,14 +40,14 @@ module _ {A : Type 0} (same : A → A → Bool) where
         go false true p q = absurd (apart xs e d j i (ltb-true _ _ q) h (sym s))
         go false false p q = omega (arith, ltb-false i j p, ltb-false j i q)
 
-  pub differ-new : ((x y : A) → same x y ≡ true → x ≡ y) → (xs : List A) → Differ xs → (d : A) (k : ℕ) → k < length xs
+  pub differ-new : ((x y : A) → same x y ≡ true → f x ≡ f y) → (xs : List A) → DifferBy f xs → (d : A) (k : ℕ) → k < length xs
       → any (λ y. same y (getD xs k d)) (take k xs) ≡ false
   differ-new law xs D d k h = any-none (λ y. same y (getD xs k d)) d (take k xs) (λ j g. go j g (same (getD (take k xs) j d) (getD xs k d)) refl)
     where
       go : (j : ℕ) → j < length (take k xs) → (b : Bool) → same (getD (take k xs) j d) (getD xs k d) ≡ b → b ≡ false
       go j g true e =
           let below : j < k = omega (arith, length-take-le k xs (omega arith)) in
-          let one : j ≡ k = D d j k (omega arith) h (sym (getD-take k xs j d below) ∙ law _ _ e) in
+          let one : j ≡ k = D d j k (omega arith) h (ap f (sym (getD-take k xs j d below)) ∙ law _ _ e) in
           absurd (omega arith)
       go j g false e = refl
 
@@ -71,8 +71,11 @@ class-kept t e =
     all-mem (λ a. arcClassHolds (t .classes) a ≡ true) (t .arcs)
     (all-each _ (arcPasses (t .states) (t .classes)) (λ before a k. arc-parts (t .states) (t .classes) before a .0 k .class-holds) [] (t .arcs) (keeps-parts t .0 e .arcs))
 
-same-arc-refl : (a : Arc) → sameArc a a ≡ true
-same-arc-refl a = rw (eq-eqb (a .source) (a .source) refl, eq-eqb (a .upper) (a .upper) refl, eq-eqb (a .lower) (a .lower) refl, eq-eqb (a .target) (a .target) refl)
+pub same-arc-by : (a b : Arc) → withoutPenalty a ≡ withoutPenalty b → sameArc a b ≡ true
+same-arc-by a b e =
+    and-both (eq-eqb (a .source) (b .source) (ap (λ (x : Arc). x .source) e))
+    (and-both (eq-eqb (a .upper) (b .upper) (ap (λ (x : Arc). x .upper) e))
+    (and-both (eq-eqb (a .lower) (b .lower) (ap (λ (x : Arc). x .lower) e)) (eq-eqb (a .target) (b .target) (ap (λ (x : Arc). x .target) e))))
 
 terminals-up : (states : ℕ) (xs : List ℕ) → each (terminalPasses states) [] xs ≡ true → each terminalRises [] xs ≡ true
 terminals-up states xs e =
@@ -109,8 +112,9 @@ ruled t e =
       class-alike = λ a m p. class-holds (t .classes) a p .0 (class-kept t e a m) .0;
       class-defined = λ a m p. class-holds (t .classes) a p .0 (class-kept t e a m) .1;
       rising = rises 0 [] (t .arcs) (λ a h. omega arith) (arcs-rise (t .states) (t .classes) (t .arcs) (k .arcs));
-      arcs-differ = each-differ sameArc _ same-arc-refl (arc-new (t .states) (t .classes)) (t .arcs) (k .arcs);
-      initials-differ = each-differ eqb _ (λ s. eq-eqb s s refl) (initial-new (t .states)) (t .initials) (k .initials);
+      penalty-in = all-mem (λ a. a .penalty ≤ 255) (t .arcs) (penalties-bounded t e);
+      arcs-differ = each-differ withoutPenalty sameArc _ same-arc-by (arc-new (t .states) (t .classes)) (t .arcs) (k .arcs);
+      initials-differ = each-differ (λ s. s) eqb _ eq-eqb (initial-new (t .states)) (t .initials) (k .initials);
     }
   where
     b : Bounded (countsOf t)
@@ -124,7 +128,7 @@ ruled t e =
 
 -- What is as document 01 says keeps the rules.
 
-same-arc-eq : (a b : Arc) → sameArc a b ≡ true → a ≡ b
+pub same-arc-eq : (a b : Arc) → sameArc a b ≡ true → withoutPenalty a ≡ withoutPenalty b
 same-arc-eq a b e =
     let h = and-four (eqb (a .source) (b .source)) (eqb (a .upper) (b .upper)) (eqb (a .lower) (b .lower)) (eqb (a .target) (b .target)) e in
     λ i.
@@ -133,6 +137,7 @@ same-arc-eq a b e =
       upper = eqb-true (a .upper) (b .upper) (h .1) i;
       lower = eqb-true (a .lower) (b .lower) (h .2) i;
       target = eqb-true (a .target) (b .target) (h .3) i;
+      penalty = 0;
     }
 
 source-next : (d : Arc) (m : ℕ) (xs : List Arc) → AtLeast m xs → (i : ℕ) → suc i < length xs → getD xs i d .source ≤ getD xs (suc i) d .source
@@ -156,7 +161,7 @@ module _ (t : Table) (R : Ruled t) where
       (λ k h.
       let s = getD (t .initials) k 0 in
       initial-clear (t .states) (take k (t .initials)) s
-      ∙ and-both (lt-ltb _ _ (R .initial-in s (at-mem (t .initials) k 0 h))) (ap not (differ-new eqb eqb-true (t .initials) (R .initials-differ) 0 k h)))
+      ∙ and-both (lt-ltb _ _ (R .initial-in s (at-mem (t .initials) k 0 h))) (ap not (differ-new (λ s. s) eqb eqb-true (t .initials) (R .initials-differ) 0 k h)))
 
   terminals-kept : each (terminalPasses (t .states)) [] (t .terminals) ≡ true
   terminals-kept =
@@ -167,10 +172,6 @@ module _ (t : Table) (R : Ruled t) where
       ∙ and-both (lt-ltb _ _ (R .terminal-in s (at-mem (t .terminals) k 0 h)))
       (last-from ltb 0 (t .terminals) (λ i g. lt-ltb _ _ (R .terminals-rise i g)) k h))
 
-  -- any arc, where none is listed
-  abbrev none : Arc
-  none = record { source = 0; upper = 0; lower = 0; target = 0 }
-
   class-of : (a : Arc) → List·Memᴰ a (t .arcs) → arcClassHolds (t .classes) a ≡ true
   class-of a m = go (isPlain a) refl
     where
@@ -180,10 +181,10 @@ module _ (t : Table) (R : Ruled t) where
 
   arcs-kept : each (arcPasses (t .states) (t .classes)) [] (t .arcs) ≡ true
   arcs-kept =
-      each-from (arcPasses (t .states) (t .classes)) none (t .arcs)
+      each-from (arcPasses (t .states) (t .classes)) noArc (t .arcs)
       (λ k h.
-      let a = getD (t .arcs) k none in
-      let m = at-mem (t .arcs) k none h in
+      let a = getD (t .arcs) k noArc in
+      let m = at-mem (t .arcs) k noArc h in
       let u : a .upper ≤ 71 = R .upper-in a m in
       let l : a .lower ≤ 71 = R .lower-in a m in
       arc-parts (t .states) (t .classes) (take k (t .arcs)) a .1
@@ -191,12 +192,24 @@ module _ (t : Table) (R : Ruled t) where
         states-hold = and-both (lt-ltb _ _ (R .source-in a m)) (lt-ltb _ _ (R .target-in a m));
         letters-hold = and-both (lt-ltb (a .upper) 72 (omega arith)) (lt-ltb (a .lower) 72 (omega arith));
         class-holds = class-of a m;
-        source-holds = last-from (λ b c. leb (b .source) (c .source)) none (t .arcs) (λ i g. le-leb _ _ (source-next none 0 (t .arcs) (R .rising) i g)) k h;
-        new = ap not (differ-new sameArc same-arc-eq (t .arcs) (R .arcs-differ) none k h);
+        source-holds = last-from (λ b c. leb (b .source) (c .source)) noArc (t .arcs) (λ i g. le-leb _ _ (source-next noArc 0 (t .arcs) (R .rising) i g)) k h;
+        new = ap not (differ-new withoutPenalty sameArc same-arc-eq (t .arcs) (R .arcs-differ) noArc k h);
       }))
 
+  penalties-kept : penaltiesKeep (t .arcs) ≡ true
+  penalties-kept = each-from (λ before a. penaltyHolds a) noArc (t .arcs) (λ k h. le-leb _ _ (R .penalty-in (getD (t .arcs) k noArc) (at-mem (t .arcs) k noArc h)))
+
 pub kept : (t : Table) → Ruled t → keepsRules t ≡ true
-kept t R = keeps-parts t .1 (record { counts = counts-kept t R; classes = classes-are (t .classes) .1 (R .eight-rows, R .row-in); initials = initials-kept t R; terminals = terminals-kept t R; arcs = arcs-kept t R })
+kept t R =
+    keeps-parts t .1
+    (record {
+      counts = counts-kept t R;
+      classes = classes-are (t .classes) .1 (R .eight-rows, R .row-in);
+      initials = initials-kept t R;
+      terminals = terminals-kept t R;
+      arcs = arcs-kept t R;
+      penalties = penalties-kept t R;
+    })
 
 -- Both together.
 pub rules-are : (t : Table) → (keepsRules t ≡ true) ↔ Ruled t

@@ -9,7 +9,7 @@ use borrow.Author.Tests.{leb-true, ltb-true}
 use Rattle.refusal.specs.declared.InputCause.{InputCause}
 use Rattle.refusal.specs.declared.InputCause.the-variants.{CountLimit, ClassFault}
 use Rattle.table_format.specs.Table.{Arc, Table, Counts, countsOf}
-use Rattle.table_format.specs.Rules.{isEmpty, each, countsHold, stateHolds, letterHolds, classHolds, arcClassHolds, initialIsNew, terminalRises, sourceHolds, arcIsNew, unless, headerFaults, classFaults, initialFaults, terminalFaults, arcFaults, classesKeep, arcsKeep, keepsRules}
+use Rattle.table_format.specs.Rules.{isEmpty, each, countsHold, stateHolds, letterHolds, classHolds, arcClassHolds, initialIsNew, terminalRises, sourceHolds, arcIsNew, unless, headerFaults, classFaults, initialFaults, terminalFaults, arcFaults, classesKeep, arcsKeep, penaltyHolds, penaltiesKeep, keepsRules}
 use Rattle.table_format.proofs.All.{All, all-each}
 use Rattle.table_format.proofs.Tests.{and-both}
 use Rattle.table_format.proofs.Each.{each-weaken}
@@ -89,6 +89,7 @@ pub record Keeps (t : Table) : Type 0 where
   pub initials : each (initialPasses (t .states)) [] (t .initials) ≡ true
   pub terminals : each (terminalPasses (t .states)) [] (t .terminals) ≡ true
   pub arcs : each (arcPasses (t .states) (t .classes)) [] (t .arcs) ≡ true
+  pub penalties : penaltiesKeep (t .arcs) ≡ true
 
 pub keeps-parts : (t : Table) → (keepsRules t ≡ true) ↔ Keeps t
 unfolding keepsRules
@@ -100,10 +101,11 @@ keeps-parts t = (to, from)
         let i = and-eq-true-iff _ _ .0 (h .1) in
         let j = and-eq-true-iff _ _ .0 (i .1) in
         let k = and-eq-true-iff _ _ .0 (j .1) in
-        record { counts = sym (header-clear (countsOf t)) ∙ h .0; classes = i .0; initials = j .0; terminals = k .0; arcs = k .1 }
+        let l = and-eq-true-iff _ _ .0 (k .1) in
+        record { counts = sym (header-clear (countsOf t)) ∙ h .0; classes = i .0; initials = j .0; terminals = k .0; arcs = l .0; penalties = l .1 }
 
     from : Keeps t → keepsRules t ≡ true
-    from k = simp (header-clear, k .counts, k .classes, k .initials, k .terminals, k .arcs)
+    from k = simp (header-clear, k .counts, k .classes, k .initials, k .terminals, k .arcs, k .penalties)
 
 -- Bounds.
 
@@ -152,6 +154,10 @@ arcs-inside states rows arcs e = all-each _ (arcPasses states rows) one [] arcs 
         let d : a .lower < 72 = ltb-true _ _ (l .1) in
         record { source = ltb-true _ _ (s .0); target = ltb-true _ _ (s .1); upper = omega arith; lower = omega arith }
 
+-- penalties within their limit
+pub penalties-inside : (arcs : List Arc) → penaltiesKeep arcs ≡ true → All (λ a. a .penalty ≤ 255) arcs
+penalties-inside arcs e = all-each _ (λ before a. penaltyHolds a) (λ before a k. leb-true _ _ k) [] arcs e
+
 -- arcs that keep the rules have sources that rise
 pub arcs-rise : (n : ℕ) (rows : List (List ℕ)) (arcs : List Arc) → arcsKeep n rows arcs ≡ true → each sourceHolds [] arcs ≡ true
 arcs-rise n rows arcs e = each-weaken (arcPasses n rows) sourceHolds (λ before a k. arc-parts n rows before a .0 k .source-holds) [] arcs e
@@ -175,3 +181,6 @@ module _ (t : Table) (keeps : keepsRules t ≡ true) where
 
   pub arcs-bounded : All (ArcBounded (t .states)) (t .arcs)
   arcs-bounded = arcs-inside (t .states) (t .classes) (t .arcs) (parts .arcs)
+
+  pub penalties-bounded : All (λ a. a .penalty ≤ 255) (t .arcs)
+  penalties-bounded = penalties-inside (t .arcs) (parts .penalties)

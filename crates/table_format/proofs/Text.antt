@@ -1,20 +1,25 @@
 -- Numbers of two bytes, the bytes of each kind of line and what they say, and the length of a table's text.
 use Prim.Native.Nat.{ℕ, zero, suc, _+_, _*_, _/_, _%_, _<_, _≤_}
 use native.Mathlib.Omega.{arith}
-use mathlib.Core.Path.{_≡_, refl, sym, ap, ap₂, _∙_}
-use mathlib.Core.Bool.{true, and-eq-true-iff}
+use mathlib.Core.Path.{_≡_, refl, sym, ap, ap₂, subst, _∙_}
+use mathlib.Core.Bool.{Bool, true, false, cond, not, and-eq-true-iff}
+use mathlib.Core.Logic.{_⊎_, inl, inr}
 use mathlib.Core.List.{List, [], _∷_, _++_, map, append-assoc, append-nil}
 use lib.ListN.{length, getD, length-append}
-use borrow.Author.Tests.{eqb-true}
-use Rattle.table_format.specs.Table.{Arc, Table, Counts, countsOf}
+use lib.Dec.{eqb}
+use borrow.Author.Tests.{eqb-true, eq-eqb, le-leb, not-true}
+use Rattle.table_format.specs.Table.{Arc, Table, noArc, Counts, countsOf}
 use Rattle.table_format.specs.Classes.{classCount}
-use Rattle.table_format.specs.Rules.{keepsRules}
+use Rattle.table_format.specs.Rules.{penaltyHolds, penaltiesKeep, keepsRules}
 use Rattle.table_format.specs.Index.{tabulate}
 use Rattle.table_format.specs.Line.{lineText, charactersOf}
-use Rattle.table_format.specs.Text.{number, headerBytes, initialBytes, terminalBytes, arcBytes, endBytes, headerWidth, lineBytes, classLines, linesBefore, itemLines, joinLines, textOf}
-use Rattle.table_format.specs.Parse.{hasForm, headerKind, isHeader, initial, terminal, arc, end, numberAt, countsFrom, arcFrom, codeOf, widthOf, isOf, headerLine, stateLine, arcLine}
-use Rattle.table_format.proofs.All.{All, all-append, all-map, all-getD}
-use Rattle.table_format.proofs.Rules.{keeps-parts, Bounded, ArcBounded, table-bounded, initials-below, terminals-below, arcs-bounded}
+use Rattle.table_format.specs.Text.{number, headerBytes, initialBytes, terminalBytes, fieldBytes, arcBytes, endBytes, headerWidth, lineBytes, classLines, linesBefore, itemLines, joinLines, textOf}
+use Rattle.table_format.specs.Parse.{hasForm, headerKind, isHeader, initial, terminal, arc, end, numberAt, countsFrom, arcFrom, codeOf, widthOf, penaltyKind, penaltyWidth, isPenalised, isOf, headerLine, stateLine}
+use Rattle.table_format.specs.Cells.{arcWith}
+use Rattle.table_format.proofs.Tests.{or-cases}
+use Rattle.table_format.proofs.All.{All, all-append, all-map, all-getD, all-at, all-mem, all-from}
+use Rattle.table_format.proofs.Each.{each-from}
+use Rattle.table_format.proofs.Rules.{keeps-parts, Bounded, ArcBounded, table-bounded, initials-below, terminals-below, arcs-bounded, penalties-bounded}
 use Rattle.table_format.proofs.Classes.{rows-hold}
 use Rattle.table_format.proofs.Line.{IsByte, Bytes, length-chars}
 use Rattle.table_format.proofs.ClassLines.{RowKeeps, few-lines, class-lines-bytes, class-lines-size}
@@ -62,7 +67,14 @@ header-says c =
     }
 
 pub arc-says : (a : Arc) → arcFrom (arcBytes a) ≡ a
-arc-says a = λ i. record { source = number-value (a .source) i; upper = a .upper; lower = a .lower; target = number-value (a .target) i }
+arc-says a = go (eqb (a .penalty) 0) refl
+  where
+    says : (p : ℕ) → p ≡ a .penalty → arcWith (numberAt (0 ∷ number (a .source)) 1) (a .upper) (a .lower) (numberAt (0 ∷ number (a .target)) 1) p ≡ a
+    says p e = λ i. record { source = number-value (a .source) i; upper = a .upper; lower = a .lower; target = number-value (a .target) i; penalty = e i }
+
+    go : (b : Bool) → eqb (a .penalty) 0 ≡ b → arcFrom (cond b (codeOf arc ∷ fieldBytes a) (penaltyKind ∷ (fieldBytes a ++ (a .penalty ∷ [])))) ≡ a
+    go true e = says 0 (sym (eqb-true (a .penalty) 0 e))
+    go false e = says (a .penalty) refl
 
 module _ (b : List ℕ) (small : All IsByte b) where
   number-here : (i : ℕ) → number (numberAt b i) ≡ getD b i 0 ∷ getD b (i + 1) 0 ∷ []
@@ -73,10 +85,30 @@ module _ (b : List ℕ) (small : All IsByte b) where
       let p = form-parts headerKind headerWidth b e in
       p .1 ∙ sym (λ i. sym (p .0) i ∷ (number-here 1 i ++ (number-here 3 i ++ (number-here 5 i ++ number-here 7 i))))
 
+  -- the bytes of an arc line, by whether it has a penalty
+  arc-by : (c : Bool) → eqb (arcFrom b .penalty) 0 ≡ c
+      → arcBytes (arcFrom b) ≡ cond c (codeOf arc ∷ fieldBytes (arcFrom b)) (penaltyKind ∷ (fieldBytes (arcFrom b) ++ (arcFrom b .penalty ∷ [])))
+  arc-by c e = ap (λ (x : Bool). cond x (codeOf arc ∷ fieldBytes (arcFrom b)) (penaltyKind ∷ (fieldBytes (arcFrom b) ++ (arcFrom b .penalty ∷ [])))) e
+
   pub arc-only : isOf arc b ≡ true → b ≡ arcBytes (arcFrom b)
-  arc-only e =
-      let p = form-parts (codeOf arc) (widthOf arc) b e in
-      p .1 ∙ sym (λ i. sym (p .0) i ∷ (number-here 1 i ++ (getD b 3 0 ∷ getD b 4 0 ∷ number-here 5 i)))
+  arc-only e = go (or-cases (hasForm (codeOf arc) (widthOf arc) b) (isPenalised b) e)
+    where
+      plain : hasForm (codeOf arc) (widthOf arc) b ≡ true → b ≡ arcBytes (arcFrom b)
+      plain h =
+          let p = form-parts (codeOf arc) (widthOf arc) b h in
+          p .1 ∙ sym (λ i. sym (p .0) i ∷ (number-here 1 i ++ (getD b 3 0 ∷ getD b 4 0 ∷ number-here 5 i)))
+          ∙ sym (arc-by true (eq-eqb (getD b 7 0) 0 (ap (λ (l : List ℕ). getD l 7 0) (p .1))))
+
+      penalised : isPenalised b ≡ true → b ≡ arcBytes (arcFrom b)
+      penalised h =
+          let k = and-eq-true-iff (hasForm penaltyKind penaltyWidth b) (not (eqb (arcFrom b .penalty) 0)) .0 h in
+          let p = form-parts penaltyKind penaltyWidth b (k .0) in
+          p .1 ∙ sym (λ i. sym (p .0) i ∷ (number-here 1 i ++ (getD b 3 0 ∷ getD b 4 0 ∷ number-here 5 i) ++ (getD b 7 0 ∷ [])))
+          ∙ sym (arc-by false (not-true (eqb (arcFrom b .penalty) 0) (k .1)))
+
+      go : (hasForm (codeOf arc) (widthOf arc) b ≡ true) ⊎ (isPenalised b ≡ true) → b ≡ arcBytes (arcFrom b)
+      go (inl h) = plain h
+      go (inr h) = penalised h
 
   -- a line of one number
   short-only : (code : ℕ) → hasForm code (widthOf initial) b ≡ true → b ≡ code ∷ number (numberAt b 1)
@@ -90,6 +122,24 @@ module _ (b : List ℕ) (small : All IsByte b) where
 
   pub end-only : isOf end b ≡ true → b ≡ endBytes (numberAt b 1)
   end-only = short-only (codeOf end)
+
+-- arcs whose lines say bytes have penalties within their limit
+pub bytes-penalties : (arcs : List Arc) (rest : List (List ℕ)) → All (All IsByte) (map arcBytes arcs ++ rest) → penaltiesKeep arcs ≡ true
+bytes-penalties arcs rest small =
+    each-from (λ before a. penaltyHolds a) noArc arcs
+    (λ k h. let p : getD arcs k noArc .penalty < 256 = all-at (λ (a : Arc). a .penalty < 256) arcs k noArc (go arcs small) h in le-leb (getD arcs k noArc .penalty) 255 (omega arith))
+  where
+    go : (bs : List Arc) → All (All IsByte) (map arcBytes bs ++ rest) → All (λ a. a .penalty < 256) bs
+    go [] h = tt
+    go (a ∷ bs) h = (subst (λ (b : Arc). b .penalty < 256) (arc-says a) (all-getD IsByte (arcBytes a) 7 0 (omega arith) (h .0)), go bs (h .1))
+
+-- a line of an arc is one
+pub arc-is : (a : Arc) → isOf arc (arcBytes a) ≡ true
+arc-is a = go (eqb (a .penalty) 0) refl
+  where
+    go : (b : Bool) → eqb (a .penalty) 0 ≡ b → isOf arc (cond b (codeOf arc ∷ fieldBytes a) (penaltyKind ∷ (fieldBytes a ++ (a .penalty ∷ [])))) ≡ true
+    go true e = refl
+    go false e = ap not e
 
 -- The lines of a table that keeps the rules say bytes.
 
@@ -113,7 +163,15 @@ module _ (t : Table) (keeps : keepsRules t ≡ true) where
   arcs-bytes : All Bytes (map arcBytes (t .arcs))
   arcs-bytes =
       let b = bounds in
-      all-map (ArcBounded (t .states)) Bytes arcBytes (λ a h. record { some = refl; small = omega arith }) (t .arcs) (arcs-bounded t keeps)
+      all-map (λ (a : Arc). ArcBounded (t .states) a × (a .penalty ≤ 255)) Bytes arcBytes (λ a h. one a (h .0) (h .1)) (t .arcs)
+      (all-from _ (t .arcs) (λ a m. (all-mem (ArcBounded (t .states)) (t .arcs) (arcs-bounded t keeps) a m, all-mem (λ c. c .penalty ≤ 255) (t .arcs) (penalties-bounded t keeps) a m)))
+    where
+      one : (a : Arc) → ArcBounded (t .states) a → a .penalty ≤ 255 → Bytes (arcBytes a)
+      one a h p = go (eqb (a .penalty) 0)
+        where
+          go : (c : Bool) → Bytes (cond c (codeOf arc ∷ fieldBytes a) (penaltyKind ∷ (fieldBytes a ++ (a .penalty ∷ []))))
+          go true = let b = bounds in record { some = refl; small = omega arith }
+          go false = let b = bounds in record { some = refl; small = omega arith }
 
   rows-keep : (length (t .classes) ≡ classCount) × All RowKeeps (t .classes)
   rows-keep = rows-hold (t .classes) .0 (keeps-parts t .0 keeps .classes)
@@ -176,9 +234,8 @@ unfolding joinLines
 length-lines f w law [] = omega arith
 length-lines f w law (x ∷ xs) = simp (length-append, length-chars, law, length-lines f w law xs) (omega arith)
 
-pub length-text : (t : Table) → length (textOf t) ≡ headerLine + length (joinLines (classLines 0 (t .classes))) + stateLine * length (t .initials) + stateLine * length (t .terminals) + arcLine * length (t .arcs) + stateLine
+pub length-text : (t : Table) → length (textOf t) ≡ headerLine + length (joinLines (classLines 0 (t .classes))) + stateLine * length (t .initials) + stateLine * length (t .terminals) + length (joinLines (map arcBytes (t .arcs))) + stateLine
 length-text t =
     let is : length (joinLines (map initialBytes (t .initials))) ≡ stateLine * length (t .initials) = length-lines initialBytes (widthOf initial) (λ s. refl) (t .initials) in
     let ts : length (joinLines (map terminalBytes (t .terminals))) ≡ stateLine * length (t .terminals) = length-lines terminalBytes (widthOf terminal) (λ s. refl) (t .terminals) in
-    let rs : length (joinLines (map arcBytes (t .arcs))) ≡ arcLine * length (t .arcs) = length-lines arcBytes (widthOf arc) (λ a. refl) (t .arcs) in
-    ap length (text-parts t) ∙ simp (length-append, length-chars, is, ts, rs) (omega arith)
+    ap length (text-parts t) ∙ simp (length-append, length-chars, is, ts) (omega arith)

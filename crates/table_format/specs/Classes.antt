@@ -46,4 +46,4 @@ rowOf rows x = getD rows (x - firstClass) []
 
 -- an arc with one letter on both sides
 abbrev pub withLetter : Arc → ℕ → Arc
-withLetter a x = record { source = a .source; upper = x; lower = x; target = a .target }
+withLetter a x = record { source = a .source; upper = x; lower = x; target = a .target; penalty = a .penalty }

@@ -1,5 +1,5 @@
 -- A loaded table: a list of cells that begins with the four counts, the eight rows of the classes, the initial states, the terminal states,
--- and four cells an arc (source, upper letter, lower letter, target). The list may be longer than the table.
+-- and five cells an arc (source, upper letter, lower letter, target, penalty). The list may be longer than the table.
 use Prim.Native.Nat.{ℕ, zero, suc, _+_, _*_}
 use mathlib.Core.Bool.{cond, _&&_}
 use mathlib.Core.Option.{Option, none, some}
@@ -12,7 +12,7 @@ use Rattle.table_format.specs.Rules.{keepsRules}
 
 -- the cells of an arc
 abbrev pub arcWidth : ℕ
-arcWidth = 4
+arcWidth = 5
 
 -- where the classes begin, after the counts
 abbrev pub classesAt : ℕ
@@ -36,7 +36,7 @@ abbrev pub countCells : Counts → List ℕ
 countCells c = c .states ∷ c .initials ∷ c .terminals ∷ c .arcs ∷ []
 
 abbrev pub arcCells : Arc → List ℕ
-arcCells a = a .source ∷ a .upper ∷ a .lower ∷ a .target ∷ []
+arcCells a = a .source ∷ a .upper ∷ a .lower ∷ a .target ∷ a .penalty ∷ []
 
 unfoldable pub arcsCells : List Arc → List ℕ
 arcsCells [] = []
@@ -56,7 +56,7 @@ abbrev pub countsIn : List ℕ → Counts
 countsIn cells = record { states = getD cells 0 0; initials = getD cells 1 0; terminals = getD cells 2 0; arcs = getD cells 3 0 }
 
 abbrev pub arcIn : List ℕ → Arc
-arcIn cells = record { source = getD cells 0 0; upper = getD cells 1 0; lower = getD cells 2 0; target = getD cells 3 0 }
+arcIn cells = record { source = getD cells 0 0; upper = getD cells 1 0; lower = getD cells 2 0; target = getD cells 3 0; penalty = getD cells 4 0 }
 
 unfoldable pub arcsIn : ℕ → List ℕ → List Arc
 arcsIn zero cells = []

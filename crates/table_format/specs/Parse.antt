@@ -1,8 +1,8 @@
 -- Document 01, "Turned down for the input", and document 02's 34: reading a text. Each line earns the refusals of the rules that it breaks,
 -- in the order of Rules; one that breaks 1 or 2 says nothing that the others could judge. The first line that earns any decides. A missing
 -- line counts as standing at the end.
-use Prim.Native.Nat.{ℕ, _+_, _*_}
-use mathlib.Core.Bool.{Bool, cond, _&&_}
+use Prim.Native.Nat.{ℕ, suc, _+_, _*_}
+use mathlib.Core.Bool.{Bool, cond, not, _&&_, _||_}
 use mathlib.Core.List.{List, [], _∷_, _++_}
 use lib.Dec.{eqb, leb, ltb}
 use lib.ListN.{length, getD, drop, set}
@@ -22,8 +22,9 @@ numberAt b i = getD b i 0 * 256 + getD b (i + 1) 0
 abbrev pub countsFrom : List ℕ → Counts
 countsFrom b = record { states = numberAt b 1; initials = numberAt b 3; terminals = numberAt b 5; arcs = numberAt b 7 }
 
+-- the eighth byte is the penalty; a line of kind `04` has none, and no penalty
 abbrev pub arcFrom : List ℕ → Arc
-arcFrom b = record { source = numberAt b 1; upper = getD b 3 0; lower = getD b 4 0; target = numberAt b 5 }
+arcFrom b = record { source = numberAt b 1; upper = getD b 3 0; lower = getD b 4 0; target = numberAt b 5; penalty = getD b 7 0 }
 
 abbrev pub classFrom : List ℕ → ℕ
 classFrom b = getD b 1 0
@@ -46,7 +47,7 @@ headerKind = 1
 abbrev pub isHeader : List ℕ → Bool
 isHeader b = hasForm headerKind headerWidth b
 
--- The kinds of the lines after the header's, each with its first byte and its length.
+-- The kinds of the lines after the header's, each with its first byte and its length; an arc's without a penalty.
 
 pub data LineKind : Type 0 where
   class initial terminal arc end : LineKind
@@ -66,7 +67,7 @@ widthOf terminal = 3
 widthOf arc = 7
 widthOf end = 3
 
--- the characters, with the line feed, of the header line, of the line of a state or the end, and of an arc's
+-- the characters, with the line feed, of the header line, of the line of a state or the end, and of an arc's without a penalty
 
 abbrev pub headerLine : ℕ
 headerLine = charactersOf headerWidth
@@ -77,12 +78,22 @@ stateLine = charactersOf (widthOf initial)
 abbrev pub arcLine : ℕ
 arcLine = charactersOf (widthOf arc)
 
+-- "kind `07` is kind `04` with a penalty byte at the end, used exactly when the penalty is not 0 (a 0 there gives 2)": its first byte and its length
+abbrev pub penaltyKind : ℕ
+penaltyKind = 7
+
+abbrev pub penaltyWidth : ℕ
+penaltyWidth = suc (widthOf arc)
+
+abbrev pub isPenalised : List ℕ → Bool
+isPenalised b = hasForm penaltyKind penaltyWidth b && not (eqb (arcFrom b .penalty) 0)
+
 -- "A class line of other than 3 to 18 bytes gives 2"
 abbrev pub isOf : LineKind → List ℕ → Bool
 isOf class b = eqb (getD b 0 0) (codeOf class) && (leb (widthOf class) (length b) && leb (length b) lineBytes)
 isOf initial b = hasForm (codeOf initial) (widthOf initial) b
 isOf terminal b = hasForm (codeOf terminal) (widthOf terminal) b
-isOf arc b = hasForm (codeOf arc) (widthOf arc) b
+isOf arc b = hasForm (codeOf arc) (widthOf arc) b || isPenalised b
 isOf end b = hasForm (codeOf end) (widthOf end) b
 
 -- How far a text has been read: nothing yet; the header's counts and the items so far; all, with the end line.

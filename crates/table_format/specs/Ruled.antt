@@ -1,16 +1,20 @@
--- What document 01 and slip 6 of document 02 say of a table, as facts on its counts and items. A table keeps the rules of Rules exactly where
+-- What document 01 and slips 6 and 10 of document 02 say of a table, as facts on its counts and items. A table keeps the rules of Rules exactly where
 -- these hold.
 use Prim.Native.Nat.{ℕ, suc, _≤_, _<_}
 use mathlib.Core.Path.{_≡_}
 use mathlib.Core.Bool.{true, false}
 use mathlib.Core.List.{List, [], _∷_, List·Memᴰ}
 use lib.ListN.{length, getD}
-use Rattle.table_format.specs.Table.{Arc, Table}
+use Rattle.table_format.specs.Table.{Arc, Table, withoutPenalty}
 use Rattle.table_format.specs.Classes.{classCount, rowWidth, rowWith, isDefined, isPlain, rowOf}
+
+-- elements of which a function makes the same have one place
+abbrev pub DifferBy : {A B : Type 0} → (A → B) → List A → Type 0
+DifferBy {A} f l = (d : A) (i j : ℕ) → i < length l → j < length l → f (getD l i d) ≡ f (getD l j d) → i ≡ j
 
 -- equal elements have one place
 abbrev pub Differ : {A : Type 0} → List A → Type 0
-Differ {A} l = (d : A) (i j : ℕ) → i < length l → j < length l → getD l i d ≡ getD l j d → i ≡ j
+Differ {A} l = DifferBy (λ (x : A). x) l
 
 -- each number is above the one before it
 abbrev pub Rise : List ℕ → Type 0
@@ -57,5 +61,7 @@ pub record Ruled (t : Table) : Type 0 where
   -- "An arc with a class carries the same class on both sides", "an undefined class or unlike sides give 34"
   pub class-alike : (a : Arc) → List·Memᴰ a (t .arcs) → isPlain a ≡ false → a .upper ≡ a .lower
   pub class-defined : (a : Arc) → List·Memᴰ a (t .arcs) → isPlain a ≡ false → isDefined (rowOf (t .classes) (a .upper)) ≡ true
-  -- "No two arcs agree in all four fields."
-  pub arcs-differ : Differ (t .arcs)
+  -- "An arc may carry a penalty of 0 to 255"
+  pub penalty-in : (a : Arc) → List·Memᴰ a (t .arcs) → a .penalty ≤ 255
+  -- "No two arcs agree in all four fields.", "Arcs are still compared for equality without it"
+  pub arcs-differ : DifferBy withoutPenalty (t .arcs)

@@ -74,7 +74,7 @@ terminalRises before s = lastIs (λ r. ltb r s) before
 abbrev pub sourceHolds : List Arc → Arc → Bool
 sourceHolds before a = lastIs (λ b. leb (b .source) (a .source)) before
 
--- 8: an arc equals none before it
+-- 8: an arc equals none before it; "Arcs are still compared for equality without" their penalties
 abbrev pub sameArc : Arc → Arc → Bool
 sameArc a b = eqb (a .source) (b .source) && (eqb (a .upper) (b .upper) && (eqb (a .lower) (b .lower) && eqb (a .target) (b .target)))
 
@@ -109,7 +109,7 @@ arcFaults states rows before a =
     arcEarns (stateHolds states (a .source) && stateHolds states (a .target)) (letterHolds (a .upper) && letterHolds (a .lower)) (arcClassHolds rows a)
     (sourceHolds before a) (arcIsNew before a)
 
--- A table keeps the rules where its rows hold classes and its counts and other items earn no refusal.
+-- A table keeps the rules where its rows hold classes, its penalties are within their limit and its counts and other items earn no refusal.
 
 -- only 0
 abbrev pub isBlank : List ℕ → Bool
@@ -131,8 +131,15 @@ terminalsKeep states = each (λ before s. isEmpty (terminalFaults states before 
 abbrev pub arcsKeep : ℕ → List (List ℕ) → List Arc → Bool
 arcsKeep states rows = each (λ before a. isEmpty (arcFaults states rows before a)) []
 
+-- "a penalty of 0 to 255": a byte of a text is always one, a cell of a loaded table need not be
+abbrev pub penaltyHolds : Arc → Bool
+penaltyHolds a = leb (a .penalty) 255
+
+abbrev pub penaltiesKeep : List Arc → Bool
+penaltiesKeep = each (λ before a. penaltyHolds a) []
+
 unfoldable pub keepsRules : Table → Bool
 keepsRules t =
     isEmpty (headerFaults (countsOf t))
     && (classesKeep (t .classes)
-    && (initialsKeep (t .states) (t .initials) && (terminalsKeep (t .states) (t .terminals) && arcsKeep (t .states) (t .classes) (t .arcs))))
+    && (initialsKeep (t .states) (t .initials) && (terminalsKeep (t .states) (t .terminals) && (arcsKeep (t .states) (t .classes) (t .arcs) && penaltiesKeep (t .arcs)))))

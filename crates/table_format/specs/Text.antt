@@ -1,8 +1,9 @@
--- Document 01, "Lines of the text", and document 02, slip 6: the text of a table. One item a line; a line's first byte is its kind; numbers of
--- two bytes, high byte first.
+-- Document 01, "Lines of the text", and document 02, slips 6 and 10: the text of a table. One item a line; a line's first byte is its kind;
+-- numbers of two bytes, high byte first.
 use Prim.Native.Nat.{ℕ, suc, _+_, _/_, _%_}
 use mathlib.Core.Bool.{cond}
 use mathlib.Core.List.{List, [], _∷_, _++_, map}
+use lib.Dec.{eqb}
 use lib.ListN.{length}
 use Rattle.table_format.specs.Table.{Arc, Table, Counts, countsOf}
 use Rattle.table_format.specs.Classes.{rowWidth, lettersIn, isDefined}
@@ -26,8 +27,13 @@ initialBytes s = 2 ∷ number s
 abbrev pub terminalBytes : ℕ → List ℕ
 terminalBytes s = 3 ∷ number s
 
+-- the fields of an arc without its penalty
+abbrev pub fieldBytes : Arc → List ℕ
+fieldBytes a = number (a .source) ++ (a .upper ∷ a .lower ∷ number (a .target))
+
+-- "kind `07` is kind `04` with a penalty byte at the end, used exactly when the penalty is not 0"
 abbrev pub arcBytes : Arc → List ℕ
-arcBytes a = 4 ∷ (number (a .source) ++ (a .upper ∷ a .lower ∷ number (a .target)))
+arcBytes a = cond (eqb (a .penalty) 0) (4 ∷ fieldBytes a) (7 ∷ (fieldBytes a ++ (a .penalty ∷ [])))
 
 abbrev pub endBytes : ℕ → List ℕ
 endBytes n = 5 ∷ number n

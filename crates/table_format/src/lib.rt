@@ -4,7 +4,7 @@ ghost use Prim.Native.Nat.{_<_};
 ghost use Rattle.table_format.specs.Cells.{arcCount, arcOf, arcHeld};
 
 // The cells of an arc.
-pub const ARC_WIDTH: usize = 4;
+pub const ARC_WIDTH: usize = 5;
 
 // The letter classes of a table, each a row of letters.
 pub const CLASS_COUNT: usize = 8;
@@ -22,7 +22,7 @@ pub const CLASSES_AT: usize = 4;
 pub const INITIALS_AT: usize = CLASSES_AT + CLASS_COUNT * ROW_WIDTH;
 
 // The most cells of a table: 256 initial states, 256 terminal states, 1,024 arcs.
-pub const MOST_CELLS: usize = 4740;
+pub const MOST_CELLS: usize = 5764;
 
 // The first byte of the header line.
 pub const HEADER_KIND: u8 = 1;
@@ -33,7 +33,7 @@ pub const INITIAL_KIND: u8 = 2;
 // Of a terminal state's line.
 pub const TERMINAL_KIND: u8 = 3;
 
-// Of an arc's line.
+// Of an arc's line, where it has no penalty.
 pub const ARC_KIND: u8 = 4;
 
 // Of the end line.
@@ -41,6 +41,9 @@ pub const END_KIND: u8 = 5;
 
 // Of a class's line.
 pub const CLASS_KIND: u8 = 6;
+
+// Of an arc's line, where it has a penalty.
+pub const PENALTY_KIND: u8 = 7;
 
 // The bytes of the header line.
 pub const HEADER_BYTES: usize = 9;
@@ -54,8 +57,11 @@ pub const CLASS_BYTES: usize = 3;
 // The bytes of the line of a state, and of the end line.
 pub const STATE_BYTES: usize = 3;
 
-// The bytes of an arc's line.
+// The bytes of an arc's line, where it has no penalty.
 pub const ARC_BYTES: usize = 7;
+
+// Where it has one, which is the last byte.
+pub const PENALTY_BYTES: usize = ARC_BYTES + 1;
 
 // The characters of the header line, with its line feed.
 pub const HEADER_LINE: usize = 2 * HEADER_BYTES + 1;
@@ -63,8 +69,14 @@ pub const HEADER_LINE: usize = 2 * HEADER_BYTES + 1;
 // The characters of the line of a state, and of the end line, with its line feed.
 pub const STATE_LINE: usize = 2 * STATE_BYTES + 1;
 
-// The characters of an arc's line, with its line feed.
+// The characters of an arc's line, with its line feed, where it has no penalty.
 pub const ARC_LINE: usize = 2 * ARC_BYTES + 1;
+
+// Where it has one.
+pub const PENALTY_LINE: usize = 2 * PENALTY_BYTES + 1;
+
+// The most that an arc's penalty can be.
+pub const MOST_PENALTY: u16 = 255;
 
 // An arc, out of its cells.
 pub struct Arc {
@@ -72,6 +84,7 @@ pub struct Arc {
     pub upper: u16,
     pub lower: u16,
     pub target: u16,
+    pub penalty: u16,
 }
 
 // The arc of number `n`.
@@ -85,5 +98,6 @@ pub fn arc_at(arcs: &[u16], n: usize) -> Arc
         upper: arcs[at + 1],
         lower: arcs[at + 2],
         target: arcs[at + 3],
+        penalty: arcs[at + 4],
     }
 }

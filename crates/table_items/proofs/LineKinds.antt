@@ -1,9 +1,10 @@
 -- The kinds of the lines after the header's: which one is due, what a line of each adds, and what it earns.
 use Prim.Native.Nat.{ℕ, _+_, _<_, _≤_}
 use native.Mathlib.Omega.{arith}
-use native.Mathlib.Numerals.{add-one, add-two, add-three}
+use native.Mathlib.Numerals.{add-one, add-two, add-three, add-four}
 use mathlib.Core.Path.{_≡_, refl, sym, ap, ap₂, _∙_}
-use mathlib.Core.Bool.{Bool, true, false, cond, _&&_, and-false}
+use mathlib.Core.Logic.{⊎-elim}
+use mathlib.Core.Bool.{Bool, true, false, cond, not, _&&_, _||_, and-false, or-false}
 use mathlib.Core.List.{List, [], _∷_}
 use lib.Dec.{eqb, leb}
 use lib.ListN.{length, getD, set}
@@ -16,9 +17,9 @@ use Rattle.table_format.specs.Table.{Table, Counts}
 use Rattle.table_format.specs.Loaded.{initialsAt, terminalsAt, arcsAt, extent}
 use Rattle.table_format.specs.Text.{lineBytes}
 use Rattle.table_rules.specs.Judge.{judged}
-use Rattle.table_format.specs.Parse.{hasForm, inPlace, LineKind, class, initial, terminal, arc, end, codeOf, widthOf, numberAt, classFrom, lettersFrom, isOf, itemFaults, kindFaults}
+use Rattle.table_format.specs.Parse.{hasForm, inPlace, LineKind, class, initial, terminal, arc, end, codeOf, widthOf, penaltyKind, penaltyWidth, numberAt, classFrom, lettersFrom, isOf, itemFaults, kindFaults}
 use Rattle.table_items.specs.Draft.{takenAsClass, kindAfter, IsItem, placeOf, filledAfter, itemCells, itemKey}
-use Rattle.table_format.proofs.Tests.{and-right, and-both}
+use Rattle.table_format.proofs.Tests.{and-left, and-right, and-both, or-cases}
 use Rattle.table_format.proofs.Parse.{judges-class}
 use Rattle.table_format.proofs.ClassLines.{ClassForm, class-form, ClassKept, class-kept}
 use Rattle.table_rules.proofs.Turn.{kept-empty}
@@ -102,12 +103,33 @@ module _ (b : List ℕ) where
       ∙ ap (λ (x : Bool). eqb (getD b 0 0) (codeOf class) && x) (and-false (leb (widthOf class) (length b)))
       ∙ and-false (eqb (getD b 0 0) (codeOf class))
 
-pub not-first : (k : LineKind) (b : List ℕ) → (getD b 0 0 ≡ codeOf k → ⊥) → isOf k b ≡ false
-not-first class b n = ap (λ (x : Bool). x && (leb (widthOf class) (length b) && leb (length b) lineBytes)) (ne-eqb (getD b 0 0) (codeOf class) n)
-not-first initial b n = not-code (codeOf initial) (widthOf initial) b n
-not-first terminal b n = not-code (codeOf terminal) (widthOf terminal) b n
-not-first arc b n = not-code (codeOf arc) (widthOf arc) b n
-not-first end b n = not-code (codeOf end) (widthOf end) b n
+-- of an arc line, whose first byte and length are two by its penalty
+module _ (b : List ℕ) where
+  pub arc-plain : getD b 0 0 ≡ codeOf arc → isOf arc b ≡ eqb (length b) (widthOf arc)
+  arc-plain e =
+      ap₂ (λ (x y : Bool). (x && eqb (length b) (widthOf arc)) || ((y && eqb (length b) penaltyWidth) && not (eqb (getD b 7 0) 0)))
+      (eq-eqb (getD b 0 0) (codeOf arc) e) (ne-eqb (getD b 0 0) penaltyKind (λ z. omega arith))
+      ∙ or-false (eqb (length b) (widthOf arc))
+
+  module _ (n : getD b 0 0 ≡ codeOf arc → ⊥) where
+    penalised : {x : Bool} → hasForm penaltyKind penaltyWidth b ≡ x → isOf arc b ≡ (x && not (eqb (getD b 7 0) 0))
+    penalised e = ap₂ (λ (x y : Bool). x || (y && not (eqb (getD b 7 0) 0))) (not-code (codeOf arc) (widthOf arc) b n) e
+
+    pub arc-neither : (getD b 0 0 ≡ penaltyKind → ⊥) → isOf arc b ≡ false
+    arc-neither h = penalised (not-code penaltyKind penaltyWidth b h)
+
+    pub arc-unsized : (length b ≡ penaltyWidth → ⊥) → isOf arc b ≡ false
+    arc-unsized h = penalised (not-wide penaltyKind penaltyWidth b h)
+
+    pub arc-penalised : getD b 0 0 ≡ penaltyKind → length b ≡ penaltyWidth → isOf arc b ≡ not (eqb (getD b 7 0) 0)
+    arc-penalised e w = penalised (has-form penaltyKind penaltyWidth b e w)
+
+pub not-first : (k : LineKind) (b : List ℕ) → (codeOf k ≡ codeOf arc → ⊥) → (getD b 0 0 ≡ codeOf k → ⊥) → isOf k b ≡ false
+not-first class b h n = ap (λ (x : Bool). x && (leb (widthOf class) (length b) && leb (length b) lineBytes)) (ne-eqb (getD b 0 0) (codeOf class) n)
+not-first initial b h n = not-code (codeOf initial) (widthOf initial) b n
+not-first terminal b h n = not-code (codeOf terminal) (widthOf terminal) b n
+not-first arc b h n = absurd (h refl)
+not-first end b h n = not-code (codeOf end) (widthOf end) b n
 
 -- the array of a line has room for each of its bytes
 
@@ -118,7 +140,9 @@ pub form-short : (k : LineKind) (b : List ℕ) → isOf k b ≡ true → length 
 form-short class b e = leb-true (length b) lineBytes (and-right (leb (widthOf class) (length b)) _ (and-right (eqb (getD b 0 0) (codeOf class)) _ e))
 form-short initial b e = few (codeOf initial) (widthOf initial) b (omega arith) e
 form-short terminal b e = few (codeOf terminal) (widthOf terminal) b (omega arith) e
-form-short arc b e = few (codeOf arc) (widthOf arc) b (omega arith) e
+form-short arc b e =
+    ⊎-elim (few (codeOf arc) (widthOf arc) b (omega arith)) (λ f. few penaltyKind penaltyWidth b (omega arith) (and-left _ _ f))
+    (or-cases (hasForm (codeOf arc) (widthOf arc) b) _ e)
 form-short end b e = few (codeOf end) (widthOf end) b (omega arith) e
 
 -- Kinds that are none of the others.
@@ -161,8 +185,8 @@ key-none terminal b h g i = omega arith
 key-none arc b h g i = absurd (g refl)
 key-none end b h g i = absurd i
 
-pub put-four : (l : List ℕ) (i x y z w : ℕ) → set (set (set (set l i x) (i + 1) y) (i + 2) z) (i + 3) w ≡ sets l i (x ∷ y ∷ z ∷ w ∷ [])
-put-four l i x y z w = simp (add-one, add-two, add-three)
+pub put-five : (l : List ℕ) (i x y z w v : ℕ) → set (set (set (set (set l i x) (i + 1) y) (i + 2) z) (i + 3) w) (i + 4) v ≡ sets l i (x ∷ y ∷ z ∷ w ∷ v ∷ [])
+put-five l i x y z w v = simp (add-one, add-two, add-three, add-four)
 
 -- What a line earns: misplaced, or what its item earns.
 

@@ -26,7 +26,7 @@ draftCells c t = countCells c ++ (rowsCells (t .classes) ++ (t .initials ++ (t .
 abbrev pub takenAsClass : ℕ → ℕ → Bool
 takenAsClass filled first = eqb filled initialsAt && eqb first (codeOf class)
 
--- the first byte that the next line is to have, by the counts, the cells so far and the first byte that it has
+-- the kind of the next line, as its first byte (of an arc's, the one without a penalty), by the counts, the cells so far and the first byte that it has
 unfoldable pub kindAfter : Counts → ℕ → ℕ → ℕ
 kindAfter c filled first =
     codeOf
@@ -96,7 +96,7 @@ pub record Tracks (c : Counts) (t : Table) (lines filled top : ℕ) (cells : Lis
   pub top-states : largest stateKey (t .initials) ≤ top
   pub top-arcs : largest arcKey (t .arcs) ≤ top
 
--- some table is so tracked, and the line of this first byte is due
+-- some table is so tracked, and a line of this kind is due
 pub record Drafted (lines filled top : ℕ) (cells : List ℕ) (kind : ℕ) : Type 0 where
   pub counts : Counts
   pub table : Table

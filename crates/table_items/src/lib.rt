@@ -10,6 +10,8 @@ use table_format::END_KIND;
 use table_format::INITIAL_KIND;
 use table_format::INITIALS_AT;
 use table_format::LINE_BYTES;
+use table_format::PENALTY_BYTES;
+use table_format::PENALTY_KIND;
 use table_format::ROW_WIDTH;
 use table_format::STATE_BYTES;
 use table_format::TERMINAL_KIND;
@@ -74,13 +76,29 @@ fn class_item(cells: &[u16], bytes: [u8; LINE_BYTES], count: usize) -> Judged
     }
 }
 
+// Whether a line is an arc's, by its first byte and its length: of a kind of its own where it has a penalty, which is then not 0.
+fn is_arc_line(bytes: [u8; LINE_BYTES], count: usize) -> bool
+    ensures { λ r. ⌜ ((b : List ℕ) → bytes ≡ padded b → count ≡ length b → r ≡ isOf arc b) ⌝ }
+{
+    if bytes[0] == ARC_KIND {
+        return count == ARC_BYTES;
+    }
+    if bytes[0] != PENALTY_KIND {
+        return false;
+    }
+    if count != PENALTY_BYTES {
+        return false;
+    }
+    bytes[7] != 0
+}
+
 // What an arc line earns, after the arcs before it.
 fn arc_item(cells: &[u16], bytes: [u8; LINE_BYTES], count: usize, filled: usize, top: u64) -> Judged
     requires { ⌜ ArcsReady (now cells) filled top ⌝ }
-    ensures { λ r. ⌜ ((b : List ℕ) → bytes ≡ padded b → count ≡ length b → getD b 0 0 ≡ codeOf arc
+    ensures { λ r. ⌜ ((b : List ℕ) → bytes ≡ padded b → count ≡ length b
         → r ≡ judged (inPlace (isOf arc b) (arcFaults (getD (now (cells .entry)) 0 0) (classesIn (now (cells .entry))) (arcsHeld (now (cells .entry)) filled) (arcFrom b)))) ⌝ }
 {
-    if count != ARC_BYTES {
+    if !is_arc_line(bytes, count) {
         return Judged::Broken(InputCause::Misplaced);
     }
     let from = INITIALS_AT + widen::cell_as_index(cells[1]) + widen::cell_as_index(cells[2]);
@@ -102,14 +120,14 @@ pub fn item_fault(
     ensures { λ r. ⌜ ((c : Counts) (t : Table) (b : List ℕ) → Tracks c t lines filled top (now (cells .entry)) → kind ≡ codeOf (due c t b)
         → bytes ≡ padded b → count ≡ length b → r ≡ judged (kindFaults (due c t b) t b)) ⌝ }
 {
+    if kind == ARC_KIND {
+        return arc_item(cells, bytes, count, filled, top);
+    }
     if bytes[0] != kind {
         return Judged::Broken(InputCause::Misplaced);
     }
     if kind == CLASS_KIND {
         return class_item(cells, bytes, count);
-    }
-    if kind == ARC_KIND {
-        return arc_item(cells, bytes, count, filled, top);
     }
     if count != STATE_BYTES {
         return Judged::Broken(InputCause::Misplaced);
@@ -162,6 +180,7 @@ pub fn append(cells: &mut [u16], kind: u8, bytes: [u8; LINE_BYTES], filled: usiz
     cells[filled + 1] = arc.upper;
     cells[filled + 2] = arc.lower;
     cells[filled + 3] = arc.target;
+    cells[filled + 4] = arc.penalty;
     filled + ARC_WIDTH
 }
 

@@ -1,11 +1,12 @@
--- Letters joined by `|`: where the joined number means no class, none of them does.
+-- Letters joined by `|`: where the joined number means no class, none of them does. Penalties joined so: the joined number is within their
+-- limit where each of them is.
 use Prim.Native.Nat.{ℕ, _/_, _%_, _<_, _≤_}
 use native.Mathlib.Omega.{arith}
-use mathlib.Core.Path.{_≡_, ap, _∙_}
-use mathlib.Core.Bool.{true}
-use lib.Bits.{bitOr, or-mod, or-shr, or-add-and, and-le-l, and-le-r}
+use mathlib.Core.Path.{_≡_, refl, ap, _∙_}
+use mathlib.Core.Bool.{Bool, true, false, _&&_}
+use lib.Bits.{bitOr, or-mod, or-shr, or-add-and, or-lt, and-le-l, and-le-r}
 use lib.Dec.{leb}
-use borrow.Author.Tests.{leb-true, le-leb, lt-ltb}
+use borrow.Author.Tests.{leb-true, leb-false, le-leb, lt-leb, lt-ltb}
 use Rattle.table_format.specs.Table.{Arc}
 use Rattle.table_format.specs.Classes.{firstClass, isPlain}
 use Rattle.table_format.proofs.Tests.{and-left, and-right, and-both}
@@ -30,3 +31,12 @@ joined-more n a h e =
 
     high : bitOr n (joinedLetters a) / 65536 ≡ bitOr (n / 65536) (a .lower)
     high = or-shr n (joinedLetters a) 16 ∙ ap (bitOr (n / 65536)) {x = joinedLetters a / 65536} {y = a .lower} (omega arith)
+
+-- the penalty of one arc more
+pub penalty-more : (n p : ℕ) → leb (bitOr n p) 255 ≡ (leb n 255 && leb p 255)
+penalty-more n p = go (leb n 255) (leb p 255) refl refl
+  where
+    go : (x y : Bool) → leb n 255 ≡ x → leb p 255 ≡ y → leb (bitOr n p) 255 ≡ (x && y)
+    go true true e f = le-leb (bitOr n p) 255 (omega (arith, or-lt 8 n p (omega (arith, leb-true n 255 e)) (omega (arith, leb-true p 255 f))))
+    go true false e f = lt-leb (bitOr n p) 255 (omega (arith, leb-false p 255 f, or-above n p .1))
+    go false y e f = lt-leb (bitOr n p) 255 (omega (arith, leb-false n 255 e, or-above n p .0))

@@ -2,7 +2,7 @@
 use Prim.Native.Nat.{ℕ, suc, _+_, _-_, _*_, _<_, _≤_}
 use native.Mathlib.Omega.{arith}
 use mathlib.Core.Path.{_≡_, refl, sym, ap, ap₂, _∙_}
-use mathlib.Core.Bool.{Bool, true, false, _&&_, _||_, and-comm, and-eq-true-iff}
+use mathlib.Core.Bool.{Bool, true, false, _&&_, _||_, and-assoc, and-comm, and-eq-true-iff}
 use mathlib.Core.List.{List, [], _∷_, _++_, reverse, reverse-cons, reverse-append, reverse-reverse}
 use lib.Bits.{bitOr}
 use lib.Dec.{leb}
@@ -10,19 +10,20 @@ use lib.ListN.{length}
 use borrow.Author.Tests.{ltb-true, le-leb}
 use Rattle.table_format.specs.Table.{Arc}
 use Rattle.table_format.specs.Classes.{classCount}
-use Rattle.table_format.specs.Rules.{each, arcClassHolds, sourceHolds, sameArc, arcFaults, arcsKeep}
+use Rattle.table_format.specs.Rules.{each, arcClassHolds, sourceHolds, sameArc, arcFaults, arcsKeep, penaltyHolds, penaltiesKeep}
 use Rattle.table_format.specs.Loaded.{arcsIn}
 use Rattle.table_format.specs.Cells.{arcOf}
 use Rattle.table_rules.specs.Judge.{largest, repeated}
 use Rattle.table_order.specs.Order.{joinedLetters, joinedPlain, orderKey, isBelow, keysFall, arcClassesHold, arcsRise}
 use Rattle.table_format.proofs.Tests.{and-both}
 use Rattle.table_format.proofs.Rules.{arcPasses}
+use Rattle.table_format.proofs.Ruled.{same-arc-eq}
 use Rattle.table_format.proofs.Classes.{plain-holds, class-letters}
 use Rattle.table_format.proofs.Arcs.{at-equal, arcs-snoc}
 use Rattle.table_format.proofs.Each.{each-snoc, last-snoc, any-append}
-use Rattle.table_order.proofs.Joined.{joined-more}
+use Rattle.table_order.proofs.Joined.{joined-more, penalty-more}
 use Rattle.table_rules.proofs.Turn.{kept-empty}
-use Rattle.table_rules.proofs.Faults.{new-by-key, same-fields, arc-new}
+use Rattle.table_rules.proofs.Faults.{new-by-key, arc-new}
 
 -- a test of each arc, with the last one apart
 each-back : (test : List Arc → Arc → Bool) (a : Arc) (back : List Arc) → each test [] (reverse (a ∷ back)) ≡ (each test [] (reverse back) && test (reverse back) a)
@@ -52,7 +53,7 @@ module _ (n : ℕ) where
       let f = last-falls bound b back e in
       ap (λ (arcs : List Arc). repeated arcs a) (reverse-cons b back) ∙ any-append (λ b. sameArc b a) (reverse back) (b ∷ [])
       ∙ ap₂ (λ (x y : Bool). x || y) (arc-unseen a (orderKey b) back (omega arith) (f .2))
-      (new-by-key orderKey (λ b. sameArc b a) (orderKey a) (λ b e. ap orderKey (same-fields b a e)) (b ∷ []) (omega arith))
+      (new-by-key orderKey (λ b. sameArc b a) (orderKey a) (λ b e. ap orderKey (same-arc-eq b a e)) (b ∷ []) (omega arith))
 
   module _ (rows : List (List ℕ)) (eight : length rows ≡ classCount) where
     -- the bound shows that the sources are states, and the classes that the letters are in their limit
@@ -70,12 +71,15 @@ module _ (n : ℕ) where
         (arc-new n rows (reverse back) a (omega arith) (r .0) k (c .1) (source-held a back (ltb-true _ _ (l .0)) (ltb-true _ _ (l .1)) (r .2))
         (arc-unseen a (orderKey a) back (omega arith) (r .2))))
 
-pub rising-keep : (n : ℕ) (rows : List (List ℕ)) (arcs : List Arc) → length rows ≡ classCount → arcsRise n rows arcs ≡ true → arcsKeep n rows arcs ≡ true
+pub rising-keep : (n : ℕ) (rows : List (List ℕ)) (arcs : List Arc) → length rows ≡ classCount → arcsRise n rows arcs ≡ true
+    → (arcsKeep n rows arcs && penaltiesKeep arcs) ≡ true
 unfolding arcsRise
 rising-keep n rows arcs eight e =
     let p = and-eq-true-iff _ _ .0 e in
-    sym (ap (arcsKeep n rows) (reverse-reverse arcs))
-    ∙ falling-keep n rows eight (n * 4294967296) (reverse arcs) (omega arith) (p .0) (ap (arcClassesHold rows) (reverse-reverse arcs) ∙ p .1)
+    let q = and-eq-true-iff _ _ .0 (p .1) in
+    and-both
+    (sym (ap (arcsKeep n rows) (reverse-reverse arcs))
+    ∙ falling-keep n rows eight (n * 4294967296) (reverse arcs) (omega arith) (p .0) (ap (arcClassesHold rows) (reverse-reverse arcs) ∙ q .1)) (q .0)
 
 -- One turn of a loop from the last of m arcs back.
 
@@ -91,13 +95,25 @@ module _ (cells : List ℕ) (m : ℕ) (some : 0 < m) where
       ap (λ (arcs : List Arc). keysFall n bound (reverse arcs)) last-arc ∙ ap (keysFall n bound) (reverse-append (arcsIn (m - 1) cells) (arcOf cells (m - 1) ∷ []))
       ∙ ap (λ (x : Bool). x && keysFall n (orderKey (arcOf cells (m - 1))) (reverse (arcsIn (m - 1) cells))) e
 
-  module _ (rows : List (List ℕ)) where
-    pub class-turn : (b : Bool) → arcClassHolds rows (arcOf cells (m - 1)) ≡ b → arcClassesHold rows (arcsIn m cells) ≡ (b && arcClassesHold rows (arcsIn (m - 1) cells))
-    class-turn b e =
-        ap (arcClassesHold rows) last-arc ∙ each-snoc (λ before a. arcClassHolds rows a) (arcsIn (m - 1) cells) (arcOf cells (m - 1))
-        ∙ and-comm (arcClassesHold rows (arcsIn (m - 1) cells)) _ ∙ ap (λ (x : Bool). x && arcClassesHold rows (arcsIn (m - 1) cells)) e
+  -- of a test that looks at each arc alone
+  pub test-turn : (test : Arc → Bool) (b : Bool) → test (arcOf cells (m - 1)) ≡ b
+      → each (λ before a. test a) [] (arcsIn m cells) ≡ (b && each (λ before a. test a) [] (arcsIn (m - 1) cells))
+  test-turn test b e =
+      ap (each (λ before a. test a) []) last-arc ∙ each-snoc (λ before a. test a) (arcsIn (m - 1) cells) (arcOf cells (m - 1))
+      ∙ and-comm (each (λ before a. test a) [] (arcsIn (m - 1) cells)) _ ∙ ap (λ (x : Bool). x && each (λ before a. test a) [] (arcsIn (m - 1) cells)) e
 
-    -- where the letters joined so far mean no class, the classes of all arcs hold if those of the arcs left do
-    pub plain-turn : (joined : ℕ) (all : Bool) → (joinedPlain joined ≡ true → all ≡ arcClassesHold rows (arcsIn m cells)) → arcOf cells (m - 1) .upper < 65536
-        → joinedPlain (bitOr joined (joinedLetters (arcOf cells (m - 1)))) ≡ true → all ≡ arcClassesHold rows (arcsIn (m - 1) cells)
-    plain-turn joined all J h e = let p = joined-more joined (arcOf cells (m - 1)) h e in J (p .0) ∙ class-turn true (plain-holds rows (arcOf cells (m - 1)) (p .1))
+  -- where the letters joined so far mean no class, the classes of all arcs hold if those of the arcs left do
+  pub plain-turn : (rows : List (List ℕ)) (joined : ℕ) (all : Bool) → (joinedPlain joined ≡ true → all ≡ arcClassesHold rows (arcsIn m cells))
+      → arcOf cells (m - 1) .upper < 65536 → joinedPlain (bitOr joined (joinedLetters (arcOf cells (m - 1)))) ≡ true → all ≡ arcClassesHold rows (arcsIn (m - 1) cells)
+  plain-turn rows joined all J h e =
+      let p = joined-more joined (arcOf cells (m - 1)) h e in
+      J (p .0) ∙ test-turn (arcClassHolds rows) true (plain-holds rows (arcOf cells (m - 1)) (p .1))
+
+  -- the penalties are within their limit where those joined so far and those of the arcs left are
+  pub penalty-turn : (joined : ℕ)
+      → (leb joined 255 && penaltiesKeep (arcsIn m cells)) ≡ (leb (bitOr joined (arcOf cells (m - 1) .penalty)) 255 && penaltiesKeep (arcsIn (m - 1) cells))
+  penalty-turn joined =
+      let a = arcOf cells (m - 1) in
+      ap (λ (x : Bool). leb joined 255 && x) (test-turn penaltyHolds (penaltyHolds a) refl)
+      ∙ sym (and-assoc (leb joined 255) (penaltyHolds a) (penaltiesKeep (arcsIn (m - 1) cells)))
+      ∙ ap (λ (x : Bool). x && penaltiesKeep (arcsIn (m - 1) cells)) (sym (penalty-more joined (a .penalty)))

@@ -4,7 +4,7 @@ use mathlib.Core.Bool.{Bool, true, _&&_}
 use mathlib.Core.List.{List, [], _∷_, reverse}
 use lib.Dec.{leb, ltb}
 use Rattle.table_format.specs.Table.{Arc}
-use Rattle.table_format.specs.Rules.{each, stateHolds, arcClassHolds}
+use Rattle.table_format.specs.Rules.{each, stateHolds, arcClassHolds, penaltiesKeep}
 
 -- the letters of an arc as one number; such numbers joined by `|` show whether none of those letters means a class
 abbrev pub joinedLetters : Arc → ℕ
@@ -35,4 +35,4 @@ arcClassesHold rows = each (λ before a. arcClassHolds rows a) []
 
 -- from the last arc back; the first bound shows that all sources are states
 unfoldable pub arcsRise : ℕ → List (List ℕ) → List Arc → Bool
-arcsRise states rows arcs = keysFall states (states * 4294967296) (reverse arcs) && arcClassesHold rows arcs
+arcsRise states rows arcs = keysFall states (states * 4294967296) (reverse arcs) && (penaltiesKeep arcs && arcClassesHold rows arcs)

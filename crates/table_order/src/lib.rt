@@ -1,12 +1,13 @@
 // Lists of a table that stand in order: one look at each item shows that they keep the rules.
 use table_format::ARC_WIDTH;
 use table_format::Arc;
+use table_format::MOST_PENALTY;
 use table_format::arc_at;
 ghost use mathlib.Core.Path.{_≡_};
 ghost use lib.ListN.{length};
 ghost use Rattle.table_format.specs.Classes.{classCount};
 ghost use Rattle.table_format.specs.Loaded.{classCells, rowsIn};
-ghost use Rattle.table_format.specs.Rules.{terminalsKeep};
+ghost use Rattle.table_format.specs.Rules.{terminalsKeep, penaltiesKeep};
 ghost use Rattle.table_format.specs.Cells.{arcSaid, arcsAs};
 ghost use Rattle.table_order.specs.Order.{joinedLetters, joinedPlain, keyBy, isBelow, arcClassesHold, arcsRise};
 
@@ -81,15 +82,31 @@ fn arc_classes_hold(rows: &[u16], cells: &[u16]) -> bool
     true
 }
 
+// Whether each arc's penalty is within its limit.
+pub fn penalties_hold(cells: &[u16]) -> bool
+    ensures { λ r. ⌜ r ≡ penaltiesKeep (arcsAs (now (cells .entry))) ⌝ }
+{
+    let mut n = cells.len() / ARC_WIDTH;
+    while 0 < n {
+        n -= 1;
+        let arc = arc_at(cells, n);
+        if MOST_PENALTY < arc.penalty {
+            return false;
+        }
+    }
+    true
+}
+
 // Whether the arcs stand in order: then they keep the rules, and none has to be looked for among those before it. The keys fall from the last
-// arc back, and the first bound is above the key of each arc from a state; the letters are joined, and the arcs looked at once more only where
-// some letter means a class.
+// arc back, and the first bound is above the key of each arc from a state; letters and penalties are joined, and the arcs looked at once more
+// only where some letter means a class.
 pub fn arcs_rise(rows: &[u16], cells: &[u16], states: u16) -> bool
     requires { ⌜ length (now rows) ≡ classCells ⌝ }
     ensures { λ r. ⌜ r ≡ arcsRise states (rowsIn classCount (now (rows .entry))) (arcsAs (now (cells .entry))) ⌝ }
 {
     let mut bound = states as u64 * 4294967296;
     let mut joined: u32 = 0;
+    let mut penalties: u16 = 0;
     let mut n = cells.len() / ARC_WIDTH;
     while 0 < n {
         n -= 1;
@@ -99,9 +116,13 @@ pub fn arcs_rise(rows: &[u16], cells: &[u16], states: u16) -> bool
         if is_below(states, arc.target, key, bound) {
             bound = key;
             joined = joined | both;
+            penalties = penalties | arc.penalty;
         } else {
             return false;
         }
+    }
+    if MOST_PENALTY < penalties {
+        return false;
     }
     if joined_plain(joined) {
         return true;

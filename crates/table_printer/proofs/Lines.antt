@@ -5,10 +5,10 @@ use native.Mathlib.Numerals.{add-one}
 use mathlib.Core.Path.{_≡_, refl, sym, ap, _∙_}
 use mathlib.Core.Bool.{Bool, true, false}
 use mathlib.Core.List.{List, [], _∷_, _++_, map}
-use lib.Dec.{ltb}
+use lib.Dec.{eqb, ltb}
 use lib.ListN.{length, getD, take, drop, set, length-append, drop-of-length-le, List·getD-eq-default}
 use lib.Seq.{sets, drop-cons, take-suc, take-suc-set}
-use borrow.Author.Tests.{ltb-true, ltb-false}
+use borrow.Author.Tests.{ltb-true, ltb-false, eqb-true, eqb-false}
 use Rattle.hex.specs.declared.Digits.{Digits}
 use Rattle.hex.specs.Hex.{encoded}
 use Rattle.table_format.specs.Table.{Arc, noArc}
@@ -16,10 +16,11 @@ use Rattle.table_format.specs.Classes.{classCount, rowWidth, lettersIn}
 use Rattle.table_format.specs.Loaded.{classCells}
 use Rattle.table_format.specs.Line.{charsOf, lineText, charactersOf}
 use Rattle.table_format.specs.Text.{classBytes, arcBytes, joinLines}
-use Rattle.table_format.specs.Parse.{arcLine}
+use Rattle.table_format.specs.Parse.{arcLine, penaltyWidth}
 use Rattle.table_format.specs.Cells.{arcCount, arcOf, arcsAs}
 use Rattle.table_format.proofs.Arcs.{length-arcs, getD-arcs}
 use Rattle.table_format.proofs.Line.{length-chars}
+use Rattle.table_format.proofs.Penalties.{line-without, line-with}
 use Rattle.table_format.proofs.Stores.{then, byte-stored}
 use Rattle.table_classes.proofs.Letters.{letters-open, rowFrom, linesFrom, row-long, row-cell, lines-defined, lines-undefined, lines-none}
 
@@ -51,6 +52,15 @@ line-stored text m bytes at p =
 pub line-as : (text m b d : List ℕ) (at : ℕ) → b ≡ d → m ≡ sets text at (lineText b) → m ≡ sets text at (lineText d)
 line-as text m b d at e p = p ∙ ap (λ (x : List ℕ). sets text at (lineText x)) e
 
+-- how many characters a line has
+pub length-line : (b : List ℕ) → length (lineText b) ≡ charactersOf (length b)
+length-line b = length-append (charsOf b) (10 ∷ []) ∙ omega (arith, length-chars b)
+
+-- and the place after it
+pub line-told : (text m b d : List ℕ) (at after : ℕ) → b ≡ d → (after ≡ at + charactersOf (length b)) × (m ≡ sets text at (lineText b))
+    → (after ≡ at + length (lineText d)) × (m ≡ sets text at (lineText d))
+line-told text m b d at after e p = (p .0 ∙ ap (λ (x : List ℕ). at + charactersOf (length x)) e ∙ ap (λ (n : ℕ). at + n) (sym (length-line d)), line-as text m b d at e (p .1))
+
 -- A turn of a loop that writes lines: where the first of the lines left is stored, storing the others is storing them all.
 
 turn : (l m : List ℕ) (at to : ℕ) (b : List ℕ) (bs : List (List ℕ)) → m ≡ sets l at (lineText b) → to ≡ at + length (lineText b)
@@ -64,23 +74,65 @@ module _ {A : Type 0} (f : A → List ℕ) (d : A) where
   lines-turn l m at to list k h p e =
       turn l m at to (f (getD list k d)) (map f (drop (k + 1) list)) p e ∙ ap (λ (xs : List A). sets l at (joinLines (map f xs))) (sym (left d list k h))
 
-  -- no line is left
-  pub lines-end : (l : List ℕ) (at : ℕ) (list : List A) (k : ℕ) → length list ≤ k → sets l at (joinLines (map f (drop k list))) ≡ l
+  -- so many characters more
+  pub lines-size : (list : List A) (k : ℕ) → k < length list
+      → length (joinLines (map f (drop k list))) ≡ length (lineText (f (getD list k d))) + length (joinLines (map f (drop (k + 1) list)))
   unfolding joinLines
-  lines-end l at list k h = ap (λ (xs : List A). sets l at (joinLines (map f xs))) (drop-of-length-le list h)
+  lines-size list k h =
+      ap (λ (xs : List A). length (joinLines (map f xs))) (left d list k h)
+      ∙ length-append (lineText (f (getD list k d))) (joinLines (map f (drop (k + 1) list)))
 
--- the line of the arc of number n of cells
-pub arcs-turn : (l m : List ℕ) (at : ℕ) (cells : List ℕ) (n : ℕ) → n < arcCount cells → m ≡ sets l at (lineText (arcBytes (arcOf cells n)))
-    → sets m (at + arcLine) (joinLines (map arcBytes (drop (n + 1) (arcsAs cells)))) ≡ sets l at (joinLines (map arcBytes (drop n (arcsAs cells))))
-unfolding charsOf
-arcs-turn l m at cells n h p =
-    lines-turn arcBytes noArc l m at (at + arcLine) (arcsAs cells) n (omega (arith, length-arcs (arcCount cells) cells)) (p ∙ ap (λ (a : Arc). sets l at (lineText (arcBytes a))) (sym (getD-arcs (arcCount cells) cells n noArc h))) refl
+  -- no line is left
+  pub lines-end : (list : List A) (k : ℕ) → length list ≤ k → joinLines (map f (drop k list)) ≡ []
+  unfolding joinLines
+  lines-end list k h = ap (λ (xs : List A). joinLines (map f xs)) (drop-of-length-le list h)
+
+-- The lines of arcs.
+
+-- how many characters the line of an arc has, by its penalty
+pub plain-size : (a : Arc) → a .penalty ≡ 0 → length (lineText (arcBytes a)) ≡ arcLine
+plain-size a e = length-line (arcBytes a) ∙ ap (λ (b : List ℕ). charactersOf (length b)) (line-without a e)
+
+pub penalised-size : (a : Arc) → (a .penalty ≡ 0 → ⊥) → length (lineText (arcBytes a)) ≡ charactersOf penaltyWidth
+penalised-size a h = length-line (arcBytes a) ∙ ap (λ (b : List ℕ). charactersOf (length b)) (line-with a h)
+
+-- at most so many
+arc-most : (a : Arc) → length (lineText (arcBytes a)) ≤ charactersOf penaltyWidth
+arc-most a = go (eqb (a .penalty) 0) refl
+  where
+    go : (b : Bool) → eqb (a .penalty) 0 ≡ b → length (lineText (arcBytes a)) ≤ charactersOf penaltyWidth
+    go true e = omega (arith, plain-size a (eqb-true (a .penalty) 0 e))
+    go false e = omega (arith, penalised-size a (eqb-false (a .penalty) 0 e))
+
+pub arcs-most : (arcs : List Arc) → length (joinLines (map arcBytes arcs)) ≤ charactersOf penaltyWidth * length arcs
+unfolding joinLines
+arcs-most [] = omega arith
+arcs-most (a ∷ arcs) = omega (arith, length-append (lineText (arcBytes a)) (joinLines (map arcBytes arcs)), arc-most a, arcs-most arcs)
+
+module _ (cells : List ℕ) (n : ℕ) (h : n < arcCount cells) where
+  arc-left : n < length (arcsAs cells)
+  arc-left = omega (arith, length-arcs (arcCount cells) cells)
+
+  arc-there : getD (arcsAs cells) n noArc ≡ arcOf cells n
+  arc-there = getD-arcs (arcCount cells) cells n noArc h
+
+  -- the line of the arc of number n is the first of those left
+  pub arcs-turn : (l m : List ℕ) (at to : ℕ) → m ≡ sets l at (lineText (arcBytes (arcOf cells n))) → to ≡ at + length (lineText (arcBytes (arcOf cells n)))
+      → sets m to (joinLines (map arcBytes (drop (n + 1) (arcsAs cells)))) ≡ sets l at (joinLines (map arcBytes (drop n (arcsAs cells))))
+  arcs-turn l m at to p e =
+      lines-turn arcBytes noArc l m at to (arcsAs cells) n arc-left (p ∙ ap (λ (a : Arc). sets l at (lineText (arcBytes a))) (sym arc-there))
+      (e ∙ ap (λ (a : Arc). at + length (lineText (arcBytes a))) (sym arc-there))
+
+  pub arcs-size : length (joinLines (map arcBytes (drop n (arcsAs cells))))
+      ≡ length (lineText (arcBytes (arcOf cells n))) + length (joinLines (map arcBytes (drop (n + 1) (arcsAs cells))))
+  arcs-size =
+      lines-size arcBytes noArc (arcsAs cells) n arc-left
+      ∙ ap (λ (a : Arc). length (lineText (arcBytes a)) + length (joinLines (map arcBytes (drop (n + 1) (arcsAs cells))))) arc-there
+
+pub arcs-end : (cells : List ℕ) (n : ℕ) → arcCount cells ≤ n → joinLines (map arcBytes (drop n (arcsAs cells))) ≡ []
+arcs-end cells n h = lines-end arcBytes noArc (arcsAs cells) n (omega (arith, length-arcs (arcCount cells) cells))
 
 -- The lines of classes.
-
--- how many characters a line has
-pub length-line : (b : List ℕ) → length (lineText b) ≡ charactersOf (length b)
-length-line b = length-append (charsOf b) (10 ∷ []) ∙ omega (arith, length-chars b)
 
 -- bytes that begin with the kind, the class and the first letters of a row: one letter more, and all of them
 module _ (class : ℕ) (row bytes : List ℕ) (k : ℕ) (front : take (k + 2) bytes ≡ 6 ∷ class ∷ take k row) where

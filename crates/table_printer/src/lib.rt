@@ -1,4 +1,5 @@
 // Bytes written as lines of text: the line of any bytes, each kind of line of a table, and the lines of a list.
+use table_format::ARC_BYTES;
 use table_format::ARC_KIND;
 use table_format::ARC_LINE;
 use table_format::ARC_WIDTH;
@@ -7,6 +8,8 @@ use table_format::CLASS_COUNT;
 use table_format::CLASS_KIND;
 use table_format::HEADER_KIND;
 use table_format::LINE_BYTES;
+use table_format::PENALTY_KIND;
+use table_format::PENALTY_LINE;
 use table_format::ROW_WIDTH;
 use table_format::STATE_LINE;
 use table_format::arc_at;
@@ -19,7 +22,7 @@ ghost use Rattle.table_format.specs.Classes.{classCount, rowWidth};
 ghost use Rattle.table_format.specs.Loaded.{initialsAt, classCells, rowsIn, countsIn};
 ghost use Rattle.table_format.specs.Line.{charsOf, lineText, charactersOf};
 ghost use Rattle.table_format.specs.Text.{number, headerBytes, classBytes, classLines, arcBytes, joinLines};
-ghost use Rattle.table_format.specs.Parse.{headerLine, stateLine, arcLine};
+ghost use Rattle.table_format.specs.Parse.{headerLine, stateLine};
 ghost use Rattle.table_format.specs.Cells.{arcCount, arcSaid, arcsAs};
 
 // The high byte of a number of two bytes.
@@ -97,24 +100,27 @@ pub fn number_line(text: &mut [u8], at: usize, kind: u8, n: u16)
     put_line(text, at, &[kind, high(n), low(n)]);
 }
 
-// An arc's line.
-fn arc_line(text: &mut [u8], at: usize, arc: Arc)
-    requires { ⌜ (at + arcLine ≤ length (now text)) × ((arc .upper < 256) × (arc .lower < 256)) ⌝ }
-    ensures { λ _. ⌜ now (text .exit) ≡ sets (now (text .entry)) at (lineText (arcBytes (arcSaid arc))) ⌝ }
+// An arc's line, and the place after it. Its penalty is the last byte, where it has one.
+fn arc_line(text: &mut [u8], at: usize, arc: Arc) -> usize
+    requires { ⌜ at + length (lineText (arcBytes (arcSaid arc))) ≤ length (now text) ⌝ }
+    requires { ⌜ (arc .upper < 256) × (arc .lower < 256) × (arc .penalty < 256) ⌝ }
+    ensures { λ r. ⌜ (r ≡ at + length (lineText (arcBytes (arcSaid arc)))) × (now (text .exit) ≡ sets (now (text .entry)) at (lineText (arcBytes (arcSaid arc)))) ⌝ }
 {
-    put_line(
-        text,
-        at,
-        &[
-            ARC_KIND,
-            high(arc.source),
-            low(arc.source),
-            arc.upper as u8,
-            arc.lower as u8,
-            high(arc.target),
-            low(arc.target),
-        ],
-    );
+    let mut bytes = [
+        ARC_KIND,
+        high(arc.source),
+        low(arc.source),
+        arc.upper as u8,
+        arc.lower as u8,
+        high(arc.target),
+        low(arc.target),
+        arc.penalty as u8,
+    ];
+    if arc.penalty == 0 {
+        return put_line(text, at, &bytes[..ARC_BYTES]);
+    }
+    bytes[0] = PENALTY_KIND;
+    put_line(text, at, &bytes)
 }
 
 // A class's line, and the place after it.
@@ -187,17 +193,36 @@ pub fn state_lines(text: &mut [u8], at: usize, kind: u8, list: &[u16]) -> usize
 
 // The lines of arcs, and the place after them.
 pub fn arc_lines(text: &mut [u8], at: usize, arcs: &[u16]) -> usize
-    requires { ⌜ at + arcLine * arcCount (now arcs) ≤ length (now text) ⌝ }
+    requires { ⌜ at + length (joinLines (map arcBytes (arcsAs (now arcs)))) ≤ length (now text) ⌝ }
     requires { ⌜ ((i : ℕ) → getD (now arcs) i 0 < 256) ⌝ }
-    ensures { λ r. ⌜ (r ≡ at + arcLine * arcCount (now (arcs .entry))) × (now (text .exit) ≡ sets (now (text .entry)) at (joinLines (map arcBytes (arcsAs (now (arcs .entry)))))) ⌝ }
+    ensures { λ r. ⌜ (r ≡ at + length (joinLines (map arcBytes (arcsAs (now (arcs .entry)))))) × (now (text .exit) ≡ sets (now (text .entry)) at (joinLines (map arcBytes (arcsAs (now (arcs .entry)))))) ⌝ }
 {
     let count = arcs.len() / ARC_WIDTH;
     let mut to = at;
     let mut n = 0;
     while n < count {
-        arc_line(text, to, arc_at(arcs, n));
-        to += ARC_LINE;
+        to = arc_line(text, to, arc_at(arcs, n));
         n += 1;
     }
     to
+}
+
+// How many characters the lines of arcs have.
+pub fn arc_size(arcs: &[u16]) -> usize
+    requires { ⌜ arcCount (now arcs) ≤ 1024 ⌝ }
+    ensures { λ r. ⌜ r ≡ length (joinLines (map arcBytes (arcsAs (now (arcs .entry))))) ⌝ }
+{
+    let count = arcs.len() / ARC_WIDTH;
+    let mut size = 0;
+    let mut n = 0;
+    while n < count {
+        let arc = arc_at(arcs, n);
+        if arc.penalty == 0 {
+            size += ARC_LINE;
+        } else {
+            size += PENALTY_LINE;
+        }
+        n += 1;
+    }
+    size
 }

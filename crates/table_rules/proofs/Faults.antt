@@ -14,7 +14,8 @@ use Rattle.table_format.specs.Rules.{any, lastIs, each, letterHolds, arcClassHo
 use Rattle.table_format.specs.Loaded.{arcsIn}
 use Rattle.table_rules.specs.Judge.{judged, hasState, repeated, largest, stateKey, arcKey, lastSource, SourcesRise}
 use Rattle.table_format.specs.Cells.{arcCount, arcOf, arcsAs}
-use Rattle.table_format.proofs.Tests.{and-four, or-right}
+use Rattle.table_format.proofs.Tests.{or-right}
+use Rattle.table_format.proofs.Ruled.{same-arc-eq}
 use Rattle.table_format.proofs.Each.{any-append, any-none, each-last}
 use Rattle.table_format.proofs.Arcs.{at-equal, length-arcs, getD-arcs, arcs-snoc}
 use Rattle.table_rules.proofs.Sources.{last-source}
@@ -34,18 +35,8 @@ module _ {A : Type 0} (key : A → ℕ) (same : A → Bool) (k : ℕ) (same-key 
 pub new-state : (before : List ℕ) (s top : ℕ) → largest stateKey before ≤ top → top < stateKey s → hasState before s ≡ false
 new-state before s top h g = new-by-key stateKey (λ r. eqb r s) (stateKey s) (λ r e. ap stateKey (eqb-true r s e)) before (omega arith)
 
-pub same-fields : (a b : Arc) → sameArc a b ≡ true → a ≡ b
-same-fields a b e =
-    let f = and-four (eqb (a .source) (b .source)) (eqb (a .upper) (b .upper)) (eqb (a .lower) (b .lower)) (eqb (a .target) (b .target)) e in
-    λ i. record {
-      source = eqb-true (a .source) (b .source) (f .0) i;
-      upper = eqb-true (a .upper) (b .upper) (f .1) i;
-      lower = eqb-true (a .lower) (b .lower) (f .2) i;
-      target = eqb-true (a .target) (b .target) (f .3) i;
-    }
-
 pub new-arc : (before : List Arc) (a : Arc) (top : ℕ) → largest arcKey before ≤ top → top < arcKey a → repeated before a ≡ false
-new-arc before a top h g = new-by-key arcKey (λ b. sameArc b a) (arcKey a) (λ b e. ap arcKey (same-fields b a e)) before (omega arith)
+new-arc before a top h g = new-by-key arcKey (λ b. sameArc b a) (arcKey a) (λ b e. ap arcKey (same-arc-eq b a e)) before (omega arith)
 
 sources-differ : (a b : Arc) → (a .source ≡ b .source → ⊥) → sameArc a b ≡ false
 sources-differ a b n =

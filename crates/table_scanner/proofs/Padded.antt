@@ -43,4 +43,4 @@ module _ (bytes b : List ℕ) (e : bytes ≡ padded b) where
   counts-as = λ i. record { states = number-as 1 (omega arith) i; initials = number-as 3 (omega arith) i; terminals = number-as 5 (omega arith) i; arcs = number-as 7 (omega arith) i }
 
   pub arc-as : arcFrom bytes ≡ arcFrom b
-  arc-as = λ i. record { source = number-as 1 (omega arith) i; upper = byte-at 3 (omega arith) i; lower = byte-at 4 (omega arith) i; target = number-as 5 (omega arith) i }
+  arc-as = λ i. record { source = number-as 1 (omega arith) i; upper = byte-at 3 (omega arith) i; lower = byte-at 4 (omega arith) i; target = number-as 5 (omega arith) i; penalty = byte-at 7 (omega arith) i }

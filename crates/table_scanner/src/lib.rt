@@ -58,7 +58,7 @@ pub fn number_at(bytes: [u8; LINE_BYTES], at: usize) -> u16
     widen::byte_as_cell(bytes[at]) * 256 + widen::byte_as_cell(bytes[at + 1])
 }
 
-// The arc of an arc line.
+// The arc of an arc line. One without a penalty is shorter, and the bytes after it are 0.
 pub fn arc_in(bytes: [u8; LINE_BYTES]) -> Arc
     ensures { λ r. ⌜ r ≡ arcHeld (arcFrom bytes) ⌝ }
 {
@@ -67,5 +67,6 @@ pub fn arc_in(bytes: [u8; LINE_BYTES]) -> Arc
         upper: widen::byte_as_cell(bytes[3]),
         lower: widen::byte_as_cell(bytes[4]),
         target: number_at(bytes, 5),
+        penalty: widen::byte_as_cell(bytes[7]),
     }
 }

@@ -103,7 +103,7 @@ module _ (ws : List Word) (K : Kept ws) (parents letters ends first next : List 
   size : length (cellsOf t) ≡ terminalsBegin + length terminals + arcWidth * length arcs
   size = length-cells t no-classes-keep ∙ ap₂ (λ (u : List ℕ) (v : List Arc). terminalsBegin + length u + arcWidth * length v) terminals-are arcs-are
 
-  pub room : terminalsBegin + length terminals + arcWidth * length arcs ≤ 2428
+  pub room : terminalsBegin + length terminals + arcWidth * length arcs ≤ 2938
   room = omega (arith, size, trie-cells ws K)
 
   -- what the terminal states leave, and what the arcs then may take
@@ -124,7 +124,7 @@ module _ (ws : List Word) (K : Kept ws) (parents letters ends first next : List 
       pub record Sizes : Type 0 where
         pub terminals-at : terminalsBegin ≤ to
         pub arcs-at : to ≤ end
-        pub most : end ≤ 2428
+        pub most : end ≤ 2938
         pub cells-all : length cells″ ≡ mostCells
 
       pub sizes : Sizes

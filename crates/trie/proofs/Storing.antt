@@ -1,7 +1,7 @@
 -- Cells laid out state by state.
 use Prim.Native.Nat.{ℕ, zero, suc, _+_, _-_, _*_, _≤_, _<_}
 use native.Mathlib.Omega.{arith}
-use mathlib.Core.Path.{_≡_, refl, sym, ap, ap₂, subst, _∙_}
+use mathlib.Core.Path.{_≡_, refl, sym, ap, subst, _∙_}
 use mathlib.Core.Bool.{cond}
 use mathlib.Core.List.{List, [], _∷_, _++_, map, append-assoc, append-nil}
 use lib.ListN.{length, getD, set, length-append, length-map}
@@ -65,13 +65,13 @@ when-unmarked mark x y e = rw (ne-eqb mark 1 e)
 
 -- Arcs.
 
-pub arc-stored : (l : List ℕ) (at a b c d : ℕ) → set (set (set (set l at a) (at + 1) b) (at + 2) c) (at + 3) d ≡ sets l at (a ∷ b ∷ c ∷ d ∷ [])
-arc-stored l at a b c d =
+pub arc-stored : (l : List ℕ) (at a b c d v : ℕ) → set (set (set (set (set l at a) (at + 1) b) (at + 2) c) (at + 3) d) (at + 4) v ≡ sets l at (a ∷ b ∷ c ∷ d ∷ v ∷ [])
+arc-stored l at a b c d v =
     let e : at + 1 ≡ suc at = omega arith in
     let f : at + 2 ≡ suc (suc at) = omega arith in
     let g : at + 3 ≡ suc (suc (suc at)) = omega arith in
-    ap (λ (i : ℕ). set (set (set (set l at a) i b) (at + 2) c) (at + 3) d) e
-    ∙ ap₂ (λ (i j : ℕ). set (set (set (set l at a) (suc at) b) i c) j d) f g
+    let h : at + 4 ≡ suc (suc (suc (suc at))) = omega arith in
+    λ i. set (set (set (set (set l at a) (e i) b) (f i) c) (g i) d) (h i) v
 
 cells-append : (xs ys : List Arc) → arcsCells (xs ++ ys) ≡ arcsCells xs ++ arcsCells ys
 unfolding arcsCells

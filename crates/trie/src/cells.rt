@@ -44,6 +44,7 @@ fn put_arc(cells: &mut [u16], at: usize, arc: Arc)
     cells[at + 1] = arc.upper;
     cells[at + 2] = arc.lower;
     cells[at + 3] = arc.target;
+    cells[at + 4] = arc.penalty;
 }
 
 // The arcs from a state to its children, by their letters, and the place after them.
@@ -74,6 +75,7 @@ fn put_children(
                 upper: letter,
                 lower: letter,
                 target: child,
+                penalty: 0,
             },
         );
         to += ARC_WIDTH;
@@ -97,6 +99,7 @@ fn put_cut(cells: &mut [u16], at: usize, state: u16, end: u8) -> usize
                 upper: 0,
                 lower: CUT,
                 target: 0,
+                penalty: 0,
             },
         );
         return at + ARC_WIDTH;

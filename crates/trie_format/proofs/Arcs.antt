@@ -68,13 +68,13 @@ module _ (ws : List Word) (holds : listHolds ws ≡ true) where
       from (inl S) =
           mem-by (arcsOf ws bs) a bs 0 (a .source) (a .source) (omega arith) (S .source-in)
           (Memᴰ·append-left (cond (listed ws (getD bs (a .source) [])) (cutArc (a .source) ∷ []) [])
-          (subst (λ (c : Arc). List·Memᴰ c (letterArcs bs (a .source) (getD bs (a .source) []) 1 62)) (λ i. record { source = a .source; upper = sym (S .same) i; lower = a .lower; target = a .target })
+          (subst (λ (c : Arc). List·Memᴰ c (letterArcs bs (a .source) (getD bs (a .source) []) 1 62)) (λ i. record { source = a .source; upper = sym (S .same) i; lower = a .lower; target = a .target; penalty = sym (S .no-penalty) i })
           (letters-have bs (a .source) (getD bs (a .source) []) (a .lower) (a .target) 62 1 (S .low) (omega (arith, S .high)) (place-here bs D _ (a .target) (S .target-in) (S .step)))))
       from (inr S) =
           mem-by (arcsOf ws bs) a bs 0 (a .source) (a .source) (omega arith) (S .source-in)
           (Memᴰ·append-right (letterArcs bs (a .source) (getD bs (a .source) []) 1 62)
           (subst (λ (x : Bool). List·Memᴰ a (cond x (cutArc (a .source) ∷ []) [])) (sym (mem-listed ws _ (S .word-end)))
-          (List·Memᴰ·head (λ i. record { source = a .source; upper = S .reads-none i; lower = S .writes-cut i; target = S .to-root i }))))
+          (List·Memᴰ·head (λ i. record { source = a .source; upper = S .reads-none i; lower = S .writes-cut i; target = S .to-root i; penalty = S .no-penalty i }))))
 
   pub arcs-only : (l : List Arc) → Ranked rank l → ((a : Arc) → List·Memᴰ a l ↔ TreeArc ws bs a) → l ≡ trieTable ws .arcs
   arcs-only l R h =

@@ -29,8 +29,8 @@ module _ (ws : List Word) (K : Kept ws) where
   pub trie-rules : keepsRules (trieTable ws) ≡ true
   trie-rules = rules.rules ws (beginnings ws) (names ws (K .holds)) (rising-distinct (beginnings ws) (beginnings-rise ws (K .holds))) (K .few)
 
-  -- It has at most 2,428 cells.
-  pub trie-cells : length (cellsOf (trieTable ws)) ≤ 2428
+  -- It has at most 2,938 cells.
+  pub trie-cells : length (cellsOf (trieTable ws)) ≤ 2938
   trie-cells = rules.few-cells ws (beginnings ws) (names ws (K .holds)) (rising-distinct (beginnings ws) (beginnings-rise ws (K .holds))) (K .few)
 
   -- Cells that begin with the table's are loaded as it.

@@ -6,12 +6,12 @@ use mathlib.Core.Logic.{inl, inr, ⊎-elim}
 use mathlib.Core.Bool.{Bool, true, false, cond, true≢false}
 use mathlib.Core.List.{List, [], _∷_, _++_, map, append-nil, List·Memᴰ, List·Memᴰ·not-nil, List·Memᴰ·cases-cons, Memᴰ·of-map}
 use lib.ListN.{length, getD, length-append, length-map}
-use Rattle.table_format.specs.Table.{Arc}
+use Rattle.table_format.specs.Table.{Arc, withoutPenalty}
 use Rattle.table_format.specs.Classes.{isPlain, noClasses}
 use Rattle.table_format.specs.Rules.{keepsRules}
 use Rattle.table_format.specs.Ruled.{AtLeast}
 use Rattle.table_format.specs.Loaded.{cellsOf}
-use Rattle.table_format.proofs.All.{All, all-mem}
+use Rattle.table_format.proofs.All.{All, all-mem, at-mem}
 use Rattle.table_format.proofs.Classes.{classes-are, no-classes-keep}
 use Rattle.table_format.proofs.ClassFaults.{plain-is}
 use Rattle.table_format.proofs.Ruled.{kept}
@@ -79,6 +79,7 @@ module _ (ws bs : List Word) where
           upper = (S .same ∙ P .1 ∙ sym (T .same)) i;
           lower = P .1 i;
           target = e i;
+          penalty = (S .no-penalty ∙ sym (T .no-penalty)) i;
         }
 
     letter-shape : (a : Arc) → List·Memᴰ a (lettersOn 0 bs) → ByLetter bs a
@@ -136,6 +137,13 @@ module _ (ws bs : List Word) where
     plain : (a : Arc) → List·Memᴰ a (tableOn ws bs .arcs) → isPlain a ≡ true
     plain a m = let h = arc-inside a m in plain-is a .1 (omega (arith, h .2), omega (arith, h .3))
 
+    -- nor a penalty
+    no-penalty : (a : Arc) → List·Memᴰ a (tableOn ws bs .arcs) → a .penalty ≡ 0
+    no-penalty a m = ⊎-elim (λ (S : ByLetter bs a). S .no-penalty) (λ S. S .no-penalty) (all-mem (TreeArc ws bs) (tableOn ws bs .arcs) (arcs-shape ws bs) a m)
+
+    bare : (a : Arc) → List·Memᴰ a (tableOn ws bs .arcs) → withoutPenalty a ≡ a
+    bare a m = λ i. record { source = a .source; upper = a .upper; lower = a .lower; target = a .target; penalty = sym (no-penalty a m) i }
+
     pub rules : length bs ≤ 256 → keepsRules (tableOn ws bs) ≡ true
     rules few =
         kept (tableOn ws bs)
@@ -159,13 +167,17 @@ module _ (ws bs : List Word) where
           lower-in = λ a m. omega (arith, arc-inside a m .3);
           class-alike = λ a m e. absurd (true≢false (sym (plain a m) ∙ e));
           class-defined = λ a m e. absurd (true≢false (sym (plain a m) ∙ e));
-          arcs-differ = distinct-differ (tableOn ws bs .arcs) (ranked-distinct rank (tableOn ws bs .arcs) (0, length bs * 64, arcs-between ws bs));
+          penalty-in = λ a m. omega (arith, no-penalty a m);
+          arcs-differ =
+              λ d i j h k e.
+              distinct-differ (tableOn ws bs .arcs) (ranked-distinct rank (tableOn ws bs .arcs) (0, length bs * 64, arcs-between ws bs)) d i j h k
+              (sym (bare _ (at-mem (tableOn ws bs .arcs) i d h)) ∙ e ∙ bare _ (at-mem (tableOn ws bs .arcs) j d k));
         })
       where
         low : (l : List Arc) → All (TreeArc ws bs) l → All (λ a. a .lower ≤ 63) l
         low [] p = tt
         low (a ∷ l) p = (inside a (p .0) .3, low l (p .1))
 
-    -- at most 4 + 128 + 1 + 255 + 4 × 510 cells
-    pub few-cells : length bs ≤ 256 → length (cellsOf (tableOn ws bs)) ≤ 2428
+    -- at most 4 + 128 + 1 + 255 + 5 × 510 cells
+    pub few-cells : length bs ≤ 256 → length (cellsOf (tableOn ws bs)) ≤ 2938
     few-cells few = omega (arith, length-cells (tableOn ws bs) no-classes-keep, few-ends, few-arcs)

@@ -61,7 +61,7 @@ letters-shape bs s h =
     (λ y j l m e.
     let R = place-found bs (getD bs s [] ++ (y ∷ [])) 0 j e in
     let J : R .0 ≡ j = omega (arith, R .1) in
-    record { source-in = h; target-in = omega (arith, R .2); low = l; high = omega arith; same = refl; step = ap (λ (z : ℕ). getD bs z []) (sym J) ∙ R .3 })
+    record { source-in = h; target-in = omega (arith, R .2); low = l; high = omega arith; same = refl; no-penalty = refl; step = ap (λ (z : ℕ). getD bs z []) (sym J) ∙ R .3 })
 
 pub arcs-shape : (ws bs : List Word) → All (TreeArc ws bs) (tableOn ws bs .arcs)
 arcs-shape ws bs = all-by (TreeArc ws bs) (arcsOf ws bs) bs both
@@ -71,7 +71,7 @@ arcs-shape ws bs = all-by (TreeArc ws bs) (arcsOf ws bs) bs both
     all-inl (a ∷ l) p = (inl (p .0), all-inl l (p .1))
 
     cut : (s : ℕ) → s < length bs → (x : Bool) → listed ws (getD bs s []) ≡ x → All (TreeArc ws bs) (cond x (cutArc s ∷ []) [])
-    cut s h true e = (inr (record { source-in = h; word-end = listed-mem ws (getD bs s []) e; reads-none = refl; writes-cut = refl; to-root = refl }), tt)
+    cut s h true e = (inr (record { source-in = h; word-end = listed-mem ws (getD bs s []) e; reads-none = refl; writes-cut = refl; to-root = refl; no-penalty = refl }), tt)
     cut s h false e = tt
 
     both : (s : ℕ) → s < length bs → All (TreeArc ws bs) (arcsOf ws bs s (getD bs s []))

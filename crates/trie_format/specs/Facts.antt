@@ -16,6 +16,7 @@ pub record ByLetter (bs : List Word) (a : Arc) : Type 0 where
   pub low : 1 ≤ a .lower
   pub high : a .lower ≤ 62
   pub same : a .upper ≡ a .lower
+  pub no-penalty : a .penalty ≡ 0
   pub step : getD bs (a .target) [] ≡ getD bs (a .source) [] ++ (a .lower ∷ [])
 
 -- "Every word end has a last arc that reads nothing, writes letter 63 and goes back to the root"
@@ -25,6 +26,7 @@ pub record FromEnd (ws bs : List Word) (a : Arc) : Type 0 where
   pub reads-none : a .upper ≡ 0
   pub writes-cut : a .lower ≡ cutLetter
   pub to-root : a .target ≡ 0
+  pub no-penalty : a .penalty ≡ 0
 
 abbrev pub TreeArc : List Word → List Word → Arc → Type 0
 TreeArc ws bs a = ByLetter bs a ⊎ FromEnd ws bs a

@@ -28,7 +28,7 @@ byState f i (b ∷ bs) = f i b ++ byState f (suc i) bs
 -- an arc that reads and writes x, if there is a state to lead to
 abbrev pub letterArc : ℕ → ℕ → Option ℕ → List Arc
 letterArc i x none = []
-letterArc i x (some j) = record { source = i; upper = x; lower = x; target = j } ∷ []
+letterArc i x (some j) = record { source = i; upper = x; lower = x; target = j; penalty = 0 } ∷ []
 
 -- the arcs of state i, of beginning b, by n letters from x on
 unfoldable pub letterArcs : List Word → ℕ → Word → ℕ → ℕ → List Arc
@@ -37,7 +37,7 @@ letterArcs bs i b x (suc n) = letterArc i x (placeFrom 0 (b ++ (x ∷ [])) bs) +
 
 -- the arc back to the root
 abbrev pub cutArc : ℕ → Arc
-cutArc i = record { source = i; upper = 0; lower = cutLetter; target = 0 }
+cutArc i = record { source = i; upper = 0; lower = cutLetter; target = 0; penalty = 0 }
 
 -- the arcs of state i, of beginning b
 abbrev pub arcsOf : List Word → List Word → ℕ → Word → List Arc

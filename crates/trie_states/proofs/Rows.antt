@@ -94,7 +94,7 @@ module _ (parent letter : ℕ → ℕ) (bs : List Word) (W : Rows parent letter 
           let P : 0 < k = letter-above bs (W .root) a S in
           let Q = snoc-parts (getD bs (parent k) []) (getD bs (a .source) []) (letter k) (a .lower) (sym (W .row k P (S .target-in)) ∙ S .step) in
           let E : parent k ≡ i = distinct-differ bs (rising-distinct bs R) [] (parent k) (a .source) (W .parent-in k P (S .target-in)) (S .source-in) (Q .0) ∙ F in
-          subst (λ (z : Arc). List·Memᴰ z (childArcs 1 (length bs - 1))) (λ x. record { source = sym F x; upper = (Q .1 ∙ sym (S .same)) x; lower = Q .1 x; target = k })
+          subst (λ (z : Arc). List·Memᴰ z (childArcs 1 (length bs - 1))) (λ x. record { source = sym F x; upper = (Q .1 ∙ sym (S .same)) x; lower = Q .1 x; target = k; penalty = sym (S .no-penalty) x })
           (Memᴰ·map (childArc letter i) (child-from parent i (length bs - 1) 1 k (omega arith) (omega (arith, S .target-in)) E))
 
       back : (a : Arc) → List·Memᴰ a (childArcs 1 (length bs - 1)) → List·Memᴰ a (letterArcs bs i (getD bs i []) 1 62)

@@ -60,7 +60,7 @@ children parent i = passing (λ k. eqb (parent k) i)
 
 -- the arc to a child, by its letter
 abbrev pub childArc : (ℕ → ℕ) → ℕ → ℕ → Arc
-childArc letter i j = record { source = i; upper = letter j; lower = letter j; target = j }
+childArc letter i j = record { source = i; upper = letter j; lower = letter j; target = j; penalty = 0 }
 
 -- a list of states in cells: each leads to a later one, the last one to none
 abbrev pub Chain : List ℕ → ℕ → List ℕ → Type 0

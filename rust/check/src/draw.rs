@@ -1,12 +1,14 @@
-//! Random tables, about half of them with classes, and words. Alphabets are small, so that words have many readings. And random lists of
-//! readings with faces for a sheet.
+//! Random tables, about half of them with classes and two thirds with penalties, words and ceilings. Alphabets are small, so that words
+//! have many readings. And random lists of readings with faces for a sheet.
 pub mod classes;
 pub mod lists;
+pub mod penalties;
 
 use crate::query;
 use crate::random::Random;
 use crate::sheet::Faces;
 use crate::table::{Arc, Table};
+use penalties::Share;
 
 /// The letter of ways into a corner, which no other arc has and few words have.
 const WAY_IN: u16 = 4;
@@ -25,6 +27,7 @@ struct Plan {
     classes: usize,
     /// Where there are classes, one arc in so many has one.
     classed: usize,
+    penalties: Option<Share>,
 }
 
 fn plan(random: &mut Random) -> Plan {
@@ -50,6 +53,7 @@ fn plan(random: &mut Random) -> Plan {
             _ => random.within(4, 8),
         },
         classed: random.within(1, 5),
+        penalties: penalties::share(random),
     }
 }
 
@@ -111,10 +115,11 @@ fn ring(states: &[u16]) -> impl Iterator<Item = Arc> {
     states.iter().zip(next).map(|(a, b)| Arc::new(*a, 0, 0, *b))
 }
 
-/// Arcs by rising source, none twice; those of one source in any order, or by their letters.
-fn listed(random: &mut Random, mut arcs: Vec<Arc>) -> Vec<Arc> {
+/// Arcs by rising source, none twice, with penalties; those of one source in any order, or by their letters.
+fn listed(random: &mut Random, plan: Plan, mut arcs: Vec<Arc>) -> Vec<Arc> {
     arcs.sort();
-    arcs.dedup();
+    arcs.dedup_by_key(|arc| arc.bare());
+    penalties::put(random, plan.penalties, &mut arcs);
     if random.one_in(2) {
         reorder(random, &mut arcs);
     }
@@ -162,7 +167,7 @@ fn drawn(random: &mut Random, plan: Plan, task: u32, falling: bool) -> Table {
         classes,
         initials,
         terminals,
-        arcs: listed(random, arcs),
+        arcs: listed(random, plan, arcs),
     }
 }
 
@@ -185,13 +190,21 @@ pub fn knotted(random: &mut Random, task: u32) -> Table {
             table.arcs.push(Arc::new(source, 0, 0, target));
         }
     }
-    table.arcs = listed(random, table.arcs);
+    table.arcs = listed(random, plan, table.arcs);
     table
 }
 
-/// The words of a walk of at most so many arcs, which so are passed on at least one path.
-fn walked(random: &mut Random, table: &Table, most: usize) -> (Vec<u8>, Vec<u8>) {
-    let (mut upper, mut lower) = (Vec::new(), Vec::new());
+/// Words for a task, and a ceiling that keeps the limit.
+#[derive(Clone, Debug, Default)]
+pub struct Asked {
+    pub upper: Vec<u8>,
+    pub lower: Vec<u8>,
+    pub ceiling: u32,
+}
+
+/// The words of a walk of at most so many arcs, which so are passed on at least one path, and its sum of penalties.
+fn walked(random: &mut Random, table: &Table, most: usize) -> Asked {
+    let mut walked = Asked::default();
     let mut state = *random.pick(&table.initials);
     for _ in 0..random.within(0, most) {
         let arcs = table.arcs_of(state);
@@ -200,11 +213,13 @@ fn walked(random: &mut Random, table: &Table, most: usize) -> (Vec<u8>, Vec<u8>)
         }
         let arcs = table.plain_arcs(*random.pick(arcs));
         let arc = *random.pick(&arcs);
-        upper.extend((arc.upper != 0).then_some(arc.upper as u8));
-        lower.extend((arc.lower != 0).then_some(arc.lower as u8));
+        let letter = |letter: u16| (letter != 0).then_some(letter as u8);
+        walked.upper.extend(letter(arc.upper));
+        walked.lower.extend(letter(arc.lower));
+        walked.ceiling += u32::from(arc.penalty);
         state = arc.target;
     }
-    (upper, lower)
+    walked
 }
 
 fn word(random: &mut Random, most: usize) -> Vec<u8> {
@@ -213,14 +228,18 @@ fn word(random: &mut Random, most: usize) -> Vec<u8> {
         .collect()
 }
 
-/// Words for a task that keep the rules, most of them passed by some path.
-pub fn words(random: &mut Random, table: &Table, task: u32) -> (Vec<u8>, Vec<u8>) {
+/// Words for a task that keep the rules, most of them passed by some path, and a ceiling, often about that path's sum.
+pub fn asked(random: &mut Random, table: &Table, task: u32) -> Asked {
     let most = *random.pick(&[3, 6, 10, 20, 64]);
-    let (mut upper, mut lower) = if random.one_in(4) {
-        (word(random, most), word(random, most))
-    } else {
-        walked(random, table, most)
-    };
+    let mut asked = walked(random, table, most);
+    if random.one_in(4) {
+        (asked.upper, asked.lower) = (word(random, most), word(random, most));
+    }
+    let Asked {
+        upper,
+        lower,
+        ceiling,
+    } = &mut asked;
     if random.one_in(6) && !lower.is_empty() {
         let at = random.below(lower.len()); // another letter of a class, perhaps
         lower[at] = random.within(1, 4) as u8;
@@ -228,6 +247,13 @@ pub fn words(random: &mut Random, table: &Table, task: u32) -> (Vec<u8>, Vec<u8>
     let (reads_upper, reads_lower) = query::sides(task).expect("a task");
     upper.truncate(if reads_upper { 64 } else { 0 });
     lower.truncate(if reads_lower { 64 } else { 0 });
+    *ceiling = penalties::ceiling(random, *ceiling);
+    asked
+}
+
+/// The words alone.
+pub fn words(random: &mut Random, table: &Table, task: u32) -> (Vec<u8>, Vec<u8>) {
+    let Asked { upper, lower, .. } = asked(random, table, task);
     (upper, lower)
 }
 

@@ -1,6 +1,7 @@
 //! What is compared: anything that starts searches and calls for readings, that reads and writes tables, that makes tables of word lists,
 //! or that writes sheets.
 use crate::answer::{Answer, Run, Started};
+use crate::query::MOST_CEILING;
 use crate::table::Table;
 use readings::limits::FACES;
 
@@ -9,6 +10,7 @@ use readings::limits::FACES;
 pub struct Start<'a> {
     pub table: &'a [u16],
     pub task: u32,
+    pub ceiling: u32,
     pub upper: &'a [u8],
     pub lower: &'a [u8],
 }
@@ -31,6 +33,7 @@ impl<'a> Next<'a> {
         Start {
             table: self.table,
             task: self.run.task,
+            ceiling: self.run.ceiling,
             upper: self.upper,
             lower: self.lower,
         }
@@ -55,11 +58,12 @@ pub trait Engine {
     /// Goes on with a run until a reading, the end, the allowance or a refusal.
     fn next(&self, call: Next) -> Answer;
 
-    /// What a start with empty words tells.
+    /// What a start with empty words under the highest ceiling tells.
     fn start_empty(&self, table: &Table, task: u32) -> Started {
         let start = Start {
             table: &table.cells(),
             task,
+            ceiling: MOST_CEILING,
             upper: &[],
             lower: &[],
         };

@@ -25,7 +25,14 @@ impl Trees for Library {
 
 impl Engine for Library {
     fn start(&self, start: Start, run: &mut Run) -> Started {
-        lending::start(start.table, start.task, start.upper, start.lower, run).into()
+        let Start {
+            table,
+            task,
+            ceiling,
+            upper,
+            lower,
+        } = start;
+        lending::start(table, task, ceiling, upper, lower, run).into()
     }
 
     fn next(&self, call: Next) -> Answer {

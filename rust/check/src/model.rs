@@ -20,6 +20,7 @@ struct Frame {
     next: u32,
     upper: u32,
     lower: u32,
+    sum: u32,
 }
 
 /// A search on a good table, task and words.
@@ -29,6 +30,7 @@ struct Search<'a> {
     lower: &'a [u8],
     reads_upper: bool,
     reads_lower: bool,
+    ceiling: u32,
 }
 
 /// A step that was made, with the reading if it found one, or the refusal that keeps it from being made.
@@ -46,11 +48,12 @@ fn frame_at(stack: &[u32], i: usize) -> Frame {
         next: cells[1],
         upper: cells[2],
         lower: cells[3],
+        sum: cells[4],
     }
 }
 
 fn put_frame(stack: &mut [u32], i: usize, frame: Frame) {
-    let cells = [frame.state, frame.next, frame.upper, frame.lower];
+    let cells = [frame.state, frame.next, frame.upper, frame.lower, frame.sum];
     stack[place(i)].copy_from_slice(&cells);
 }
 
@@ -64,10 +67,10 @@ fn passed(read: bool, word: &[u8], letter: u16, before: u32) -> Option<u32> {
 }
 
 impl<'a> Search<'a> {
-    /// 20, 11, 10.
+    /// 20, 11, 10, 39.
     fn ask(start: Start<'a>) -> Result<Search<'a>, u32> {
         let table = Table::loaded(start.table).ok_or(20u32)?;
-        if let Some(number) = query::fault(start.task, start.upper, start.lower) {
+        if let Some(number) = query::fault(start.task, start.ceiling, start.upper, start.lower) {
             return Err(number);
         }
         let (reads_upper, reads_lower) = query::sides(start.task).ok_or(11u32)?;
@@ -77,6 +80,7 @@ impl<'a> Search<'a> {
             lower: start.lower,
             reads_upper,
             reads_lower,
+            ceiling: start.ceiling,
         })
     }
 
@@ -87,12 +91,13 @@ impl<'a> Search<'a> {
         (first as u32, (first + count) as u32)
     }
 
-    fn new_frame(&self, state: u16, upper: u32, lower: u32) -> Frame {
+    fn new_frame(&self, state: u16, upper: u32, lower: u32, sum: u32) -> Frame {
         Frame {
             state: state.into(),
             next: self.arcs_of(state.into()).0,
             upper,
             lower,
+            sum,
         }
     }
 
@@ -110,12 +115,17 @@ impl<'a> Search<'a> {
         class.contains(&letter).then(|| arc.with_letter(letter))
     }
 
-    /// The frame that an arc makes by fitting.
+    /// The frame that an arc makes by fitting, by its letters and under the ceiling. No sum is wrapped, whatever a frame that was handed
+    /// over holds.
     fn follow(&self, frame: Frame, arc: Arc) -> Option<Frame> {
         let arc = self.as_read(frame, arc)?;
+        let sum = frame.sum.checked_add(arc.penalty.into())?;
+        if sum > self.ceiling {
+            return None;
+        }
         let upper = passed(self.reads_upper, self.upper, arc.upper, frame.upper)?;
         let lower = passed(self.reads_lower, self.lower, arc.lower, frame.lower)?;
-        Some(self.new_frame(arc.target, upper, lower))
+        Some(self.new_frame(arc.target, upper, lower, sum))
     }
 
     /// A next arc inside its state's arcs, or one past the last.
@@ -130,8 +140,14 @@ impl<'a> Search<'a> {
             return false; // no arc was tried
         }
         let arc = self.table.arcs[below.next as usize - 1];
-        let made = self.follow(below, arc);
-        made.is_some_and(|f| (f.state, f.upper, f.lower) == (above.state, above.upper, above.lower))
+        let Some(made) = self.follow(below, arc) else {
+            return false;
+        };
+        let made_above = Frame {
+            next: above.next,
+            ..made
+        };
+        made_above == above
     }
 
     /// The run and its used frames are a place in a search (else 21).
@@ -152,7 +168,8 @@ impl<'a> Search<'a> {
         let frames: Vec<Frame> = (0..depth).map(|i| frame_at(stack, i)).collect();
         let state = u32::from(self.table.initials[started - 1]);
         let bottom = frames[0];
-        if (bottom.state, bottom.upper, bottom.lower) != (state, 0, 0) || !self.next_holds(bottom) {
+        let new = (bottom.state, bottom.upper, bottom.lower, bottom.sum) == (state, 0, 0, 0);
+        if !new || !self.next_holds(bottom) {
             return false;
         }
         let mut pairs = frames.windows(2);
@@ -208,7 +225,7 @@ impl<'a> Search<'a> {
     /// One step, where the end is not reached.
     fn step(&self, run: &mut Run, stack: &mut [u32], room: usize) -> Made {
         if run.depth == 0 {
-            let frame = self.new_frame(self.table.initials[run.started as usize], 0, 0);
+            let frame = self.new_frame(self.table.initials[run.started as usize], 0, 0, 0);
             let made = self.push(*run, stack, frame, &[], room)?;
             put_frame(stack, 0, frame);
             run.started += 1;
@@ -283,7 +300,7 @@ impl Engine for Model {
         if let Some(cycle) = idle::shown(&search.table, start.task) {
             return Started::with_cycle(&cycle);
         }
-        *run = Run::of(start.task);
+        *run = Run::under(start.task, start.ceiling);
         Started::bare(Answer::done(0))
     }
 

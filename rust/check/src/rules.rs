@@ -66,8 +66,13 @@ fn arc_earns(table: &Table, arc: Arc, number: u32) -> bool {
             .arcs
             .last()
             .is_some_and(|last| last.source > arc.source),
-        _ => table.arcs.contains(&arc),
+        _ => table.arcs.iter().any(|other| other.bare() == arc.bare()),
     }
+}
+
+/// 20, of the penalty of a loaded arc.
+pub fn penalty(penalty: u16) -> Option<u32> {
+    (penalty > 255).then_some(20)
 }
 
 /// The same class on both sides, and a defined one.

@@ -1,6 +1,7 @@
 //! A session: a table and one query in, the lines of its readings out.
 use crate::answer::{ENDED, FOUND, REFUSED, Run};
 use crate::engine::{Engine, Next, Start};
+use crate::query::MOST_CEILING;
 use crate::text;
 use readings::limits::FRAME_CELLS;
 
@@ -135,6 +136,7 @@ pub fn session(engine: &impl Engine, input: &[u8]) -> Vec<u8> {
     let start = Start {
         table: &asked.table,
         task: asked.task.into(),
+        ceiling: MOST_CEILING,
         upper: &asked.upper,
         lower: &asked.lower,
     };

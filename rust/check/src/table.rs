@@ -1,6 +1,6 @@
 //! A table of states, classes and arcs, and its loaded form, a list of cells.
 use crate::rules;
-use readings::limits::CLASS_LETTERS;
+use readings::limits::{ARC_CELLS, CLASS_LETTERS};
 
 /// What stands on an arc for class 0; class k is k more.
 pub const FIRST_CLASS: u16 = 64;
@@ -14,6 +14,7 @@ pub struct Arc {
     pub upper: u16,
     pub lower: u16,
     pub target: u16,
+    pub penalty: u16,
 }
 
 #[derive(Clone, Debug, Default, PartialEq, Eq)]
@@ -26,13 +27,25 @@ pub struct Table {
 }
 
 impl Arc {
+    /// An arc without a penalty.
     pub fn new(source: u16, upper: u16, lower: u16, target: u16) -> Arc {
         Arc {
             source,
             upper,
             lower,
             target,
+            penalty: 0,
         }
+    }
+
+    /// The same with a penalty.
+    pub fn with_penalty(self, penalty: u16) -> Arc {
+        Arc { penalty, ..self }
+    }
+
+    /// The same without its penalty: what two arcs are compared by.
+    pub fn bare(self) -> Arc {
+        self.with_penalty(0)
     }
 
     /// An arc of a class.
@@ -48,7 +61,21 @@ impl Arc {
 
     /// The same with one letter on both sides.
     pub fn with_letter(self, letter: u16) -> Arc {
-        Arc::new(self.source, letter, letter, self.target)
+        Arc {
+            upper: letter,
+            lower: letter,
+            ..self
+        }
+    }
+
+    pub fn cells(&self) -> [u16; ARC_CELLS] {
+        [
+            self.source,
+            self.upper,
+            self.lower,
+            self.target,
+            self.penalty,
+        ]
     }
 }
 
@@ -70,7 +97,7 @@ pub fn class_cells(classes: &Classes) -> Vec<u16> {
 }
 
 impl Table {
-    /// The four counts, the rows of the eight classes, the initial states, the terminal states, then four
+    /// The four counts, the rows of the eight classes, the initial states, the terminal states, then five
     /// cells an arc.
     pub fn cells(&self) -> Vec<u16> {
         let mut cells = vec![
@@ -83,7 +110,7 @@ impl Table {
         cells.extend(&self.initials);
         cells.extend(&self.terminals);
         for arc in &self.arcs {
-            cells.extend([arc.source, arc.upper, arc.lower, arc.target]);
+            cells.extend(arc.cells());
         }
         cells
     }
@@ -114,8 +141,9 @@ impl Table {
             table.terminals.push(state);
         }
         for _ in 0..arcs {
-            let arc = Arc::new(cell()?, cell()?, cell()?, cell()?);
+            let arc = Arc::new(cell()?, cell()?, cell()?, cell()?).with_penalty(cell()?);
             fault = fault.or_else(|| rules::arc(&table, arc, rules::ORDER));
+            fault = fault.or(rules::penalty(arc.penalty));
             table.arcs.push(arc);
         }
         fault.is_none().then_some(table)

@@ -45,18 +45,36 @@ fn number(bytes: &[u8], at: usize) -> u16 {
     u16::from_be_bytes([bytes[at], bytes[at + 1]])
 }
 
-/// The next line's bytes: 2 where there is none, 1, then 2 where it has not this kind and length.
+/// The next line's bytes: 2 where there is none, then 1.
+fn next_bytes<'a>(lines: &mut impl Iterator<Item = &'a [u8]>) -> Result<Vec<u8>, u32> {
+    line_bytes(lines.next().ok_or(2u32)?).ok_or(1)
+}
+
+/// The same, and 2 where it has not this kind and length.
 fn item<'a>(
     lines: &mut impl Iterator<Item = &'a [u8]>,
     kind: u8,
     length: usize,
 ) -> Result<Vec<u8>, u32> {
-    let bytes = line_bytes(lines.next().ok_or(2u32)?).ok_or(1u32)?;
+    let bytes = next_bytes(lines)?;
     if bytes[0] == kind && bytes.len() == length {
         Ok(bytes)
     } else {
         Err(2)
     }
+}
+
+/// The arc of the next line, of either kind: the second has a penalty, which is not 0.
+fn arc<'a>(lines: &mut impl Iterator<Item = &'a [u8]>) -> Result<Arc, u32> {
+    let bytes = next_bytes(lines)?;
+    let penalty = match (bytes[0], bytes.len(), bytes[bytes.len() - 1]) {
+        (4, 7, _) => 0,
+        (7, 8, penalty) if penalty != 0 => penalty.into(),
+        _ => return Err(2),
+    };
+    let (upper, lower) = (bytes[3].into(), bytes[4].into());
+    let arc = Arc::new(number(&bytes, 1), upper, lower, number(&bytes, 5));
+    Ok(arc.with_penalty(penalty))
 }
 
 fn kept(fault: Option<u32>) -> Result<(), u32> {
@@ -114,9 +132,7 @@ pub fn parse_in(text: &[u8], order: [u32; 5]) -> Result<Table, u32> {
         table.terminals.push(state);
     }
     for _ in 0..count(3) {
-        let bytes = item(&mut lines, 4, 7)?;
-        let letters = (bytes[3].into(), bytes[4].into());
-        let arc = Arc::new(number(&bytes, 1), letters.0, letters.1, number(&bytes, 5));
+        let arc = arc(&mut lines)?;
         kept(rules::arc(&table, arc, order))?;
         table.arcs.push(arc);
     }
@@ -162,10 +178,11 @@ pub fn print(table: &Table) -> Vec<u8> {
         text.extend(numbered(3, *state));
     }
     for arc in &table.arcs {
-        let mut bytes = vec![4];
+        let mut bytes = vec![if arc.penalty == 0 { 4 } else { 7 }];
         bytes.extend(arc.source.to_be_bytes());
         bytes.extend([arc.upper as u8, arc.lower as u8]);
         bytes.extend(arc.target.to_be_bytes());
+        bytes.extend((arc.penalty != 0).then_some(arc.penalty as u8));
         text.extend(line(&bytes));
     }
     text.extend(numbered(5, lines_before(table) as u16));

@@ -1,14 +1,15 @@
 //! Letter classes, case by case, on the library, the model and the twin: texts and loaded tables with and without faults, what an arc of a
 //! class reads and writes, and the same table without classes.
-use readings::limits::{FRAME_CELLS, INITIALS_AT, MOST_ARCS};
-use readings_check::answer::{Answer, ENDED, FOUND, Run, Started};
+use readings::limits::{INITIALS_AT, MOST_ARCS};
+use readings_check::answer::{Answer, Run, Started};
 use readings_check::compare::cuts;
-use readings_check::draw;
+use readings_check::compare::pieces::Way;
+use readings_check::draw::{self, Asked};
 use readings_check::engine::{Engine, Next, Start, Texts};
 use readings_check::library::Library;
 use readings_check::lister;
 use readings_check::model::Model;
-use readings_check::query::{ANALYSIS, RECOGNITION, SYNTHESIS};
+use readings_check::query::{ANALYSIS, MOST_CEILING, RECOGNITION, SYNTHESIS};
 use readings_check::random::Random;
 use readings_check::table::{Arc, Table};
 use readings_check::text;
@@ -54,14 +55,14 @@ fn letters_of_arcs(texts: &impl Texts) {
         let arc = format!("040000{letter:02X}{letter:02X}0000");
         text_of(1, classes, &[&arc])
     };
-    loads(texts, &with(&[], 63), 138);
-    loads(texts, &with(&["060001"], 63), 138);
+    loads(texts, &with(&[], 63), 139);
+    loads(texts, &with(&["060001"], 63), 139);
     refuses(texts, &with(&[], 64), 34);
     refuses(texts, &with(&["060101"], 64), 34);
-    loads(texts, &with(&["060001"], 64), 138);
+    loads(texts, &with(&["060001"], 64), 139);
     refuses(texts, &with(&[], 71), 34);
     refuses(texts, &with(&["060601"], 71), 34);
-    loads(texts, &with(&["060701"], 71), 138);
+    loads(texts, &with(&["060701"], 71), 139);
     for letter in [72, 73, 127, 128, 136, 255] {
         refuses(texts, &with(&[], letter), 5);
         refuses(texts, &with(&["060001", "060701"], letter), 5);
@@ -203,6 +204,7 @@ fn numbers(texts: &dyn Texts, engine: &impl Engine, cells: &[u16]) -> [u32; 3] {
     let start = Start {
         table: cells,
         task: SYNTHESIS,
+        ceiling: MOST_CEILING,
         upper: &[],
         lower: &[],
     };
@@ -213,7 +215,7 @@ fn numbers(texts: &dyn Texts, engine: &impl Engine, cells: &[u16]) -> [u32; 3] {
         upper: &[],
         lower: &[],
         run: &mut run,
-        stack: &mut [0; 40],
+        stack: &mut [0; 50],
         allowance: 9,
         output: &mut [0; 9],
     });
@@ -232,7 +234,7 @@ const FAULTY: [Changes; 21] = [
     &[(8, 10)], &[(19, 63)], &[(21, 1)],   // a letter after a 0, the last time in a class that is not defined
     &[(116, 64)], &[(131, 62)], &[(131, 64)], // the first and the last of 16 letters
     &[(135, 65), (136, 65)],               // an arc of a class that is not defined
-    &[(135, 71)], &[(136, 71)], &[(135, 1)], &[(136, 0)], &[(139, 64)], // unlike sides
+    &[(135, 71)], &[(136, 71)], &[(135, 1)], &[(136, 0)], &[(140, 64)], // unlike sides
     &[(135, 72), (136, 72)],               // over 71
 ];
 
@@ -263,9 +265,9 @@ fn loaded(texts: &impl Texts, engine: &impl Engine) {
     assert_eq!(numbers(texts, engine, &cells), [20; 3]);
     cells[135..137].fill(71);
     assert_eq!(numbers(texts, engine, &cells), [20; 3]); // the third arc again
-    cells[143] = 7;
+    cells[145] = 7;
     assert_eq!(numbers(texts, engine, &cells), [20; 3]); // unlike sides
-    cells[144] = 7;
+    cells[146] = 7;
     assert_eq!(numbers(texts, engine, &cells), [0; 3]);
 }
 
@@ -293,12 +295,12 @@ fn cells_and_text(texts: &impl Texts) {
     assert_eq!(cells[..8], [1, 1, 1, 3, 1, 5, 9, 0]);
     assert_eq!(cells[8..116], [0; 108]);
     assert!(cells[116..132].iter().copied().eq(48..64));
-    let arcs = [[0, 64, 64, 0], [0, 5, 6, 0], [0, 71, 71, 0]];
+    let arcs = [[0, 64, 64, 0, 0], [0, 5, 6, 0, 0], [0, 71, 71, 0, 0]];
     assert_eq!(cells[132..], [&[0, 0], arcs.as_flattened()].concat());
-    let (mut text, mut back) = ([0; 300], [0; 146]);
+    let (mut text, mut back) = ([0; 300], [0; 149]);
     let written = texts.write(&cells, &mut text).length as usize;
     assert_eq!(String::from_utf8_lossy(&text[..written]), lines);
-    assert_eq!(texts.read(&text[..written], &mut back), Answer::done(146));
+    assert_eq!(texts.read(&text[..written], &mut back), Answer::done(149));
     assert_eq!(back[..], cells);
 }
 
@@ -314,9 +316,21 @@ fn the_model_writes_class_lines() {
 
 /// The readings of a search over a table.
 fn readings(engine: &impl Engine, table: &Table, task: u32, words: [&[u8]; 2]) -> Vec<Vec<u8>> {
+    readings_under(engine, table, task, MOST_CEILING, words)
+}
+
+/// The same under a ceiling.
+fn readings_under(
+    engine: &impl Engine,
+    table: &Table,
+    task: u32,
+    ceiling: u32,
+    words: [&[u8]; 2],
+) -> Vec<Vec<u8>> {
     let start = Start {
         table: &table.cells(),
         task,
+        ceiling,
         upper: words[0],
         lower: words[1],
     };
@@ -395,6 +409,7 @@ fn words(engine: &impl Engine) {
             let start = Start {
                 table: &cells,
                 task,
+                ceiling: MOST_CEILING,
                 upper,
                 lower,
             };
@@ -451,70 +466,6 @@ fn the_twin_follows_classes() {
     all_searches(&PLAIN);
 }
 
-/// A search that is handed back after each call: the run, and the used frames on their own.
-struct Way<'a, E> {
-    engine: &'a E,
-    cells: Vec<u16>,
-    words: [&'a [u8]; 2],
-    run: Run,
-    frames: Vec<u32>,
-    readings: Vec<Vec<u8>>,
-    /// How often each of 21, 22 and 23 was told.
-    refused: [usize; 3],
-}
-
-impl<E: Engine> Way<'_, E> {
-    /// A call on new memory, with so many frames and letters. Less than the used frames are refused, and leave the run.
-    fn call(&mut self, frames: usize, allowance: u32, letters: usize) -> Answer {
-        let used = self.frames.len().min(FRAME_CELLS * frames);
-        let mut stack = vec![7; FRAME_CELLS * frames];
-        stack[..used].copy_from_slice(&self.frames[..used]);
-        let (mut run, mut output) = (self.run, vec![7; letters]);
-        let answer = self.engine.next(Next {
-            table: &self.cells,
-            upper: self.words[0],
-            lower: self.words[1],
-            run: &mut run,
-            stack: &mut stack,
-            allowance,
-            output: &mut output,
-        });
-        if (21..=23).contains(&answer.number) {
-            self.refused[answer.number as usize - 21] += 1;
-        }
-        if answer.is_refused() && answer.steps == 0 {
-            assert_eq!(run, self.run);
-            return answer;
-        }
-        self.run = run;
-        self.frames = stack[..FRAME_CELLS * run.depth as usize].to_vec();
-        if answer.kind == FOUND {
-            self.readings
-                .push(output[..answer.length as usize].to_vec());
-        }
-        answer
-    }
-
-    /// Calls of few steps until the end, each after one on a stack without its last frame and one on a stack without a free frame. They
-    /// have no output, and a reading with letters is told by one call more.
-    fn finish(&mut self, allowance: u32) {
-        loop {
-            let depth = self.run.depth as usize;
-            if depth > 0 {
-                assert_eq!(self.call(depth - 1, allowance, 64), Answer::refused(21, 0));
-            }
-            self.call(depth, 1, 64);
-            let answer = self.call(64, allowance, 0);
-            match answer.number {
-                0 if answer.kind == ENDED => return,
-                0 => {}
-                23 => assert_eq!(self.call(64, 1, 64).kind, FOUND),
-                _ => panic!("{answer:?} with enough frames"),
-            }
-        }
-    }
-}
-
 /// Reads 2 and 3 by a class, or 2 as 7; between two letters 8 is written.
 fn joints() -> Table {
     let mut table = Table {
@@ -534,15 +485,7 @@ fn joints() -> Table {
 
 fn handed_back(engine: &impl Engine, task: u32, words: [&[u8]; 2], expected: &[&[u8]]) {
     for allowance in [1, 2, 3, 5, 100] {
-        let mut way = Way {
-            engine,
-            cells: joints().cells(),
-            words,
-            run: Run::of(task),
-            frames: Vec::new(),
-            readings: Vec::new(),
-            refused: [0; 3],
-        };
+        let mut way = Way::new(engine, joints().cells(), words, Run::of(task));
         way.finish(allowance);
         assert_eq!(way.readings, expected, "{words:?} by {allowance}");
         let [short, full, unwritten] = way.refused;
@@ -588,16 +531,16 @@ fn the_twin_writes_classes_in_pieces() {
 fn damaged_frames(engine: &impl Engine) {
     let number = |task, upper: &[u8], lower: &[u8]| {
         let mut run = Run {
-            task,
             started: 1,
             depth: 2,
+            ..Run::of(task)
         };
         let answer = engine.next(Next {
             table: &vowels().cells(),
             upper,
             lower,
             run: &mut run,
-            stack: &mut [0, 1, 0, 0, 0, 0, 1, 1],
+            stack: &mut [0, 1, 0, 0, 0, 0, 0, 1, 1, 0],
             allowance: 0,
             output: &mut [],
         });
@@ -631,7 +574,8 @@ fn drawn(random: &mut Random, task: u32, falling: bool) -> Table {
     let mut met = Vec::new();
     let arcs = std::mem::take(&mut table.arcs);
     for arc in arcs {
-        let plain = table.plain_arcs(arc);
+        let plain = table.plain_arcs(arc).into_iter();
+        let plain: Vec<Arc> = plain.map(Arc::bare).collect();
         if plain.iter().all(|arc| !met.contains(arc)) && met.len() + plain.len() <= MOST_ARCS {
             met.extend(plain);
             table.arcs.push(arc);
@@ -650,7 +594,7 @@ fn expanded(table: &Table) -> Table {
     }
 }
 
-/// A class arc has the readings of its plain arcs, in their order, and starts tell the same.
+/// A class arc has the readings of its plain arcs, in their order and under any ceiling, and starts tell the same.
 fn as_plain_arcs(engine: &impl Engine) {
     let (mut with_classes, mut found) = (0, [0; 3]);
     for case in 0..3_000 {
@@ -662,13 +606,17 @@ fn as_plain_arcs(engine: &impl Engine) {
             engine.start_empty(&expanded(&table), task)
         );
         let table = drawn(random, task, true);
-        let (upper, lower) = draw::words(random, &table, task);
+        let Asked {
+            upper,
+            lower,
+            ceiling,
+        } = draw::asked(random, &table, task);
         if !lister::list(&expanded(&table), task, &upper, &lower, 20_000).whole {
             continue;
         }
         let words = [&upper[..], &lower[..]];
-        let of_classes = readings(engine, &table, task, words);
-        let of_letters = readings(engine, &expanded(&table), task, words);
+        let of_classes = readings_under(engine, &table, task, ceiling, words);
+        let of_letters = readings_under(engine, &expanded(&table), task, ceiling, words);
         assert_eq!(of_classes, of_letters, "{words:?} over {table:?}");
         if table.arcs.iter().any(|arc| !arc.is_plain()) {
             with_classes += 1;

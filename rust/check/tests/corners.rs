@@ -3,6 +3,7 @@ use readings_check::answer::{Run, Started};
 use readings_check::compare::start::{self, Start};
 use readings_check::engine::Engine;
 use readings_check::library::Library;
+use readings_check::query::MOST_CEILING;
 use readings_check::session::session;
 use readings_check::table::{Arc, Table};
 use readings_check::text::{self, K};
@@ -21,6 +22,7 @@ fn tells(engine: &impl Engine, table: &Table, expected: Option<&[u16]>) {
         let start = Start {
             table: table.cells(),
             task,
+            ceiling: MOST_CEILING,
             upper: vec![],
             lower: vec![],
         };

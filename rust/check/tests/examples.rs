@@ -2,7 +2,7 @@
 mod common;
 
 use common::{built, from_root, program, run};
-use readings::Table;
+use readings::{Search, Table, Task};
 use readings_check::german;
 use readings_check::model::Model;
 use readings_check::session::session;
@@ -63,6 +63,21 @@ fn the_german_tables_are_letter_trees() {
         bytes.extend(&letters);
         bytes.push(0);
         assert_eq!(query, Some(&text::line(&bytes)[..]), "{name}");
+    }
+}
+
+/// Under a lower ceiling some readings of the session are left out, and the others keep their order.
+#[test]
+fn the_far_fetched_readings_under_ceilings() {
+    let text = fs::read_to_string(from_root("examples/far-fetched.txt")).expect("an example");
+    let (table, query) = text.split_at(text.len() - 13);
+    assert_eq!(query, "100202010100\n");
+    let table = Table::read(table).expect("a table");
+    let all = [[1, 1], [1, 5], [5, 1], [5, 5]];
+    for (ceiling, count) in [(0, 1), (2, 1), (3, 3), (5, 3), (6, 4), (100_000, 4)] {
+        let search = Search::start_under(&table, Task::Synthesis, ceiling, &[1, 1], &[]);
+        let readings: Vec<Vec<u8>> = search.expect("a search").collect();
+        assert_eq!(readings, all[..count], "under {ceiling}");
     }
 }
 

@@ -5,6 +5,7 @@ use readings_check::engine::{Engine, Next, Start, Texts};
 use readings_check::library::Library;
 use readings_check::lister;
 use readings_check::model::Model;
+use readings_check::query::MOST_CEILING;
 use readings_check::table::{Arc, Table};
 use readings_check::text::{self, K};
 use readings_check::twin::SOUND;
@@ -35,6 +36,7 @@ fn begin<'a, E: Engine>(
     let start = Start {
         table,
         task,
+        ceiling: MOST_CEILING,
         upper,
         lower,
     };
@@ -115,6 +117,7 @@ fn started(engine: &impl Engine, table: &Table, task: u32, word: &[u8]) -> Start
     let start = Start {
         table: &table.cells(),
         task,
+        ceiling: MOST_CEILING,
         upper,
         lower,
     };
@@ -167,6 +170,7 @@ fn tasks(engine: &impl Engine) {
         let start = Start {
             table: &cells,
             task,
+            ceiling: MOST_CEILING,
             upper: &[],
             lower: &[],
         };
@@ -223,7 +227,7 @@ fn text_of(states: u16, letter: u8) -> Vec<u8> {
 fn limits_of_texts() {
     for texts in [&Library as &dyn Texts, &Model] {
         let mut table = [0; 200];
-        let read = Answer::done(137);
+        let read = Answer::done(138);
         assert_eq!(texts.read(&text_of(256, 63), &mut table), read);
         assert_eq!(
             texts.read(&text_of(257, 63), &mut table),

@@ -187,7 +187,7 @@ fn the_last_cell_for_a_list_that_is_refused() {
             31 => last_cell::<31>,
             _ => last_cell::<32>,
         };
-        noticed_in_lists(prune, "destination: cell 2527 is 0, expected 23130");
+        noticed_in_lists(prune, "destination: cell 3037 is 0, expected 23130");
     }
 }
 
@@ -217,7 +217,7 @@ fn words_told_as_steps() {
     };
     noticed_in_lists(
         prune,
-        "answer is Answer { kind: 0, number: 0, steps: 1, length: 142 }",
+        "answer is Answer { kind: 0, number: 0, steps: 1, length: 144 }",
     );
 }
 

@@ -76,7 +76,7 @@ fn the_allowance_before_the_end_is_noticed() {
 fn idle_cycles_of_the_wrong_task_are_noticed() {
     found(
         &Twin::<{ fault::RECOGNITION_CYCLES }>,
-        "cycle is [10], expected [2, 10, 5], rival Some(Shorter)",
+        "cycle is [7], expected [0, 16, 4, 15], rival Some(Shorter)",
     );
 }
 
@@ -84,7 +84,7 @@ fn idle_cycles_of_the_wrong_task_are_noticed() {
 fn a_frame_dropped_too_early_is_noticed() {
     found(
         &Twin::<{ fault::DROPPED_EARLY }>,
-        "steps: 19, length: 0 }, expected Answer { kind: 3, number: 0, steps: 21, length: 0 }",
+        "steps: 4, length: 0 }, expected Answer { kind: 3, number: 0, steps: 6, length: 0 }",
     );
 }
 
@@ -149,7 +149,7 @@ fn the_right_cycle_from_another_state_is_noticed() {
 fn a_letter_of_a_class_not_written_is_noticed() {
     found(
         &Twin::<{ fault::CLASS_UNWRITTEN }>,
-        "length: 5 }, expected Answer { kind: 1, number: 0, steps: 1, length: 7 }",
+        "length: 0 }, expected Answer { kind: 1, number: 0, steps: 115, length: 17 }",
     );
 }
 
@@ -157,7 +157,7 @@ fn a_letter_of_a_class_not_written_is_noticed() {
 fn a_class_written_for_its_letter_is_noticed() {
     found(
         &Twin::<{ fault::CLASS_WRITTEN }>,
-        "output: cell 2 is 65, expected 4",
+        "output: cell 0 is 70, expected 51",
     );
 }
 
@@ -165,7 +165,7 @@ fn a_class_written_for_its_letter_is_noticed() {
 fn two_letters_of_a_class_in_recognition_are_noticed() {
     found(
         &Twin::<{ fault::UNLIKE_IN_CLASS }>,
-        "run: cell 0 is Run { task: 1, ",
+        "number: 22, steps: 4, length: 0 }, expected Answer { kind: 3",
     );
 }
 
@@ -173,8 +173,78 @@ fn two_letters_of_a_class_in_recognition_are_noticed() {
 fn a_0_as_a_letter_of_a_class_is_noticed() {
     found(
         &Twin::<{ fault::NOUGHT_IN_CLASS }>,
-        "answer is Answer { kind: 4, number: 22",
+        "answer is Answer { kind: 2, number: 0, steps: 16, length: 0 }, expected Answer { kind: 3",
     );
+}
+
+#[test]
+fn an_arc_that_meets_the_ceiling_left_out_is_noticed() {
+    found(
+        &Twin::<{ fault::CEILING_MISSED }>,
+        "steps: 10, length: 0 }, expected Answer { kind: 3, number: 0, steps: 12, length: 0 }",
+    );
+}
+
+#[test]
+fn a_penalty_that_is_not_summed_is_noticed() {
+    found(
+        &Twin::<{ fault::UNSUMMED }>,
+        "steps: 26, length: 9 }, expected Answer { kind: 1, number: 0, steps: 28, length: 9 }",
+    );
+}
+
+#[test]
+fn a_sum_lost_between_calls_is_noticed() {
+    found(
+        &Twin::<{ fault::SUM_LOST }>,
+        "stack: cell 24 is 76, expected 304",
+    );
+}
+
+#[test]
+fn sums_that_are_not_looked_at_are_noticed() {
+    found(
+        &Twin::<{ fault::SUM_TRUSTED }>,
+        "expected Answer { kind: 4, number: 21",
+    );
+}
+
+#[test]
+fn a_high_ceiling_after_the_place_is_noticed() {
+    found(&Twin::<{ fault::CEILING_AFTER_PLACE }>, &refused(21, 39));
+}
+
+#[test]
+fn a_high_ceiling_after_idle_cycles_is_noticed() {
+    found(&Twin::<{ fault::CEILING_AFTER_CYCLES }>, &refused(12, 39));
+}
+
+#[test]
+fn a_high_ceiling_before_bad_words_is_noticed() {
+    found(&Twin::<{ fault::CEILING_BEFORE_WORDS }>, &refused(39, 10));
+}
+
+#[test]
+fn a_high_ceiling_that_passes_is_noticed() {
+    found(
+        &Twin::<{ fault::CEILING_ANY }>,
+        "expected Answer { kind: 4, number: 39",
+    );
+}
+
+#[test]
+fn arcs_that_differ_by_penalties_alone_are_noticed() {
+    found(&Twin::<{ fault::PENALTY_COMPARED }>, &passed(0, 20));
+}
+
+#[test]
+fn a_penalty_over_255_is_noticed() {
+    found(&Twin::<{ fault::PENALTY_256 }>, &passed(0, 20));
+}
+
+#[test]
+fn a_cycle_without_its_penalties_is_noticed() {
+    found(&Twin::<{ fault::PENALTY_NOT_IDLE }>, &passed(0, 12));
 }
 
 /// A reader of texts that looks for the numbers of an arc in another order.
@@ -222,7 +292,7 @@ fn passed(cells: usize, due: u32) -> String {
 fn a_cut_before_longer_words_is_noticed() {
     found_in_lists(
         &Twin::<{ fault::CUT_FIRST }>,
-        "destination: cell 140 is 0, expected 1",
+        "destination: cell 141 is 0, expected 1",
     );
     let difference = fixed::cuts(&Twin::<{ fault::CUT_FIRST }>).map(drop);
     assert!(difference.is_err_and(|said| said.contains("readings is")));
@@ -232,7 +302,7 @@ fn a_cut_before_longer_words_is_noticed() {
 fn a_cut_that_is_read_is_noticed() {
     found_in_lists(
         &Twin::<{ fault::CUT_READ }>,
-        "destination: cell 139 is 63, expected 0",
+        "destination: cell 140 is 63, expected 0",
     );
 }
 
@@ -245,35 +315,35 @@ fn the_root_as_an_end_is_noticed() {
 fn a_missed_beginning_of_another_word_is_noticed() {
     found_in_lists(
         &Twin::<{ fault::SHORTER_MISSED }>,
-        "on 251 cells for [1, 1, 2, 1, 1]",
+        "on 255 cells for [1, 1, 2, 1, 1]",
     );
 }
 
 #[test]
 fn a_repeated_word_is_noticed() {
-    found_in_lists(&Twin::<{ fault::REPEATED }>, &passed(707, 31));
+    found_in_lists(&Twin::<{ fault::REPEATED }>, &passed(849, 31));
 }
 
 #[test]
 fn a_fall_in_the_order_is_noticed() {
-    found_in_lists(&Twin::<{ fault::UNORDERED }>, &passed(968, 31));
+    found_in_lists(&Twin::<{ fault::UNORDERED }>, &passed(1_175, 31));
 }
 
 #[test]
 fn a_word_after_one_that_goes_on_from_it_is_noticed() {
-    found_in_lists(&Twin::<{ fault::SHORTER_AFTER }>, &passed(712, 31));
+    found_in_lists(&Twin::<{ fault::SHORTER_AFTER }>, &passed(855, 31));
 }
 
 #[test]
 fn a_state_too_many_is_noticed() {
-    found_in_lists(&Twin::<{ fault::STATES_257 }>, &passed(1_177, 32));
+    found_in_lists(&Twin::<{ fault::STATES_257 }>, &passed(1_437, 32));
 }
 
 #[test]
 fn a_state_too_few_is_noticed() {
     found_in_lists(
         &Twin::<{ fault::STATES_255 }>,
-        "number: 32, steps: 0, length: 0 }, expected Answer { kind: 0, number: 0, steps: 0, length: 2428 }",
+        "number: 32, steps: 0, length: 0 }, expected Answer { kind: 0, number: 0, steps: 0, length: 2938 }",
     );
 }
 
@@ -289,7 +359,7 @@ fn a_letter_that_is_none_is_noticed() {
 
 #[test]
 fn a_word_of_65_letters_is_noticed() {
-    found_in_lists(&Twin::<{ fault::WORD_OF_65 }>, &passed(398, 30));
+    found_in_lists(&Twin::<{ fault::WORD_OF_65 }>, &passed(464, 30));
 }
 
 #[test]
@@ -299,7 +369,7 @@ fn a_word_of_no_letters_is_noticed() {
 
 #[test]
 fn a_word_cut_short_and_taken_is_noticed() {
-    found_in_lists(&Twin::<{ fault::CUT_TAKEN }>, &passed(964, 30));
+    found_in_lists(&Twin::<{ fault::CUT_TAKEN }>, &passed(1_170, 30));
 }
 
 #[test]
@@ -341,7 +411,7 @@ fn a_short_destination_before_bad_words_is_noticed() {
 fn a_cell_cleared_by_a_refusal_is_noticed() {
     found_in_lists(
         &Twin::<{ fault::REFUSED_TOUCHED }>,
-        "destination: cell 0 is 0, expected 23130, on 2528 cells",
+        "destination: cell 0 is 0, expected 23130, on 3038 cells",
     );
 }
 

@@ -8,7 +8,7 @@ use readings_check::engine::{Engine, Start, Texts, Trees};
 use readings_check::german;
 use readings_check::library::Library;
 use readings_check::model::Model;
-use readings_check::query::ANALYSIS;
+use readings_check::query::{ANALYSIS, MOST_CEILING};
 use readings_check::random::Random;
 use readings_check::tree;
 use readings_check::twin::SOUND;
@@ -132,6 +132,7 @@ fn is_sound(cells: &[u16]) {
         let start = Start {
             table: cells,
             task,
+            ceiling: MOST_CEILING,
             upper: &[],
             lower: &[],
         };
@@ -173,6 +174,7 @@ fn a_cut_is_read_back() {
             let start = Start {
                 table: &table,
                 task: ANALYSIS,
+                ceiling: MOST_CEILING,
                 upper: &[],
                 lower: &cut,
             };

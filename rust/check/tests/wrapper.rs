@@ -3,7 +3,7 @@
 use readings::lending::{self, Run};
 use readings::{Answer, Faces, Refusal, Search, StartRefused, Table, Task, limits};
 use readings_check::compare::page::Page;
-use readings_check::draw::{self, lists};
+use readings_check::draw::{self, Asked, lists};
 use readings_check::engine::Sheets;
 use readings_check::idle;
 use readings_check::lister;
@@ -13,32 +13,38 @@ use readings_check::words;
 
 const TASKS: [Task; 3] = [Task::Recognition, Task::Synthesis, Task::Analysis];
 
-/// A table, a task and words whose whole search is short, with its readings.
-struct Asked {
+/// A table, a task, words and a ceiling whose whole search is short, with its readings.
+struct Case {
     table: Table,
     task: Task,
+    ceiling: u32,
     upper: Vec<u8>,
     lower: Vec<u8>,
     readings: Vec<Vec<u8>>,
 }
 
-fn draw(random: &mut Random) -> Option<Asked> {
+fn draw(random: &mut Random) -> Option<Case> {
     let task = *random.pick(&TASKS);
     let number = task as u32;
     let table = draw::table(random, number, true);
-    let (upper, lower) = draw::words(random, &table, number);
-    let listing = lister::list(&table, number, &upper, &lower, 20_000);
+    let Asked {
+        upper,
+        lower,
+        ceiling,
+    } = draw::asked(random, &table, number);
+    let listing = lister::list_under(&table, number, ceiling, &upper, &lower, 20_000);
     let readings = listing.readings.into_iter().map(|r| r.letters).collect();
-    listing.whole.then(|| Asked {
+    listing.whole.then(|| Case {
         table: Table::from_cells(&table.cells()).expect("a table that keeps the rules"),
         task,
+        ceiling,
         upper,
         lower,
         readings,
     })
 }
 
-fn series(seed: u64, mut see: impl FnMut(Asked)) {
+fn series(seed: u64, mut see: impl FnMut(Case)) {
     let cases = (0..2_000).filter_map(|case| draw(&mut Random::of_case(seed, case)));
     let mut readings = 0;
     for asked in cases {
@@ -51,17 +57,21 @@ fn series(seed: u64, mut see: impl FnMut(Asked)) {
 #[test]
 fn a_search_lists_the_readings() {
     series(0x5EA2C4, |asked| {
-        let search = Search::start(&asked.table, asked.task, &asked.upper, &asked.lower);
+        let Case { table, task, .. } = &asked;
+        let search = Search::start_under(table, *task, asked.ceiling, &asked.upper, &asked.lower);
         let listed: Vec<Vec<u8>> = search.expect("no idle cycle").collect();
         assert_eq!(listed, asked.readings);
     });
 }
 
 /// Every reading over an output that is empty until a call is refused, and then has as many letters as frames are in use.
-fn stretched(asked: &Asked) -> (Vec<Vec<u8>>, usize) {
+fn stretched(asked: &Case) -> (Vec<Vec<u8>>, usize) {
     let (cells, upper, lower) = (asked.table.cells(), &asked.upper, &asked.lower);
     let frames = limits::stack_cells(upper.len() + lower.len(), asked.table.states());
-    let (mut run, mut stack) = (Run::of(asked.task as u32), vec![0; frames]);
+    let (mut run, mut stack) = (
+        Run::under(asked.task as u32, asked.ceiling),
+        vec![0; frames],
+    );
     let (mut readings, mut refused) = (Vec::new(), 0);
     let (mut output, mut allowance) = (Vec::new(), u32::MAX);
     loop {

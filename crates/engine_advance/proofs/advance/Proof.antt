@@ -24,10 +24,10 @@ enum-told : tie.Need-enum-told
 enum-told c = search needs
 
 rows-requires : tie.Need-rows-requires
-rows-requires c κs = (asking-passes (c .before .before .before .before .before .before .before .before .before .before .args .run .task) (now (c .before .before .before .before .before .before .before .before .before .before .args .upper)) (now (c .before .before .before .before .before .before .before .before .before .before .args .lower)) (now (c .before .before .before .before .before .before .before .before .before .before .args .table)) (c .before .before .before .before .check .result .ok) (ap (λ (x : Checked). x .ok) (c .before .before .before .before .check .ensures)) (sym (c .before .enum-told .given .1) ∙ c .before .before .before .asked .ensures (now (c .before .before .before .before .before .before .before .before .before .before .args .table)) (ap (λ (x : Checked). x .ok) (c .before .before .before .before .check .ensures)))) .loads
+rows-requires c κs = (asking-passes (c .before .before .before .before .before .before .before .before .before .before .args .run .task) (now (c .before .before .before .before .before .before .before .before .before .before .args .upper)) (now (c .before .before .before .before .before .before .before .before .before .before .args .lower)) (c .before .before .before .before .before .before .before .before .before .before .args .run .ceiling) (now (c .before .before .before .before .before .before .before .before .before .before .args .table)) (c .before .before .before .before .check .result .ok) (ap (λ (x : Checked). x .ok) (c .before .before .before .before .check .ensures)) (sym (c .before .enum-told .given .1) ∙ c .before .before .before .asked .ensures (now (c .before .before .before .before .before .before .before .before .before .before .args .table)) (ap (λ (x : Checked). x .ok) (c .before .before .before .before .check .ensures)))) .loads
 
 resume-requires : tie.Need-resume-requires
-resume-requires c κs = (admitted-by _ _ _ _ _ (asking-passes (c .before .before .before .before .before .before .before .before .before .before .before .before .before .before .before .before .args .run .task) (now (c .before .before .before .before .before .before .before .before .before .before .before .before .before .before .before .before .args .upper)) (now (c .before .before .before .before .before .before .before .before .before .before .before .before .before .before .before .before .args .lower)) (now (c .before .before .before .before .before .before .before .before .before .before .before .before .before .before .before .before .args .table)) (c .before .before .before .before .before .before .before .before .before .before .check .result .ok) (ap (λ (x : Checked). x .ok) (c .before .before .before .before .before .before .before .before .before .before .check .ensures)) (sym (c .before .before .before .before .before .before .before .enum-told .given .1) ∙ c .before .before .before .before .before .before .before .before .before .asked .ensures (now (c .before .before .before .before .before .before .before .before .before .before .before .before .before .before .before .before .args .table)) (ap (λ (x : Checked). x .ok) (c .before .before .before .before .before .before .before .before .before .before .check .ensures)))) (ap (λ (x : Checked). x .first) (c .before .before .before .before .before .before .before .before .before .before .check .ensures)), (laid _ (c .before .before .before .before .before .before .before .before .before .before .check .result) (c .before .before .before .before .before .before .before .before .before .before .check .ensures), c .before .before .before .before .before .rows .ensures))
+resume-requires c κs = (admitted-by _ _ _ _ _ _ (asking-passes (c .before .before .before .before .before .before .before .before .before .before .before .before .before .before .before .before .args .run .task) (now (c .before .before .before .before .before .before .before .before .before .before .before .before .before .before .before .before .args .upper)) (now (c .before .before .before .before .before .before .before .before .before .before .before .before .before .before .before .before .args .lower)) (c .before .before .before .before .before .before .before .before .before .before .before .before .before .before .before .before .args .run .ceiling) (now (c .before .before .before .before .before .before .before .before .before .before .before .before .before .before .before .before .args .table)) (c .before .before .before .before .before .before .before .before .before .before .check .result .ok) (ap (λ (x : Checked). x .ok) (c .before .before .before .before .before .before .before .before .before .before .check .ensures)) (sym (c .before .before .before .before .before .before .before .enum-told .given .1) ∙ c .before .before .before .before .before .before .before .before .before .asked .ensures (now (c .before .before .before .before .before .before .before .before .before .before .before .before .before .before .before .before .args .table)) (ap (λ (x : Checked). x .ok) (c .before .before .before .before .before .before .before .before .before .before .check .ensures)))) (ap (λ (x : Checked). x .first) (c .before .before .before .before .before .before .before .before .before .before .check .ensures)), (laid _ (c .before .before .before .before .before .before .before .before .before .before .check .result) (c .before .before .before .before .before .before .before .before .before .before .check .ensures), c .before .before .before .before .before .rows .ensures))
 
 returns : tie.Need-returns
 returns c = let a = c .before .before .before .before .before .before .before .before .before .before .before .args in turned-outcome (now (a .table)) (now (a .upper)) (now (a .lower)) (a .run) (now (a .stack)) (a .allowance) (now (a .output)) _ (asking-turned _ _ (sym (c .before .before .asking .given .1) ∙ c .before .before .before .before .asked .ensures (now (a .table)) (ap (λ (x : Checked). x .ok) (c .before .before .before .before .before .check .ensures)))) _ (c .refused .ensures)

@@ -1,12 +1,8 @@
+-- The bottom frame is the last started state with nothing passed and no penalty.
 use borrow.Author.Needs.{needs}
-use Prim.Native.Nat.{_-_}
-use mathlib.Core.Path.{refl, sym, _∙_}
-use mathlib.Core.Bool.{_&&_}
-use lib.Dec.{eqb}
-use lib.ListN.{getD}
+use mathlib.Core.Path.{sym, _∙_}
 use denote.Ref.{now}
-use borrow.Author.Tests.{eq-eqb, ne-eqb}
-use Rattle.engine_place.proofs.Links.{fails-first, fails-second, holds-first}
+use Rattle.engine_place.proofs.Links.{bottom-elsewhere, bottom-up, bottom-low, bottom-sum}
 use Rattle.engine_place.proofs.bottom_holds.Statement.{statement}
 use Rattle.engine_place.proofs.bottom_holds.Tie as tie
 
@@ -23,13 +19,24 @@ cell-as-count-requires : tie.Need-cell-as-count-requires
 cell-as-count-requires c κs = search needs
 
 returns : tie.Need-returns
-returns c = fails-first (eqb (c .before .before .before .before .before .args .f .state) (getD (now (c .before .before .before .before .before .args .initials)) (c .before .before .before .before .before .args .started - 1) 0)) (eqb 0 (c .before .before .before .before .before .args .f .up) && eqb 0 (c .before .before .before .before .before .args .f .low)) (ne-eqb _ _ (λ e. c .if1 .taken (e ∙ sym (c .before .before .cell-as-count .ensures))))
+returns c =
+    let a = c .before .before .before .before .before .args in
+    bottom-elsewhere (now (a .initials)) (a .started) (a .f) (λ e. c .if1 .taken (e ∙ sym (c .before .before .cell-as-count .ensures)))
 
 returns-2 : tie.Need-returns-2
-returns-2 c = fails-second (eqb (c .before .before .before .before .before .before .before .args .f .state) (getD (now (c .before .before .before .before .before .before .before .args .initials)) (c .before .before .before .before .before .before .before .args .started - 1) 0)) (eqb 0 (c .before .before .before .before .before .before .before .args .f .up) && eqb 0 (c .before .before .before .before .before .before .before .args .f .low)) (sym (fails-first (eqb 0 (c .before .before .before .before .before .before .before .args .f .up)) (eqb 0 (c .before .before .before .before .before .before .before .args .f .low)) (ne-eqb _ _ (c .if2 .taken))))
+returns-2 c =
+    let a = c .before .before .before .before .before .before .before .args in
+    bottom-up (now (a .initials)) (a .started) (a .f) (c .if2 .taken)
 
 returns-3 : tie.Need-returns-3
-returns-3 c = holds-first (eqb (c .before .before .before .before .before .before .before .before .args .f .state) (getD (now (c .before .before .before .before .before .before .before .before .args .initials)) (c .before .before .before .before .before .before .before .before .args .started - 1) 0)) (eqb 0 (c .before .before .before .before .before .before .before .before .args .f .up) && eqb 0 (c .before .before .before .before .before .before .before .before .args .f .low)) _ (eq-eqb _ _ (c .before .before .before .if1 .left ∙ c .before .before .before .before .before .cell-as-count .ensures)) (holds-first (eqb 0 (c .before .before .before .before .before .before .before .before .args .f .up)) (eqb 0 (c .before .before .before .before .before .before .before .before .args .f .low)) _ (eq-eqb _ _ (c .before .if2 .left)) refl)
+returns-3 c =
+    let a = c .before .before .before .before .before .before .before .before .before .args in
+    bottom-low (now (a .initials)) (a .started) (a .f) (c .if3 .taken)
+
+returns-4 : tie.Need-returns-4
+returns-4 c =
+    let a = c .before .before .before .before .before .before .before .before .before .before .args in
+    bottom-sum (now (a .initials)) (a .started) (a .f) (c .before .before .before .before .before .if1 .left ∙ c .before .before .before .before .before .before .before .cell-as-count .ensures) (c .before .before .before .if2 .left) (c .before .if3 .left)
 
 pub bottom-holds-spec : {M : Type 1} → statement M
 bottom-holds-spec =
@@ -41,4 +48,5 @@ bottom-holds-spec =
     cell-as-count-requires
     returns
     returns-2
-    returns-3)
+    returns-3
+    returns-4)

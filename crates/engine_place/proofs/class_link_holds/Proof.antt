@@ -1,3 +1,4 @@
+-- A frame that the arc just tried below it makes by its class.
 use borrow.Author.Needs.{needs}
 use Prim.Native.Nat.{ℕ, _<_, _≤_}
 use native.Mathlib.Omega.{arith}
@@ -5,7 +6,7 @@ use mathlib.Core.Path.{sym, subst, _∙_}
 use denote.Ref.{now}
 use borrow.Author.Tests.{not-true, not-false}
 use Rattle.machine.specs.Query.{upperSide, lowerSide}
-use Rattle.engine_place.proofs.Links.{class-untried, class-plain, class-unfit, class-elsewhere, class-up, class-low}
+use Rattle.engine_place.proofs.Links.{class-untried, class-plain, class-unfit, class-elsewhere, class-up, class-low, class-sum}
 use Rattle.engine_place.proofs.class_link_holds.Statement.{statement}
 use Rattle.engine_place.proofs.class_link_holds.Tie as tie
 
@@ -63,20 +64,28 @@ returns-4 c =
     class-elsewhere (a .setup) (now (a .classes)) (now (a .first)) (now (a .arcs)) (now (a .upper)) (now (a .lower)) (a .g) (a .f) (c .before .before .before .before .before .before .before .before .before .arc-at .result) (c .before .before .before .before .before .before .before .before .before .arc-at .ensures) (λ e. c .if4 .taken (e ∙ sym (c .before .before .cell-as-count2 .ensures)))
 
 add-if5 : tie.Need-add-if5
-add-if5 c = omega (arith, c .before .before .before .before .before .before .before .before .before .before .before .before .before .before .before .before .before .before .before .pre .counts-small upperSide, c .before .before .before .before .before .before .before .before .before .before .before .before .before .before .before .before .before .before .before .pre .counts-small lowerSide)
+add-if5 c = omega (arith, c .before .before .before .before .before .before .before .before .before .before .before .before .before .before .before .before .before .before .before .pre .1 .counts-small upperSide)
 
 returns-5 : tie.Need-returns-5
 returns-5 c =
     let a = c .before .before .before .before .before .before .before .before .before .before .before .before .before .before .before .before .before .before .before .before .before .args in
     class-up (a .setup) (now (a .classes)) (now (a .first)) (now (a .arcs)) (now (a .upper)) (now (a .lower)) (a .g) (a .f) (c .before .before .before .before .before .before .before .before .before .before .before .before .arc-at .result) (c .before .before .before .before .before .before .before .before .before .before .before .before .arc-at .ensures) (c .if5 .taken)
 
-add-result : tie.Need-add-result
-add-result c = omega (arith, c .before .before .before .before .before .before .before .before .before .before .before .before .before .before .before .before .before .before .before .before .before .before .pre .counts-small upperSide, c .before .before .before .before .before .before .before .before .before .before .before .before .before .before .before .before .before .before .before .before .before .before .pre .counts-small lowerSide)
+add-if6 : tie.Need-add-if6
+add-if6 c = omega (arith, c .before .before .before .before .before .before .before .before .before .before .before .before .before .before .before .before .before .before .before .before .before .before .pre .1 .counts-small lowerSide)
 
 returns-6 : tie.Need-returns-6
 returns-6 c =
-    let a = c .before .before .before .before .before .before .before .before .before .before .before .before .before .before .before .before .before .before .before .before .before .before .before .args in
-    class-low (a .setup) (now (a .classes)) (now (a .first)) (now (a .arcs)) (now (a .upper)) (now (a .lower)) (a .g) (a .f) (c .before .before .before .before .before .before .before .before .before .before .before .before .before .before .arc-at .result) (c .before .before .before .before .before .before .before .before .before .before .before .before .before .before .arc-at .ensures) (c .before .before .before .before .before .before .before .before .before .class-fits .result) (c .before .before .before .before .before .before .before .before .before .before .before .letter-after .result) (c .before .before .before .before .before .before .before .before .before .before .letter-after2 .result) (c .before .before .before .before .before .before .before .before .before .before .before .letter-after .ensures) (c .before .before .before .before .before .before .before .before .before .before .letter-after2 .ensures) (c .before .before .before .before .before .before .before .before .before .class-fits .ensures) (subst (λ (x : ℕ). x < a .g .next) (c .before .before .before .before .before .before .before .before .before .before .before .before .before .before .before .before .cell-as-count .ensures) (c .before .before .before .before .before .before .before .before .before .before .before .before .before .before .before .if1 .left)) (c .before .before .before .before .before .before .before .before .before .before .before .before .if2 .left) (not-false _ (c .before .before .before .before .before .before .before .before .if3 .left)) (c .before .before .before .before .before .if4 .left ∙ c .before .before .before .before .before .before .before .cell-as-count2 .ensures) (c .before .before .if5 .left)
+    let a = c .before .before .before .before .before .before .before .before .before .before .before .before .before .before .before .before .before .before .before .before .before .before .before .before .args in
+    class-low (a .setup) (now (a .classes)) (now (a .first)) (now (a .arcs)) (now (a .upper)) (now (a .lower)) (a .g) (a .f) (c .before .before .before .before .before .before .before .before .before .before .before .before .before .before .before .arc-at .result) (c .before .before .before .before .before .before .before .before .before .before .before .before .before .before .before .arc-at .ensures) (c .if6 .taken)
+
+sum-holds-requires : tie.Need-sum-holds-requires
+sum-holds-requires c κs = search needs
+
+returns-7 : tie.Need-returns-7
+returns-7 c =
+    let a = c .before .before .before .before .before .before .before .before .before .before .before .before .before .before .before .before .before .before .before .before .before .before .before .before .before .args in
+    c .sum-holds .ensures ∙ class-sum (a .setup) (now (a .classes)) (now (a .first)) (now (a .arcs)) (now (a .upper)) (now (a .lower)) (a .g) (a .f) (c .before .before .before .before .before .before .before .before .before .before .before .before .before .before .before .before .arc-at .result) (c .before .before .before .before .before .before .before .before .before .before .before .before .before .before .before .before .arc-at .ensures) (c .before .before .before .before .before .before .before .before .before .before .before .class-fits .result) (c .before .before .before .before .before .before .before .before .before .before .before .before .before .letter-after .result) (c .before .before .before .before .before .before .before .before .before .before .before .before .letter-after2 .result) (c .before .before .before .before .before .before .before .before .before .before .before .before .before .letter-after .ensures) (c .before .before .before .before .before .before .before .before .before .before .before .before .letter-after2 .ensures) (c .before .before .before .before .before .before .before .before .before .before .before .class-fits .ensures) (subst (λ (x : ℕ). x < a .g .next) (c .before .before .before .before .before .before .before .before .before .before .before .before .before .before .before .before .before .before .cell-as-count .ensures) (c .before .before .before .before .before .before .before .before .before .before .before .before .before .before .before .before .before .if1 .left)) (c .before .before .before .before .before .before .before .before .before .before .before .before .before .before .if2 .left) (not-false _ (c .before .before .before .before .before .before .before .before .before .before .if3 .left)) (c .before .before .before .before .before .before .before .if4 .left ∙ c .before .before .before .before .before .before .before .before .before .cell-as-count2 .ensures) (c .before .before .before .before .if5 .left) (c .before .if6 .left)
 
 pub class-link-holds-spec : {M : Type 1} → statement M
 class-link-holds-spec =
@@ -99,5 +108,7 @@ class-link-holds-spec =
     returns-4
     add-if5
     returns-5
-    add-result
-    returns-6)
+    add-if6
+    returns-6
+    sum-holds-requires
+    returns-7)

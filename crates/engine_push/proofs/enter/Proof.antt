@@ -36,12 +36,12 @@ put-requires c κs = search needs
 same-length : tie.Need-same-length
 same-length c =
     let a = c .before .before .before .before .before .before .before .before .before .before .before .args in
-    ap length (c .before .before .put .ensures) ∙ length-put (now (a .stack)) (a .added .depth - 1) (frameBy (c .before .before .before .before .before .before .before .cell-as-count .result) (c .before .before .before .before .before .cell-as-count2 .result) (a .added .up) (a .added .low))
+    ap length (c .before .before .put .ensures) ∙ length-put (now (a .stack)) (a .added .depth - 1) (frameBy (c .before .before .before .before .before .before .before .cell-as-count .result) (c .before .before .before .before .before .cell-as-count2 .result) (a .added .up) (a .added .low) (a .added .sum))
 
 returns : tie.Need-returns
 returns c =
     let a = c .before .before .before .before .before .before .before .before .before .before .before .args in
-    c .before .before .put .ensures ∙ ap₂ (λ (x y : ℕ). putAt (now (a .stack)) (a .added .depth - 1) (frameBy x y (a .added .up) (a .added .low))) (c .before .before .before .before .before .before .before .cell-as-count .ensures) (c .before .before .before .before .before .cell-as-count2 .ensures)
+    c .before .before .put .ensures ∙ ap₂ (λ (x y : ℕ). putAt (now (a .stack)) (a .added .depth - 1) (frameBy x y (a .added .up) (a .added .low) (a .added .sum))) (c .before .before .before .before .before .before .before .cell-as-count .ensures) (c .before .before .before .before .before .cell-as-count2 .ensures)
 
 pub enter-spec : {M : Type 1} → statement M
 enter-spec =

@@ -4,7 +4,7 @@ use Prim.Native.Nat.{ℕ, _<_, _≤_}
 use mathlib.Core.Path.{sym, subst, _∙_}
 use denote.Ref.{now}
 use Rattle.machine.specs.Query.{upperSide, lowerSide}
-use Rattle.engine_step.proofs.Moves.{begins-is, state-indexed, drops-by, count-small, arc-in, arc-alike, skips-by, pushes-by}
+use Rattle.engine_step.proofs.Moves.{begins-is, state-indexed, drops-by, sum-small, count-small, arc-in, arc-alike, skips-by, pushes-by}
 use Rattle.engine_step.proofs.choose.Statement.{statement}
 use Rattle.engine_step.proofs.choose.Tie as tie
 
@@ -79,8 +79,11 @@ enum-told c = search needs
 enum-known-up : tie.Need-enum-known-up
 enum-known-up c = search needs
 
-above-requires : tie.Need-above-requires
-above-requires c κs = c .before .before .before .before .before .before .before .before .before .before .before .before .before .before .before .before .before .before .pre .0 .few-frames
+within-ceiling-requires : tie.Need-within-ceiling-requires
+within-ceiling-requires c κs =
+    let a = c .before .before .before .before .before .before .before .before .before .before .before .before .before .before .before .before .before .before .args in
+    let p = c .before .before .before .before .before .before .before .before .before .before .before .before .before .before .before .before .before .before .pre .0 in
+    ((omega arith, p .on-stack, p .few-frames), sum-small (a .setup) (now (a .classes)) (now (a .initials)) (now (a .arcs)) (now (a .upper)) (now (a .lower)) (a .run .started) (now (a .stack)) (now (a .first)) (a .run .depth) p (c .before .before .before .before .before .before .before .before .before .before .before .if1 .left) (c .before .before .before .before .before .before .before .before .before .before .look .result) (c .before .before .before .before .before .before .before .before .before .before .look .ensures))
 
 returns-3 : tie.Need-returns-3
 returns-3 c =
@@ -91,8 +94,8 @@ returns-3 c =
 returns-4 : tie.Need-returns-4
 returns-4 c =
     let a = c .before .before .before .before .before .before .before .before .before .before .before .before .before .before .before .before .before .before .before .args in
-    pushes-by (a .setup) (now (a .classes)) (now (a .initials)) (now (a .arcs)) (now (a .upper)) (now (a .lower)) (a .run .started) (now (a .stack)) (now (a .first)) (a .run .depth) (c .before .before .before .before .before .before .before .before .before .before .before .before .before .before .before .before .before .before .before .pre .0) (c .before .before .before .before .before .before .before .before .before .before .before .before .if1 .left) (c .before .before .before .before .before .before .before .before .before .before .before .look .result) (c .before .before .before .before .before .before .before .before .before .before .before .look .ensures)
-    (subst (λ (x : ℕ). c .before .before .before .before .before .before .before .before .before .before .before .look .result .next < x) (c .before .before .before .before .before .before .before .cell-as-index .ensures .0) (c .before .before .before .before .before .before .if2 .left)) (c .before .before .before .before .before .before .before .before .before .before .before .before .before .before .before .before .before .before .before .pre .1 .1) (c .before .before .before .before .before .arc-at .result) (c .before .before .before .before .before .arc-at .ensures) _ _ _ (c .above .ensures) (sym (c .before .before .up .given .1) ∙ c .before .before .before .before .fit .ensures)
+    c .within-ceiling .ensures ∙ pushes-by (a .setup) (now (a .classes)) (now (a .initials)) (now (a .arcs)) (now (a .upper)) (now (a .lower)) (a .run .started) (now (a .stack)) (now (a .first)) (a .run .depth) (c .before .before .before .before .before .before .before .before .before .before .before .before .before .before .before .before .before .before .before .pre .0) (c .before .before .before .before .before .before .before .before .before .before .before .before .if1 .left) (c .before .before .before .before .before .before .before .before .before .before .before .look .result) (c .before .before .before .before .before .before .before .before .before .before .before .look .ensures)
+    (subst (λ (x : ℕ). c .before .before .before .before .before .before .before .before .before .before .before .look .result .next < x) (c .before .before .before .before .before .before .before .cell-as-index .ensures .0) (c .before .before .before .before .before .before .if2 .left)) (c .before .before .before .before .before .before .before .before .before .before .before .before .before .before .before .before .before .before .before .pre .1 .1) (c .before .before .before .before .before .arc-at .result) (c .before .before .before .before .before .arc-at .ensures) _ _ (sym (c .before .before .up .given .1) ∙ c .before .before .before .before .fit .ensures)
 
 pub choose-spec : {M : Type 1} → statement M
 choose-spec =
@@ -117,6 +120,6 @@ choose-spec =
     fit-requires
     enum-told
     enum-known-up
-    above-requires
+    within-ceiling-requires
     returns-3
     returns-4)

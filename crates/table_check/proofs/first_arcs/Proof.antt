@@ -1,42 +1,43 @@
 use Prim.Native.Nat.{ℕ, _+_, _<_, _≤_, _-_}
 use native.Mathlib.Omega.{arith}
-use mathlib.Core.Path.{_≡_, refl, sym, ap, subst}
+use mathlib.Core.Path.{_≡_, sym, ap, subst}
 use mathlib.Core.List.{List}
 use denote.Ref.{now}
-use lib.ListN.{getD, set}
+use lib.ListN.{getD, set, drop, length-drop}
 use borrow.Author.Needs.{needs}
 use Rattle.table_format.specs.declared.Arc as Held
-use Rattle.table_format.specs.Table.{Arc}
-use Rattle.table_format.specs.Loaded.{arcsIn}
 use Rattle.table_format.specs.Cells.{arcCount, arcOf, arcsAs}
-use Rattle.table_format.proofs.Arcs.{arcs-next, length-arcs}
-use Rattle.table_format.proofs.Index.{ending-few, below-few, source-inside, Counts, Sums, counts-none, counts-more, sums-none, sums-more, sums-all}
+use Rattle.table_format.proofs.Arcs.{length-arcs}
+use Rattle.table_format.proofs.Index.{ending-few, below-few, source-inside, Counts, Sums, counts-last, counts-back, sums-none, sums-more, sums-all}
 use Rattle.table_check.proofs.first_arcs.Statement.{statement}
 use Rattle.table_check.proofs.first_arcs.Tie as tie
 
+-- the arcs from the last one back are counted
 abbrev Inv-loop : tie.InvT-loop
-Inv-loop cells states first₀ count n₀ first n = (count ≡ arcCount cells) × (n ≤ count) × Counts (arcsIn n cells) first
+Inv-loop cells states first₀ n₀ first n = (n ≤ arcCount cells) × Counts (drop n (arcsAs cells)) first
 
 abbrev μ-loop : tie.MeasureT-loop
-μ-loop cells states first₀ count n₀ first n = count - n
+μ-loop cells states first₀ n₀ first n = n
 
 abbrev Inv-loop2 : tie.InvT-loop2
-Inv-loop2 cells states first₀ count n q₀ first q = (q ≤ states) × Sums (arcsAs cells) q first
+Inv-loop2 cells states first₀ n q₀ first q = (q ≤ states) × Sums (arcsAs cells) q first
 
 abbrev μ-loop2 : tie.MeasureT-loop2
-μ-loop2 cells states first₀ count n q₀ first q = states - q
+μ-loop2 cells states first₀ n q₀ first q = states - q
 
 -- the source of the arc looked at, which is a state
-source-is : (c : tie.After-arc-at Inv-loop μ-loop Inv-loop2 μ-loop2) → arcOf (now (c .before .before .before .before .args .cells)) (c .before .before .loop .n) .source ≡ c .arc-at .result .source
+source-is : (c : tie.After-arc-at Inv-loop μ-loop Inv-loop2 μ-loop2) → arcOf (now (c .before .before .before .before .args .cells)) (c .before .before .loop .n - 1) .source ≡ c .arc-at .result .source
 source-is c = sym (ap (λ (a : Held.Arc). a .source) (c .arc-at .ensures))
 
 inside : (c : tie.After-arc-at Inv-loop μ-loop Inv-loop2 μ-loop2) → c .arc-at .result .source < c .before .before .before .before .args .states
 inside c =
-    omega (arith, source-is c, source-inside (c .before .before .before .before .args .states) (c .before .before .before .before .pre .1 .0) (now (c .before .before .before .before .args .cells)) (arcCount (now (c .before .before .before .before .args .cells))) (c .before .before .loop .n) (omega arith) (c .before .before .before .before .pre .1 .1))
+    omega (arith, source-is c, source-inside (c .before .before .before .before .args .states) (c .before .before .before .before .pre .1 .0) (now (c .before .before .before .before .args .cells)) (arcCount (now (c .before .before .before .before .args .cells))) (c .before .before .loop .n - 1) (omega arith) (c .before .before .before .before .pre .1 .1))
 
 loop-holds : tie.Need-loop-holds Inv-loop μ-loop Inv-loop2 μ-loop2
-unfolding arcsIn
-loop-holds c = (refl, omega arith, counts-none)
+loop-holds c = (omega arith, counts-last (now (c .before .args .cells)) (arcCount (now (c .before .args .cells))))
+
+sub-n : tie.Need-sub-n Inv-loop μ-loop Inv-loop2 μ-loop2
+sub-n c = search needs
 
 arc-at-requires : tie.Need-arc-at-requires Inv-loop μ-loop Inv-loop2 μ-loop2
 arc-at-requires c κs = omega arith
@@ -58,16 +59,14 @@ add-first c =
     let cells = now (c .before .before .before .before .before .args .cells) in
     let next = c .before .arc-at .result .source + 1 in
     let in-reach = inside (c .before) in
-    omega (arith, c .before .before .before .loop .inv .2 .1 next (omega arith), ending-few (arcsIn (c .before .before .before .loop .n) cells) next, length-arcs (c .before .before .before .loop .n) cells)
+    let l = c .before .before .before .loop in
+    omega (arith, l .inv .1 .1 next (omega arith), ending-few (drop (l .n) (arcsAs cells)) next, length-drop (l .n) (arcsAs cells), length-arcs (arcCount cells) cells)
 
 mul-first-2 : tie.Need-mul-first-2 Inv-loop μ-loop Inv-loop2 μ-loop2
 mul-first-2 c = omega (arith, inside (c .before))
 
 array-write-first : tie.Need-array-write-first Inv-loop μ-loop Inv-loop2 μ-loop2
 array-write-first c = omega (arith, inside (c .before))
-
-add-n : tie.Need-add-n Inv-loop μ-loop Inv-loop2 μ-loop2
-add-n c = search needs
 
 loop-less : tie.Need-loop-less Inv-loop μ-loop Inv-loop2 μ-loop2
 loop-less c = search needs
@@ -77,19 +76,17 @@ loop-again c =
     let cells = now (c .before .before .before .before .before .args .cells) in
     let l = c .before .before .before .loop in
     let first : List ℕ = l .first in
-    let a : Arc = arcOf cells (l .n) in
     let is = source-is (c .before) in
     let in-reach = inside (c .before) in (
-      l .inv .0,
       omega arith,
-      subst (λ (s : ℕ). Counts (arcsIn (l .n + 1) cells) (set first (s + 1) (getD first (s + 1) 0 + 1))) is
-          (subst (λ (arcs : List Arc). Counts arcs (set first (a .source + 1) (getD first (a .source + 1) 0 + 1))) (sym (arcs-next (l .n) cells)) (counts-more (arcsIn (l .n) cells) a first (omega arith) (l .inv .2))),
+      subst (λ (s : ℕ). Counts (drop (l .n - 1) (arcsAs cells)) (set first (s + 1) (getD first (s + 1) 0 + 1))) is
+          (counts-back cells (arcCount cells) (l .n) first (omega arith) (omega arith) (omega arith) (l .inv .1)),
     )
 
 loop2-holds : tie.Need-loop2-holds Inv-loop μ-loop Inv-loop2 μ-loop2
 loop2-holds c =
     let cells = now (c .before .before .before .args .cells) in
-    (omega arith, sums-none (arcsAs cells) (c .before .loop .first) (subst (λ (n : ℕ). Counts (arcsIn n cells) (c .before .loop .first)) (omega arith) (c .before .loop .inv .2)))
+    (omega arith, sums-none (arcsAs cells) (c .before .loop .first) (subst (λ (n : ℕ). Counts (drop n (arcsAs cells)) (c .before .loop .first)) {x = c .before .loop .n} {y = 0} (omega arith) (c .before .loop .inv .1)))
 
 add-first-2 : tie.Need-add-first-2 Inv-loop μ-loop Inv-loop2 μ-loop2
 add-first-2 c = search needs
@@ -144,6 +141,7 @@ first-arcs-spec =
     Inv-loop2
     μ-loop2
     loop-holds
+    sub-n
     arc-at-requires
     cast-next
     add-next
@@ -152,7 +150,6 @@ first-arcs-spec =
     add-first
     mul-first-2
     array-write-first
-    add-n
     loop-less
     loop-again
     loop2-holds

@@ -11,7 +11,7 @@ use Rattle.table_format.specs.Loaded.{arcCells}
 use Rattle.table_format.specs.Parse.{class, arc, codeOf, arcFrom}
 use Rattle.table_items.specs.Draft.{placeOf, filledAfter, itemCells}
 use Rattle.table_scanner.proofs.Padded.{byte-at, number-as, arc-as}
-use Rattle.table_items.proofs.LineKinds.{kind-one, cells-one, put-four}
+use Rattle.table_items.proofs.LineKinds.{kind-one, cells-one, put-five}
 use Rattle.table_items.proofs.Rows.{row-as}
 use Rattle.table_items.proofs.append.Statement.{statement}
 use Rattle.table_items.proofs.append.Tie as tie
@@ -93,6 +93,15 @@ mul-cells-5 c = search needs
 slice-write-cells-5 : tie.Need-slice-write-cells-5
 slice-write-cells-5 c = simp length-set (omega arith)
 
+add-cells-4 : tie.Need-add-cells-4
+add-cells-4 c = search needs
+
+mul-cells-6 : tie.Need-mul-cells-6
+mul-cells-6 c = search needs
+
+slice-write-cells-6 : tie.Need-slice-write-cells-6
+slice-write-cells-6 c = simp length-set (omega arith)
+
 add-result-2 : tie.Need-add-result-2
 add-result-2 c = search needs
 
@@ -107,10 +116,10 @@ returns-3 c =
     let filled = start .args .filled in
     λ k b e i p h.
     let d = kind-one (codeOf arc) k (sym (c .before .if2 .left) ∙ e) in
-    let told : item .source ∷ item .upper ∷ item .lower ∷ item .target ∷ [] ≡ arcCells (arcFrom b) =
-    ap (λ (a : Arc). a .source ∷ a .upper ∷ a .lower ∷ a .target ∷ []) (c .arc-in .ensures) ∙ ap arcCells (arc-as (start .args .bytes) b p) in (
+    let told : item .source ∷ item .upper ∷ item .lower ∷ item .target ∷ item .penalty ∷ [] ≡ arcCells (arcFrom b) =
+    ap (λ (a : Arc). a .source ∷ a .upper ∷ a .lower ∷ a .target ∷ a .penalty ∷ []) (c .arc-in .ensures) ∙ ap arcCells (arc-as (start .args .bytes) b p) in (
       sym (ap (λ j. filledAfter j b filled) d),
-      put-four cells filled (item .source) (item .upper) (item .lower) (item .target) ∙ ap (sets cells filled) told
+      put-five cells filled (item .source) (item .upper) (item .lower) (item .target) (item .penalty) ∙ ap (sets cells filled) told
           ∙ sym (ap (λ j. sets cells (placeOf j b filled) (itemCells j b)) d),
     )
 
@@ -139,6 +148,9 @@ append-spec =
     add-cells-3
     mul-cells-5
     slice-write-cells-5
+    add-cells-4
+    mul-cells-6
+    slice-write-cells-6
     add-result-2
     same-length-3
     returns-3)

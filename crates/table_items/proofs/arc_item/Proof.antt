@@ -1,16 +1,19 @@
 use native.Mathlib.Omega.{arith}
 use mathlib.Core.Path.{sym, ap, _∙_}
 use borrow.Author.Needs.{needs}
+use borrow.Author.Tests.{not-true, not-false}
 use Rattle.table_format.specs.Cells.{arcSaid}
-use Rattle.table_format.specs.Parse.{arc, codeOf, widthOf}
 use Rattle.table_scanner.proofs.Padded.{arc-as}
-use Rattle.table_items.proofs.LineKinds.{misplaced, placed, has-form, not-wide}
+use Rattle.table_items.proofs.LineKinds.{misplaced, placed}
 use Rattle.table_items.proofs.Judged.{given-keep, given-top, given-judged}
 use Rattle.table_items.proofs.arc_item.Statement.{statement}
 use Rattle.table_items.proofs.arc_item.Tie as tie
 
+is-arc-line-requires : tie.Need-is-arc-line-requires
+is-arc-line-requires c κs = search needs
+
 returns : tie.Need-returns
-returns c = λ b p q e. sym (misplaced _ (not-wide (codeOf arc) (widthOf arc) b (λ z. c .if1 .taken (q ∙ z))))
+returns c = λ b p q. sym (misplaced _ (sym (c .before .is-arc-line .ensures b p q) ∙ not-true _ (c .if1 .taken)))
 
 shared-slice-read-cell-as-index : tie.Need-shared-slice-read-cell-as-index
 shared-slice-read-cell-as-index c = search needs
@@ -59,22 +62,23 @@ arc-in-requires c κs = search needs
 
 arc-fault-requires : tie.Need-arc-fault-requires
 arc-fault-requires c κs =
-    let A = c .before .before .before .before .before .before .before .before .before .before .pre in (
+    let A = c .before .before .before .before .before .before .before .before .before .before .before .pre in (
       search needs,
       (given-keep A _ (omega (arith, c .before .before .before .before .before .before .cell-as-index .ensures .0, c .before .before .before .before .cell-as-index2 .ensures .0)), given-top A _ (omega (arith, c .before .before .before .before .before .before .cell-as-index .ensures .0, c .before .before .before .before .cell-as-index2 .ensures .0))),
     )
 
 returns-2 : tie.Need-returns-2
 returns-2 c =
-    λ b p q e.
+    λ b p q.
     c .arc-fault .ensures
-    ∙ given-judged (c .before .before .before .before .before .before .before .before .before .before .before .pre) _ (omega (arith, c .before .before .before .before .before .before .before .cell-as-index .ensures .0, c .before .before .before .before .before .cell-as-index2 .ensures .0)) (ap arcSaid (c .before .arc-in .ensures) ∙ arc-as (c .before .before .before .before .before .before .before .before .before .before .before .args .bytes) b p)
-    ∙ sym (placed _ (has-form (codeOf arc) (widthOf arc) b e (sym q ∙ c .before .before .before .before .before .before .before .before .before .if1 .left)))
+    ∙ given-judged (c .before .before .before .before .before .before .before .before .before .before .before .before .pre) _ (omega (arith, c .before .before .before .before .before .before .before .cell-as-index .ensures .0, c .before .before .before .before .before .cell-as-index2 .ensures .0)) (ap arcSaid (c .before .arc-in .ensures) ∙ arc-as (c .before .before .before .before .before .before .before .before .before .before .before .before .args .bytes) b p)
+    ∙ sym (placed _ (sym (c .before .before .before .before .before .before .before .before .before .before .is-arc-line .ensures b p q) ∙ not-false _ (c .before .before .before .before .before .before .before .before .before .if1 .left)))
 
 pub arc-item-spec : {M : Type 1} → statement M
 arc-item-spec =
     tie.close
     (tie.spec
+    is-arc-line-requires
     returns
     shared-slice-read-cell-as-index
     cell-as-index-requires

@@ -13,7 +13,7 @@ use Rattle.table_format.specs.Loaded.{rowsIn, arcsIn}
 use Rattle.table_format.specs.Cells.{arcCount, arcSaid, arcsAs}
 use Rattle.table_format.proofs.Arcs.{at-equal}
 use Rattle.table_order.specs.Order.{arcClassesHold}
-use Rattle.table_order.proofs.Rising.{class-turn}
+use Rattle.table_order.proofs.Rising.{test-turn}
 use Rattle.table_order.proofs.arc_classes_hold.Statement.{statement}
 use Rattle.table_order.proofs.arc_classes_hold.Tie as tie
 
@@ -38,7 +38,7 @@ turn c b e =
     let s = c .before .before .before .before .before .before in
     let l = c .before .before .before .loop in
     l .inv .1
-    ∙ class-turn (cells s) (l .n) (omega arith) (rows s) b (ap (λ (a : Held.Arc). arcClassHolds (rows s) (arcSaid a)) (sym (c .before .arc-at .ensures)) ∙ sym (c .arc-class-holds .ensures) ∙ e)
+    ∙ test-turn (cells s) (l .n) (omega arith) (arcClassHolds (rows s)) b (ap (λ (a : Held.Arc). arcClassHolds (rows s) (arcSaid a)) (sym (c .before .arc-at .ensures)) ∙ sym (c .arc-class-holds .ensures) ∙ e)
 
 loop-holds : tie.Need-loop-holds Inv-loop μ-loop
 loop-holds c = (omega arith, refl)

@@ -1,7 +1,7 @@
 -- At every turn, the bytes begin with the kind, the class and the letters passed.
 use Prim.Native.Nat.{_+_, _-_, _≤_}
 use native.Mathlib.Omega.{arith}
-use mathlib.Core.Path.{_≡_, refl, sym, ap}
+use mathlib.Core.Path.{_≡_, refl, sym}
 use mathlib.Core.List.{_∷_}
 use denote.Ref.{now}
 use lib.ListN.{length, take, length-set}
@@ -10,7 +10,7 @@ use borrow.Author.Needs.{needs}
 use Rattle.table_format.specs.Classes.{rowWidth, lettersIn}
 use Rattle.table_format.specs.Text.{lineBytes, classBytes}
 use Rattle.table_classes.proofs.Letters.{letters-few}
-use Rattle.table_printer.proofs.Lines.{length-line, letter-put, letters-put, line-as}
+use Rattle.table_printer.proofs.Lines.{length-line, letter-put, letters-put, line-told}
 use Rattle.table_printer.proofs.class_line.Statement.{statement}
 use Rattle.table_printer.proofs.class_line.Tie as tie
 
@@ -87,7 +87,7 @@ returns c =
     let was = c .before .before .before .before .before .before .loop in
     let row = now (args .row) in
     let said = letters-put (args .class) row (was .bytes) (was .k) (was .inv .4) (c .before .before .before .before .before .before .before .letters-in .result) (omega arith) (omega arith) in
-    (omega (arith, c .before .before .put-line .ensures .0, length-line (classBytes (args .class) row), ap length said), line-as _ _ _ _ _ said (c .before .before .put-line .ensures .1))
+    line-told _ _ _ _ _ _ said (c .before .before .put-line .ensures)
 
 pub class-line-spec : {M : Type 1} → statement M
 class-line-spec =

@@ -1,7 +1,7 @@
 -- At every turn, storing the lines of the states that are left gives what storing all of them gives.
 use Prim.Native.Nat.{_+_, _-_, _*_, _≤_}
 use native.Mathlib.Omega.{arith}
-use mathlib.Core.Path.{_≡_, refl, sym, _∙_}
+use mathlib.Core.Path.{_≡_, refl, sym, ap, _∙_}
 use mathlib.Core.List.{_∷_, map}
 use denote.Ref.{now}
 use lib.ListN.{length, drop}
@@ -67,7 +67,7 @@ returns : tie.Need-returns Inv-loop μ-loop
 returns c =
     let was = c .before .loop in
     let args = c .before .before .before .before .args in
-    (omega arith, sym (lines-end (λ s. args .kind ∷ number s) 0 (was .text) (was .to) (now (args .list)) (was .k) (c .loop-test .left)) ∙ was .inv .1 .1 .1)
+    (omega arith, sym (ap (sets (was .text) (was .to)) (lines-end (λ s. args .kind ∷ number s) 0 (now (args .list)) (was .k) (c .loop-test .left))) ∙ was .inv .1 .1 .1)
 
 pub state-lines-spec : {M : Type 1} → statement M
 state-lines-spec =

@@ -1,6 +1,6 @@
 //! A word run as a session runs it, both engines in turn.
 use super::lists::List;
-use readings::limits::FRAME_CELLS;
+use readings::limits::{FRAME_CELLS, MOST_CEILING};
 use readings_check::answer::{Answer, ENDED, FOUND, Run};
 use readings_check::engine::{Engine, Next, Start};
 use std::hint::black_box;
@@ -63,6 +63,7 @@ fn start(engine: &impl Engine, table: &[u16], word: &[u8]) -> (Answer, Run) {
     let start = Start {
         table,
         task: SYNTHESIS,
+        ceiling: MOST_CEILING,
         upper: word,
         lower: &[],
     };

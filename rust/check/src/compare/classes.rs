@@ -36,13 +36,18 @@ pub fn damage_cells(random: &mut Random, cells: &mut [u16]) {
     }
 }
 
-/// The letters of an arc; it may lie beyond the end, and then nothing is changed.
-fn damage_arc_cells(random: &mut Random, cells: &mut [u16]) {
+/// Where the cells of an arc stand, as the counts have it.
+pub fn some_arc(random: &mut Random, cells: &[u16]) -> usize {
     let count = |k: usize| usize::from(cells[k]);
     let arc = random.below(count(3).max(1));
-    let at = INITIALS_AT + count(1) + count(2) + ARC_CELLS * arc;
+    INITIALS_AT + count(1) + count(2) + ARC_CELLS * arc
+}
+
+/// The letters of an arc; it may lie beyond the end, and then nothing is changed.
+fn damage_arc_cells(random: &mut Random, cells: &mut [u16]) {
+    let at = some_arc(random, cells);
     let letter = u16::from(*random.pick(&LETTERS));
-    if let Some([_, upper, lower, _]) = cells.get_mut(at..at + ARC_CELLS) {
+    if let Some([_, upper, lower, ..]) = cells.get_mut(at..at + ARC_CELLS) {
         match random.below(3) {
             0 => *upper = letter,
             1 => *lower = letter,
@@ -52,12 +57,12 @@ fn damage_arc_cells(random: &mut Random, cells: &mut [u16]) {
 }
 
 /// The lines of a text as bytes; one that is malformed has none.
-fn split(source: &[u8]) -> Vec<Vec<u8>> {
+pub fn split(source: &[u8]) -> Vec<Vec<u8>> {
     let lines = text::lines(source).map(|line| text::line_bytes(line).unwrap_or_default());
     lines.collect()
 }
 
-fn joined(lines: &[Vec<u8>]) -> Vec<u8> {
+pub fn joined(lines: &[Vec<u8>]) -> Vec<u8> {
     lines.iter().flat_map(|bytes| text::line(bytes)).collect()
 }
 
@@ -114,10 +119,15 @@ fn spoil(random: &mut Random, line: &mut Vec<u8>) {
     }
 }
 
+/// Whether the bytes are those of an arc's line, with or without a penalty.
+pub fn is_arc(bytes: &[u8]) -> bool {
+    matches!((bytes.first(), bytes.len()), (Some(4), 7) | (Some(7), 8))
+}
+
 /// Some parts of an arc's line changed.
 pub fn damage_arc_line(random: &mut Random, source: &mut Vec<u8>) {
     let mut lines = split(source);
-    let is_arc = |bytes: &&mut Vec<u8>| bytes.len() == 7 && bytes[0] == 4;
+    let is_arc = |bytes: &&mut Vec<u8>| is_arc(bytes);
     let mut arcs: Vec<&mut Vec<u8>> = lines.iter_mut().filter(is_arc).collect();
     if arcs.is_empty() {
         return;

@@ -4,7 +4,7 @@ use super::tally::Tally;
 use crate::answer::{Answer, ENDED, FOUND, Run};
 use crate::draw::lists;
 use crate::engine::{Engine, Next, Start, Trees};
-use crate::query::SYNTHESIS;
+use crate::query::{MOST_CEILING, SYNTHESIS};
 use crate::random::Random;
 use crate::words;
 use readings::limits::{TREE_CELLS, output_letters, stack_cells};
@@ -60,6 +60,7 @@ pub fn synthesis(engine: &impl Engine, table: &[u16], word: &[u8]) -> Result<Vec
     let start = Start {
         table,
         task: SYNTHESIS,
+        ceiling: MOST_CEILING,
         upper: word,
         lower: &[],
     };

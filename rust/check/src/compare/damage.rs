@@ -1,11 +1,13 @@
 //! Calls on what no search left: runs, frames, stacks, tables and words with damage, or made of anything.
 use super::call::{self, Call};
 use super::classes;
+use super::penalties::damage_cells as damage_penalties;
 use super::tally::Tally;
 use crate::answer::Run;
-use crate::draw;
+use crate::draw::{self, Asked, penalties};
 use crate::engine::Engine;
 use crate::model::Model;
+use crate::query::MOST_CEILING;
 use crate::random::Random;
 use crate::table;
 use readings::limits::{ARC_CELLS, CLASSES_AT, FRAME_CELLS, INITIALS_AT};
@@ -15,15 +17,16 @@ fn place(random: &mut Random) -> Call {
     let task = random.within(1, 3) as u32;
     let falling = random.one_in(2);
     let table = draw::table(random, task, falling);
-    let (upper, lower) = draw::words(random, &table, task);
+    let Asked {
+        upper,
+        lower,
+        ceiling,
+    } = draw::asked(random, &table, task);
     let mut call = Call {
         table: table.cells(),
         upper,
         lower,
-        run: Run {
-            task,
-            ..Run::default()
-        },
+        run: Run::under(task, ceiling),
         stack: (0..FRAME_CELLS * random.within(1, 40))
             .map(|_| random.below(4) as u32)
             .collect(),
@@ -54,11 +57,21 @@ fn near_cell(random: &mut Random, x: u16) -> u16 {
 }
 
 fn damage_run(random: &mut Random, call: &mut Call) {
-    match random.below(3) {
+    match random.below(6) {
         0 => call.run.task = near(random, call.run.task),
         1 => call.run.started = near(random, call.run.started),
-        _ => call.run.depth = near(random, call.run.depth),
+        2 => call.run.depth = near(random, call.run.depth),
+        3 => call.run.ceiling = *random.pick(&penalties::EDGES),
+        _ => call.run.ceiling = another_ceiling(random, call),
     }
+}
+
+/// A ceiling about the highest sum of the used frames, or any.
+fn another_ceiling(random: &mut Random, call: &Call) -> u32 {
+    let used = call.stack.chunks(FRAME_CELLS).take(call.run.depth as usize);
+    let sums = used.filter_map(|frame| frame.get(FRAME_CELLS - 1));
+    let highest = sums.copied().max().unwrap_or(0);
+    penalties::ceiling(random, highest.min(MOST_CEILING))
 }
 
 /// A cell of a used frame, or two frames exchanged.
@@ -74,18 +87,21 @@ fn damage_frames(random: &mut Random, call: &mut Call) {
             call.stack.swap(FRAME_CELLS * a + k, FRAME_CELLS * b + k);
         }
     } else {
-        let at = random.below(used);
+        let mut at = random.below(used);
+        if random.one_in(4) {
+            at += FRAME_CELLS - 1 - at % FRAME_CELLS; // its sum
+        }
         call.stack[at] = near(random, call.stack[at]);
     }
 }
 
-/// A cell, a fault of classes, two arcs' worth of cells exchanged or made equal, cells cut off or put after it.
+/// A cell, a fault of classes, a penalty, two arcs' worth of cells exchanged or made equal, cells cut off or put after it.
 fn damage_table(random: &mut Random, call: &mut Call) {
     let table = &mut call.table;
     if table.is_empty() {
         return;
     }
-    match random.below(7) {
+    match random.below(8) {
         0 | 1 => {
             let at = classes::some_cell(random, table);
             table[at] = near_cell(random, table[at]);
@@ -93,6 +109,7 @@ fn damage_table(random: &mut Random, call: &mut Call) {
         2 => table.truncate(random.below(table.len())),
         3 => table.extend([1, 2, 3]),
         4 | 5 => classes::damage_cells(random, table),
+        6 => damage_penalties(random, table),
         _ if table.len() >= INITIALS_AT + 2 * ARC_CELLS => {
             let (a, b) = (table.len() - 2 * ARC_CELLS, table.len() - ARC_CELLS);
             if random.one_in(2) {
@@ -171,23 +188,22 @@ pub fn arbitrary(
     };
     let mut numbers =
         |count: usize| -> Vec<u32> { (0..count).map(|_| random.below(most) as u32).collect() };
-    let run = numbers(3);
+    let run = numbers(4);
     let words = numbers(8);
-    let stack = numbers(23);
+    let stack = numbers(28);
+    let word = |at: usize| {
+        let letters = words[..words[at] as usize % 4].iter();
+        letters.map(|x| *x as u8).collect()
+    };
     let mut call = Call {
         table,
-        upper: words[..words[6] as usize % 4]
-            .iter()
-            .map(|x| *x as u8)
-            .collect(),
-        lower: words[..words[7] as usize % 4]
-            .iter()
-            .map(|x| *x as u8)
-            .collect(),
+        upper: word(6),
+        lower: word(7),
         run: Run {
             task: run[0],
             started: run[1],
             depth: run[2],
+            ceiling: run[3],
         },
         stack,
         allowance: random.below(40) as u32,

@@ -5,14 +5,14 @@ use crate::engine::{Engine, Sheets, Texts, Trees};
 
 /// Starts and lists of calls on one run.
 pub fn searches(engine: &impl Engine) -> Result<Tally, String> {
-    series("searches", 0x5EA2C4, 15_000, |random, tally| {
+    series("searches", 0x5EA2C4, 17_000, |random, tally| {
         search::any(engine, random, tally)
     })
 }
 
 /// Starts on good and bad tables, tasks and words.
 pub fn starts(engine: &impl Engine) -> Result<Tally, String> {
-    series("starts", 0x57A275, 20_000, |random, tally| {
+    series("starts", 0x57A275, 25_000, |random, tally| {
         start::any(engine, random, tally)
     })
 }

@@ -17,7 +17,7 @@ pub enum Loops {
 /// Where they lie; none where they lie otherwise, or where the start is refused for something else.
 pub fn of(start: &Start) -> Option<Loops> {
     let table = Table::loaded(&start.table)?;
-    if query::fault(start.task, &start.upper, &start.lower).is_some() {
+    if query::fault(start.task, start.ceiling, &start.upper, &start.lower).is_some() {
         return None;
     }
     let has_cycle = |table: &Table| idle::shown(table, start.task).is_some();

@@ -10,6 +10,8 @@ mod flaws;
 pub mod listed;
 pub mod loops;
 pub mod page;
+mod penalties;
+pub mod pieces;
 pub mod rival;
 pub mod search;
 pub mod sheets;
@@ -27,6 +29,7 @@ const RUN_GUARD: Run = Run {
     task: 77,
     started: 78,
     depth: 79,
+    ceiling: 80,
 };
 
 /// A series of cases from one seed. The first difference is told with its seed and case, which repeat it.

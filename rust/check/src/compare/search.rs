@@ -3,7 +3,7 @@ use super::call::{self, Call};
 use super::start::{self, Start};
 use super::tally::Tally;
 use crate::answer::{Answer, ENDED, FOUND, Run};
-use crate::draw;
+use crate::draw::{self, Asked};
 use crate::engine::Engine;
 use crate::lister::{self, Listing};
 use crate::random::Random;
@@ -42,22 +42,21 @@ fn begin(
     engine: &impl Engine,
     table: &Table,
     task: u32,
-    words: (Vec<u8>, Vec<u8>),
+    asked: Asked,
     tally: &mut Tally,
 ) -> Result<Option<Way>, String> {
-    let (upper, lower) = words;
-    let start = Start {
-        table: table.cells(),
-        task,
-        upper,
-        lower,
-    };
+    let start = Start::of(table, task, asked);
     let (answer, run) = start::compare(engine, &start)?;
     tally.add_start(&start, answer);
-    let Start { upper, lower, .. } = start;
+    let Start {
+        ceiling,
+        upper,
+        lower,
+        ..
+    } = start;
     Ok((!answer.is_refused()).then(|| Way {
         cells: start.table,
-        listing: lister::list(table, task, &upper, &lower, LISTED),
+        listing: lister::list_under(table, task, ceiling, &upper, &lower, LISTED),
         enough: lister::enough_frames(table, &upper, &lower),
         upper,
         lower,
@@ -200,8 +199,8 @@ pub fn any(engine: &impl Engine, random: &mut Random, tally: &mut Tally) -> Resu
     let task = random.within(1, 3) as u32;
     let falling = !random.one_in(5);
     let table = draw::table(random, task, falling);
-    let words = draw::words(random, &table, task);
-    let Some(mut way) = begin(engine, &table, task, words, tally)? else {
+    let asked = draw::asked(random, &table, task);
+    let Some(mut way) = begin(engine, &table, task, asked, tally)? else {
         return Ok(());
     };
     for _ in 0..random.within(1, 20) {

@@ -1,8 +1,9 @@
 //! One start: the answer, the run, and the cycle that the answer holds.
+use super::penalties::damage_cells as damage_penalties;
 use super::tally::Tally;
 use super::{RUN_GUARD, classes, loops, rival, same};
 use crate::answer::{Answer, Run, Started};
-use crate::draw;
+use crate::draw::{self, Asked, penalties};
 use crate::engine::{self, Engine};
 use crate::lent::Lent;
 use crate::model::Model;
@@ -14,15 +15,33 @@ use crate::table::Table;
 pub struct Start {
     pub table: Vec<u16>,
     pub task: u32,
+    pub ceiling: u32,
     pub upper: Vec<u8>,
     pub lower: Vec<u8>,
 }
 
 impl Start {
+    /// A start of a task on a table, with what is asked.
+    pub fn of(table: &Table, task: u32, asked: Asked) -> Start {
+        let Asked {
+            upper,
+            lower,
+            ceiling,
+        } = asked;
+        Start {
+            table: table.cells(),
+            task,
+            ceiling,
+            upper,
+            lower,
+        }
+    }
+
     pub fn lend(&self) -> engine::Start<'_> {
         engine::Start {
             table: &self.table,
             task: self.task,
+            ceiling: self.ceiling,
             upper: &self.upper,
             lower: &self.lower,
         }
@@ -53,6 +72,7 @@ fn check(engine: &impl Engine, start: &Start) -> Result<(Answer, Run), String> {
         task: 9,
         started: 9,
         depth: 9,
+        ceiling: 9,
     }];
     let mut expected_run = stale[0];
     let expected = Model.start(start.lend(), &mut expected_run);
@@ -63,6 +83,7 @@ fn check(engine: &impl Engine, start: &Start) -> Result<(Answer, Run), String> {
     let lent = engine::Start {
         table: table.lend(),
         task: start.task,
+        ceiling: start.ceiling,
         upper: upper.lend(),
         lower: lower.lend(),
     };
@@ -83,15 +104,13 @@ pub fn compare(engine: &impl Engine, start: &Start) -> Result<(Answer, Run), Str
     })
 }
 
-/// A start of a task on a table, with words that may pass.
+/// A start of a task on a table, with words that may pass, under a ceiling that keeps the limit, mostly.
 fn on(random: &mut Random, table: &Table, task: u32) -> Start {
-    let (upper, lower) = draw::words(random, table, task);
-    Start {
-        table: table.cells(),
-        task,
-        upper,
-        lower,
+    let mut start = Start::of(table, task, draw::asked(random, table, task));
+    if random.one_in(8) {
+        start.ceiling = *random.pick(&penalties::EDGES);
     }
+    start
 }
 
 /// A start of any task on a random table, with and without idle cycles, with words that may be bad.
@@ -123,16 +142,17 @@ const TASKS: [u32; 10] = [0, 1, 2, 3, 4, 255, 257, 258, 65_539, u32::MAX];
 
 /// One thing made bad, or nearly.
 fn spoil(random: &mut Random, start: &mut Start) {
-    match random.below(7) {
+    match random.below(8) {
         0 => start.task = *random.pick(&TASKS),
         1 => start.upper = word(random),
         2 => start.lower = word(random),
         3 => {
             let at = classes::some_cell(random, &start.table);
-            start.table[at] = *random.pick(&[0, 1, 2, 63, 64, 71, 72, 256, 65_535]);
+            start.table[at] = *random.pick(&[0, 1, 2, 63, 64, 71, 72, 255, 256, 65_535]);
         }
         4 => start.table.truncate(random.below(start.table.len())),
         5 => classes::damage_cells(random, &mut start.table),
+        6 => damage_penalties(random, &mut start.table),
         _ => start.table.extend([7, 9]), // cells after a table are nobody's
     }
 }

@@ -1,6 +1,6 @@
 //! A table's text read and written: the answer and every cell of the destination.
 use super::tally::Tally;
-use super::{about, classes, filled, same};
+use super::{about, classes, filled, penalties, same};
 use crate::answer::{Answer, DONE};
 use crate::draw;
 use crate::engine::Texts;
@@ -50,7 +50,7 @@ pub fn round_trip(
 }
 
 /// A character of a text changed, put in or taken out; a line doubled, taken out or exchanged with the next; an end cut off or put on; a
-/// fault in the line of a class or an arc.
+/// fault in the line of a class or an arc, or of its penalty.
 fn damage(random: &mut Random, source: &mut Vec<u8>) {
     let digits = b"0123456789ABCDEF";
     let others = b"abcfgG :/@`\n\r\0\x7F\xFF";
@@ -58,7 +58,7 @@ fn damage(random: &mut Random, source: &mut Vec<u8>) {
         return;
     }
     let at = random.below(source.len());
-    match random.below(13) {
+    match random.below(15) {
         0..=2 => source[at] = *random.pick(digits),
         3 => source[at] = *random.pick(others),
         4 => source.insert(at, *random.pick(digits)),
@@ -70,6 +70,7 @@ fn damage(random: &mut Random, source: &mut Vec<u8>) {
         }
         8 => damage_lines(random, source),
         9 | 10 => classes::damage_class_line(random, source),
+        11 | 12 => penalties::damage_line(random, source),
         _ => classes::damage_arc_line(random, source),
     }
 }
@@ -105,10 +106,11 @@ pub fn damaged(texts: &impl Texts, random: &mut Random, tally: &mut Tally) -> Re
     }
     let mut cells = table.cells();
     let at = classes::some_cell(random, &cells);
-    match random.below(5) {
+    match random.below(6) {
         0 => cells[at] = random.below(300) as u16,
         1 => cells[at] = random.below(4) as u16,
         2 => cells.truncate(at),
+        3 => penalties::damage_cells(random, &mut cells),
         _ => classes::damage_cells(random, &mut cells),
     }
     tally.add(write(texts, &cells, about(random, source.len()))?);

@@ -1,9 +1,9 @@
 //! The table check, and where each state's arcs begin.
 use super::classes::{self, Classes};
-use super::scan;
+use super::{fault, scan};
 use readings::limits::{ARC_CELLS, CLASSES_AT};
 
-/// Source, upper letter, lower letter, target.
+/// Source, upper letter, lower letter, target, penalty.
 pub type Arc = [u16; ARC_CELLS];
 
 /// The parts of a table that keeps the rules.
@@ -45,9 +45,9 @@ fn terminals_hold(list: &[u16], states: u16) -> bool {
     rise && list.last().is_none_or(|last| *last < states)
 }
 
-/// Sources that do not fall and no arc twice, for arcs in any order.
+/// Sources that do not fall and no arc twice, for arcs in any order. Penalties are not compared.
 #[cold]
-fn distinct(arcs: &[Arc]) -> bool {
+fn distinct<const FAULT: u8>(arcs: &[Arc]) -> bool {
     let mut begin = 0;
     for (k, arc) in arcs.iter().enumerate() {
         if arc[0] < arcs[begin][0] {
@@ -56,7 +56,11 @@ fn distinct(arcs: &[Arc]) -> bool {
         if arc[0] > arcs[begin][0] {
             begin = k;
         }
-        if arcs[begin..k].contains(arc) {
+        let same = |other: &Arc| match FAULT {
+            fault::PENALTY_COMPARED => other == arc,
+            _ => scan::lanes(other) == scan::lanes(arc),
+        };
+        if arcs[begin..k].iter().any(same) {
             return false;
         }
     }
@@ -77,7 +81,7 @@ fn fill(first: &mut [u16]) {
 
 /// The parts of a table; none where it breaks a rule.
 #[inline(always)]
-pub fn check<const VECTOR: bool>(table: &[u16]) -> Option<View<'_>> {
+pub fn check<const FAULT: u8, const VECTOR: bool>(table: &[u16]) -> Option<View<'_>> {
     let (counts, rest) = table.split_first_chunk::<CLASSES_AT>()?;
     let [states, initials, terminals, arcs] = *counts;
     if !counts_hold(*counts) {
@@ -94,14 +98,14 @@ pub fn check<const VECTOR: bool>(table: &[u16]) -> Option<View<'_>> {
     let classes = classes::read(classes)?;
     let mut first = [0; 257];
     let seen = if VECTOR {
-        scan::vector(arcs, states, &mut first)
+        scan::vector::<FAULT>(arcs, states, &mut first)
     } else {
-        scan::portable(arcs, states, &mut first)
+        scan::portable::<FAULT>(arcs, states, &mut first)
     };
     if !seen.within || !(seen.plain || classes::hold(&classes, arcs)) {
         return None;
     }
-    if !seen.rising && !distinct(arcs) {
+    if !seen.rising && !distinct::<FAULT>(arcs) {
         return None;
     }
     fill(&mut first[..=states as usize]);

@@ -1,6 +1,7 @@
 //! The search for an idle cycle that is reached. Idle arcs whose target has none fall away until nothing changes; what is left leads
 //! round, and only then it matters what is reached, and which cycle is shown.
 use super::check::{Arc, View};
+use super::fault;
 use super::shown::{self, Step};
 use crate::answer::CYCLE;
 use crate::engine::Start;
@@ -21,7 +22,10 @@ pub fn find<const UP: bool, const LOW: bool, const FAULT: u8>(
     let mut count = 0;
     let mut leaving = [0u16; 256]; // idle arcs from each state
     for arc in view.arcs.iter().rev() {
-        let is_idle = is_idle::<UP, LOW>(arc);
+        let mut is_idle = is_idle::<UP, LOW>(arc);
+        if FAULT == fault::PENALTY_NOT_IDLE {
+            is_idle &= arc[4] == 0;
+        }
         idle[count & 1023] = [arc[0] as u8, arc[3] as u8];
         count += usize::from(is_idle);
         leaving[arc[0] as usize & 255] += u16::from(is_idle);

@@ -120,3 +120,26 @@ pub const CLASS_WRITTEN: u8 = 56;
 pub const UNLIKE_IN_CLASS: u8 = 57;
 /// The zeros that fill up the row of a class count as its letters, and a word's end as a 0.
 pub const NOUGHT_IN_CLASS: u8 = 58;
+
+/// An arc that lifts the sum to the ceiling, and not over it, does not fit.
+pub const CEILING_MISSED: u8 = 59;
+/// A penalty is held against the ceiling, but not added to the sum.
+pub const UNSUMMED: u8 = 60;
+/// A call that goes on takes the top frame's sum for 0.
+pub const SUM_LOST: u8 = 61;
+/// The sums of used frames are not looked at.
+pub const SUM_TRUSTED: u8 = 62;
+/// A ceiling over 100,000 is looked for after the place.
+pub const CEILING_AFTER_PLACE: u8 = 63;
+/// A ceiling over 100,000 is looked for after idle cycles.
+pub const CEILING_AFTER_CYCLES: u8 = 64;
+/// A ceiling over 100,000 is looked for before the words.
+pub const CEILING_BEFORE_WORDS: u8 = 65;
+/// A ceiling may be over 100,000.
+pub const CEILING_ANY: u8 = 66;
+/// Arcs that differ by their penalties alone count as different.
+pub const PENALTY_COMPARED: u8 = 67;
+/// A loaded penalty may be over 255.
+pub const PENALTY_256: u8 = 68;
+/// An arc with a penalty is not idle.
+pub const PENALTY_NOT_IDLE: u8 = 69;

@@ -16,6 +16,7 @@ mod words;
 use crate::answer::{Answer, Run, Started};
 use crate::engine::{Engine, Next, Sheet, Sheets, Start, Trees};
 use check::View;
+use readings::limits::MOST_CEILING;
 use search::Search;
 
 /// The twin, with a planted fault; with or without instructions that look at several arcs at once.
@@ -28,14 +29,18 @@ pub const SOUND: Twin<{ fault::NONE }> = Twin;
 /// The same in plain Rust.
 pub const PLAIN: Twin<{ fault::NONE }, false> = Twin;
 
+fn is_over(ceiling: u32) -> bool {
+    ceiling > MOST_CEILING
+}
+
 fn word_holds(word: &[u8]) -> bool {
     word.len() <= 64 && word.iter().fold(true, |ok, x| ok & (1..=63).contains(x))
 }
 
-/// 20, 11, 10.
+/// 20, 11, 10, and 39 where the ceiling is not looked at later.
 #[inline(always)]
-fn ask<const VECTOR: bool>(start: Start) -> Result<View, u32> {
-    let view = check::check::<VECTOR>(start.table).ok_or(20u32)?;
+fn ask<const FAULT: u8, const VECTOR: bool>(start: Start, late: bool) -> Result<View, u32> {
+    let view = check::check::<FAULT, VECTOR>(start.table).ok_or(20u32)?;
     let sides_hold = match start.task {
         1 => true,
         2 => start.lower.is_empty(),
@@ -45,8 +50,14 @@ fn ask<const VECTOR: bool>(start: Start) -> Result<View, u32> {
     if !sides_hold {
         return Err(11);
     }
+    if FAULT == fault::CEILING_BEFORE_WORDS && is_over(start.ceiling) {
+        return Err(39);
+    }
     if !word_holds(start.upper) || !word_holds(start.lower) {
         return Err(10);
+    }
+    if !late && is_over(start.ceiling) {
+        return Err(39);
     }
     Ok(view)
 }
@@ -54,7 +65,8 @@ fn ask<const VECTOR: bool>(start: Start) -> Result<View, u32> {
 impl<const FAULT: u8, const VECTOR: bool> Engine for Twin<FAULT, VECTOR> {
     #[inline(never)]
     fn start(&self, start: Start, run: &mut Run) -> Started {
-        let view = match ask::<VECTOR>(start) {
+        let late = matches!(FAULT, fault::CEILING_AFTER_CYCLES | fault::CEILING_ANY);
+        let view = match ask::<FAULT, VECTOR>(start, late) {
             Ok(view) => view,
             Err(number) => return Started::bare(Answer::refused(number, 0)),
         };
@@ -69,7 +81,10 @@ impl<const FAULT: u8, const VECTOR: bool> Engine for Twin<FAULT, VECTOR> {
             _ => cycle::find::<false, true, FAULT>(&view, start, cycle),
         };
         if found == 0 {
-            *run = Run::of(task);
+            if FAULT == fault::CEILING_AFTER_CYCLES && is_over(start.ceiling) {
+                return Started::bare(Answer::refused(39, 0));
+            }
+            *run = Run::under(task, start.ceiling);
         } else {
             started.answer = Answer {
                 length: found as u32,
@@ -81,7 +96,8 @@ impl<const FAULT: u8, const VECTOR: bool> Engine for Twin<FAULT, VECTOR> {
 
     #[inline(never)]
     fn next(&self, call: Next) -> Answer {
-        let view = match ask::<VECTOR>(call.start()) {
+        let late = matches!(FAULT, fault::CEILING_AFTER_PLACE | fault::CEILING_ANY);
+        let view = match ask::<FAULT, VECTOR>(call.start(), late) {
             Ok(view) => view,
             Err(number) => return Answer::refused(number, 0),
         };

@@ -3,9 +3,9 @@ use super::check::{Arc, View};
 use super::{classes, fault};
 use crate::answer::{Answer, Run};
 use crate::engine::Next;
-use readings::limits::FRAME_CELLS;
+use readings::limits::{FRAME_CELLS, MOST_CEILING};
 
-/// State, next arc, letters passed above and below.
+/// State, next arc, letters passed above and below, sum of penalties.
 pub type Frame = [u32; FRAME_CELLS];
 
 pub struct Search<'a, const UP: bool, const LOW: bool, const FAULT: u8> {
@@ -15,6 +15,7 @@ pub struct Search<'a, const UP: bool, const LOW: bool, const FAULT: u8> {
     lower: [u8; 128],
     upper_length: u32,
     lower_length: u32,
+    pub ceiling: u32,
 }
 
 fn padded(word: &[u8]) -> [u8; 128] {
@@ -32,6 +33,7 @@ impl<'a, const UP: bool, const LOW: bool, const FAULT: u8> Search<'a, UP, LOW, F
             lower: padded(call.lower),
             upper_length: call.upper.len() as u32,
             lower_length: call.lower.len() as u32,
+            ceiling: call.run.ceiling,
         }
     }
 
@@ -48,8 +50,15 @@ impl<'a, const UP: bool, const LOW: bool, const FAULT: u8> Search<'a, UP, LOW, F
         (self.view.first[at].into(), self.view.first[at + 1].into())
     }
 
+    /// Whether an arc fits by its letters and by what the ceiling has left above a sum.
     #[inline(always)]
-    pub fn fits(&self, arc: &Arc, up: u32, low: u32) -> bool {
+    pub fn fits(&self, arc: &Arc, up: u32, low: u32, spare: u32) -> bool {
+        let penalty = u32::from(arc[4]) + u32::from(FAULT == fault::CEILING_MISSED && arc[4] != 0);
+        self.letters_fit(arc, up, low) && penalty <= spare
+    }
+
+    #[inline(always)]
+    fn letters_fit(&self, arc: &Arc, up: u32, low: u32) -> bool {
         let above = u16::from(self.upper[up as usize & 127]);
         let below = u16::from(self.lower[low as usize & 127]);
         if classes::is_of_class(arc) {
@@ -128,6 +137,9 @@ impl<'a, const UP: bool, const LOW: bool, const FAULT: u8> Search<'a, UP, LOW, F
         if !self.place_holds(run, frames) {
             return Answer::refused(21, 0);
         }
+        if FAULT == fault::CEILING_AFTER_PLACE && self.ceiling > MOST_CEILING {
+            return Answer::refused(39, 0);
+        }
         let mut steps = 0;
         loop {
             if run.depth != 0 {
@@ -149,7 +161,7 @@ impl<'a, const UP: bool, const LOW: bool, const FAULT: u8> Search<'a, UP, LOW, F
             if frames.is_empty() {
                 return Answer::refused(22, steps);
             }
-            frames[0] = [state.into(), self.range(state.into()).0, 0, 0];
+            frames[0] = [state.into(), self.range(state.into()).0, 0, 0, 0];
             run.started += 1;
             run.depth = 1;
             steps += 1;
@@ -173,13 +185,17 @@ impl<'a, const UP: bool, const LOW: bool, const FAULT: u8> Search<'a, UP, LOW, F
         let room = self.room(frames);
         let mut depth = run.depth as usize;
         let mut made = *steps;
-        let [mut state, mut next, mut up, mut low] = frames[depth - 1];
+        let [mut state, mut next, mut up, mut low, sum] = frames[depth - 1];
+        let mut spare = match FAULT {
+            fault::SUM_LOST => self.ceiling,
+            _ => self.ceiling.wrapping_sub(sum),
+        };
         let answer = loop {
             // Arcs that do not fit, as far as the allowance goes.
             let end = self.range(state).1;
             let stop = end.min(next.saturating_add(allowance - made));
             let rest = &arcs[next as usize..stop as usize];
-            let skipped = rest.iter().position(|arc| self.fits(arc, up, low));
+            let skipped = rest.iter().position(|arc| self.fits(arc, up, low, spare));
             let Some(skipped) = skipped else {
                 made += stop - next;
                 frames[depth - 1][1] = stop;
@@ -191,7 +207,9 @@ impl<'a, const UP: bool, const LOW: bool, const FAULT: u8> Search<'a, UP, LOW, F
                 if depth == 0 {
                     break None;
                 }
-                [state, next, up, low] = frames[depth - 1];
+                let sum;
+                [state, next, up, low, sum] = frames[depth - 1];
+                spare = self.ceiling.wrapping_sub(sum);
                 continue;
             };
             made += skipped as u32;
@@ -223,8 +241,11 @@ impl<'a, const UP: bool, const LOW: bool, const FAULT: u8> Search<'a, UP, LOW, F
                 depth -= 1;
             }
             (state, up, low) = (target.into(), longer_up, longer_low);
+            if FAULT != fault::UNSUMMED {
+                spare -= u32::from(arc[4]);
+            }
             next = self.range(state).0;
-            frames[depth] = [state, next, up, low];
+            frames[depth] = [state, next, up, low, self.ceiling.wrapping_sub(spare)];
             depth += 1;
             made += 1;
             if accepts {

@@ -196,13 +196,14 @@ impl Tree {
     }
 }
 
-/// An arc, made as one number.
+/// An arc without a penalty, its other cells made as one number.
 #[inline(always)]
 fn arc(source: usize, upper: u8, lower: u8, target: usize) -> Arc {
     let letters = u64::from(upper) << 16 | u64::from(lower) << 32;
     let lanes = source as u64 | letters | (target as u64) << 48;
     // SAFETY: both types are eight bytes of any value.
-    unsafe { std::mem::transmute(lanes.to_le()) }
+    let [source, upper, lower, target]: [u16; 4] = unsafe { std::mem::transmute(lanes.to_le()) };
+    [source, upper, lower, target, 0]
 }
 
 /// A table for lent words: 30, 31 and 32, then 24.

@@ -17,7 +17,7 @@ fn first() -> Call {
         upper: vec![1, 2],
         lower: vec![],
         run: Run::of(2),
-        stack: vec![9; 36],
+        stack: vec![9; FRAME_CELLS * 9],
         allowance: 100,
         output: vec![0xEE; 8],
     }
@@ -46,7 +46,7 @@ fn table(engine: &Boundary) -> Checked {
 #[test]
 fn call_tables() {
     tells(table, NextTable, NARROW);
-    tells(table, NextTable, &[Most(4_096), Most(4_739)]);
+    tells(table, NextTable, &[Most(4_096), Most(5_763)]);
     tells(table, NextCells, &[Low(8), Low(13), Low(15)]);
 }
 
@@ -95,6 +95,51 @@ fn call_runs() {
     tells(run, NextRun, &[Most(65_536)]);
 }
 
+/// Arcs of penalty 255 through all states, 65,025 in all.
+fn penalized() -> Call {
+    let arcs = (0..255).map(|s| Arc::new(s, 0, 0, s + 1).with_penalty(255));
+    let table = Table {
+        states: 256,
+        initials: vec![0],
+        terminals: vec![255],
+        arcs: arcs.collect(),
+        ..Table::default()
+    };
+    Call {
+        table: table.cells(),
+        upper: vec![],
+        stack: vec![9; FRAME_CELLS * 256],
+        allowance: u32::MAX,
+        ..first()
+    }
+}
+
+/// A ceiling is held against the whole sum; one over 100,000 gives 39.
+fn ceiling(engine: &Boundary) -> Checked {
+    let under = |ceiling| {
+        let run = Run::under(2, ceiling);
+        told(engine, Call { run, ..penalized() })
+    };
+    for enough in [65_025, 65_536, 65_537, 99_999, 100_000] {
+        is(under(enough)?, Answer::found(256, 0))?;
+    }
+    is(under(65_024)?, Answer::ended(511))?; // the last arc is tried in vain
+    for bit in 17..32 {
+        is(under(1 << bit)?, Answer::refused(39, 0))?;
+        is(under((1 << bit) + 65_536)?, Answer::refused(39, 0))?;
+    }
+    is(under(100_001)?, Answer::refused(39, 0))
+}
+
+#[test]
+fn call_ceilings() {
+    tells(ceiling, NextCeiling, NARROW);
+    tells(ceiling, NextCeiling, &[Low(17), Low(24), Low(31)]);
+    tells(ceiling, NextCeiling, &[Most(65_024), Most(100_000)]);
+    tells(ceiling, NextRun, &[Low(16), Most(65_536)]);
+    tells(ceiling, LeftFrames, &[Low(8), Low(13), Low(15)]);
+}
+
 /// A search of 256 initial states starts as many, and 257 are refused.
 fn started(engine: &Boundary) -> Checked {
     let table = Table {
@@ -128,15 +173,15 @@ fn looping(depth: usize, cells: usize) -> Call {
         arcs: vec![Arc::new(0, 0, 1, 0)],
         ..Table::default()
     };
-    let mut stack: Vec<u32> = (0..depth as u32).flat_map(|k| [0, 1, 0, k]).collect();
+    let mut stack: Vec<u32> = (0..depth as u32).flat_map(|k| [0, 1, 0, k, 0]).collect();
     stack.resize(cells, 9);
     Call {
         table: table.cells(),
         upper: vec![1],
         run: Run {
-            task: 2,
             started: u32::from(depth > 0),
             depth: depth as u32,
+            ..Run::of(2)
         },
         stack,
         allowance: u32::MAX,
@@ -185,7 +230,7 @@ fn call_stacks() {
 fn frames(engine: &Boundary) -> Checked {
     let mut place = first();
     is(call::compare(engine, &mut place)?, found())?;
-    for at in 0..12 {
+    for at in 0..FRAME_CELLS * 3 {
         for bit in 8..32 {
             let mut call = place.clone();
             call.stack[at] += 1 << bit;

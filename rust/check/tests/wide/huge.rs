@@ -7,6 +7,7 @@ use crate::{Checked, is, tells};
 use readings_check::answer::{Answer, Run};
 use readings_check::compare::page::Page;
 use readings_check::engine::{Engine, Next, Sheets, Start, Texts, Trees};
+use readings_check::query::MOST_CEILING;
 use readings_check::text::K;
 use reserved::Reserved;
 
@@ -84,13 +85,13 @@ const CUTS: &[Cut] = &[Low(17), Low(24), Low(31), Low(32)];
 
 fn texts(boundary: &Boundary) -> Checked {
     let mut cells = Reserved::new(&[], HUGE);
-    is(boundary.read(K.as_bytes(), &mut cells), Answer::done(155))?;
+    is(boundary.read(K.as_bytes(), &mut cells), Answer::done(160))?;
     let mut text = Reserved::new(&[], HUGE);
     is(boundary.write(&k(), &mut text), Answer::done(K.len()))?;
     is(boundary.write(&cells, &mut [0; 200]), Answer::done(K.len()))?;
     let mut text = Reserved::new(K.as_bytes(), HUGE - 2 + K.len());
     text[K.len()] = b'\n'; // an empty line after the end
-    is(boundary.read(&text, &mut [0; 155]), Answer::refused(1, 0))
+    is(boundary.read(&text, &mut [0; 160]), Answer::refused(1, 0))
 }
 
 #[test]
@@ -103,9 +104,9 @@ fn huge_texts() {
 /// A list here is a word of one letter, then words of none.
 fn lists(boundary: &Boundary) -> Checked {
     let words = Reserved::new(&[1, 1], HUGE);
-    is(boundary.tree(&words, &mut [0; 142]), Answer::refused(30, 0))?;
+    is(boundary.tree(&words, &mut [0; 144]), Answer::refused(30, 0))?;
     let mut cells = Reserved::new(&[], HUGE);
-    is(boundary.tree(&[1, 1], &mut cells), Answer::done(142))
+    is(boundary.tree(&[1, 1], &mut cells), Answer::done(144))
 }
 
 #[test]
@@ -123,6 +124,7 @@ fn starts(engine: &Boundary) -> Checked {
         let start = Start {
             table,
             task,
+            ceiling: MOST_CEILING,
             upper,
             lower,
         };
@@ -154,7 +156,7 @@ fn calls(engine: &Boundary) -> Checked {
         })
     };
     let (words, found): ([&[u8]; 2], _) = ([&[1, 2], &[]], Answer::found(3, 2));
-    let (mut stack, mut output) = ([9; 36], [0; 8]);
+    let (mut stack, mut output) = ([9; 45], [0; 8]);
     let cells = Reserved::new(&k(), HUGE);
     is(next(&cells, words, &mut stack, &mut output), found)?;
     let mut long = Reserved::new(&[], HUGE + 2);

@@ -15,12 +15,12 @@ pub fn k() -> Vec<u16> {
     text::parse(K.as_bytes()).expect("table K").cells()
 }
 
-/// The largest table: 256 states, all of them initial and terminal, eight classes of 16 letters, and 1,024 arcs, every fourth one of a
-/// class.
+/// The largest table: 256 states, all of them initial and terminal, eight classes of 16 letters, and 1,024 arcs with penalties, every
+/// fourth one of a class.
 pub fn largest() -> Table {
     let arcs = (0..1_024).map(|k| match k % 4 {
-        3 => Arc::of_class(k / 4, k / 4 % 8, 255 - k / 4),
-        letter => Arc::new(k / 4, 1 + letter, 63, 255 - k / 4),
+        3 => Arc::of_class(k / 4, k / 4 % 8, 255 - k / 4).with_penalty(255),
+        letter => Arc::new(k / 4, 1 + letter, 63, 255 - k / 4).with_penalty(1 + letter),
     });
     Table {
         states: 256,

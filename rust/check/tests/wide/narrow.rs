@@ -25,6 +25,7 @@ pub enum Part {
     StartTable,
     StartCells,
     StartTask,
+    StartCeiling,
     StartUpper,
     StartLower,
     StartRun,
@@ -37,6 +38,7 @@ pub enum Part {
     NextTask,
     NextStarted,
     NextDepth,
+    NextCeiling,
     NextRun,
     NextStack,
     NextFrames,
@@ -105,6 +107,7 @@ impl Boundary {
             task: self.number(part, run.task),
             started: self.number(part, run.started),
             depth: self.number(part, run.depth),
+            ceiling: self.number(part, run.ceiling),
         }
     }
 
@@ -182,6 +185,7 @@ impl Engine for Boundary {
         let narrow = Start {
             table: &self.cells(Part::StartCells, table),
             task: self.number(Part::StartTask, start.task),
+            ceiling: self.number(Part::StartCeiling, start.ceiling),
             upper: self.front(Part::StartUpper, start.upper),
             lower: self.front(Part::StartLower, start.lower),
         };
@@ -199,6 +203,7 @@ impl Engine for Boundary {
         run.task = self.number(Part::NextTask, given.task);
         run.started = self.number(Part::NextStarted, given.started);
         run.depth = self.number(Part::NextDepth, given.depth);
+        run.ceiling = self.number(Part::NextCeiling, given.ceiling);
         let handed = *run;
         let table = self.front(Part::NextTable, call.table);
         let mut answer = Library.next(Next {

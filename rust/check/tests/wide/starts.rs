@@ -7,6 +7,7 @@ use crate::{Checked, NARROW, is, tells};
 use readings_check::answer::{Answer, Run, Started};
 use readings_check::compare::start::{self, Start};
 use readings_check::engine::{self, Engine};
+use readings_check::query::MOST_CEILING;
 use readings_check::table::{Arc, Table};
 
 /// Recognition of two empty words over table K.
@@ -14,6 +15,7 @@ fn plain() -> Start {
     Start {
         table: k(),
         task: 1,
+        ceiling: MOST_CEILING,
         upper: vec![],
         lower: vec![],
     }
@@ -32,7 +34,7 @@ fn table(engine: &Boundary) -> Checked {
 #[test]
 fn start_tables() {
     tells(table, StartTable, NARROW);
-    tells(table, StartTable, &[Most(4_096), Most(4_739)]);
+    tells(table, StartTable, &[Most(4_096), Most(5_763)]);
     tells(table, StartCells, &[Low(8), Low(13), Low(15)]);
 }
 
@@ -44,6 +46,27 @@ fn task(engine: &Boundary) -> Checked {
 fn start_tasks() {
     tells(task, StartTask, NARROW);
     tells(task, StartTask, &[Low(2), Low(24), Low(31), Most(3)]);
+}
+
+/// A ceiling of at most 17 bits is set, as far as it keeps the limit; any higher one gives 39.
+fn ceiling(engine: &Boundary) -> Checked {
+    let with = |ceiling| told(engine, Start { ceiling, ..plain() });
+    for bit in 0..32 {
+        let passed = match bit {
+            0..17 => Answer::done(0),
+            _ => Answer::refused(39, 0),
+        };
+        is(with(1 << bit)?, passed)?;
+    }
+    is(with(100_000)?, Answer::done(0))?;
+    is(with(100_001)?, Answer::refused(39, 0))
+}
+
+#[test]
+fn start_ceilings() {
+    tells(ceiling, StartCeiling, NARROW);
+    let cuts = [Low(17), Low(24), Low(31), Most(99_999), Most(100_000)];
+    tells(ceiling, StartCeiling, &cuts);
 }
 
 fn word(engine: &Boundary) -> Checked {
@@ -69,12 +92,14 @@ fn run(engine: &Boundary) -> Checked {
         task: u32::MAX,
         started: 0x8765_4321,
         depth: 0xFEDC_BA98,
+        ceiling: 0x1234_5678,
     };
     for (task, left) in [(4, stale), (2, Run::of(2))] {
         let mut run = stale;
         let start = engine::Start {
             table: &k(),
             task,
+            ceiling: MOST_CEILING,
             upper: &[1, 2],
             lower: &[],
         };

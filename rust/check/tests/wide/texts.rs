@@ -15,7 +15,7 @@ fn text_read(boundary: &Boundary) -> Checked {
     long.push(b'\n');
     is(texts::read(boundary, &long, 100)?, Answer::refused(2, 0))?;
     let whole = text::print(&largest());
-    is(texts::read(boundary, &whole, 4_740)?, Answer::done(4_740))
+    is(texts::read(boundary, &whole, 5_764)?, Answer::done(5_764))
 }
 
 #[test]
@@ -27,39 +27,39 @@ fn texts_read() {
 
 fn table_read(boundary: &Boundary) -> Checked {
     let whole = text::print(&largest());
-    is(texts::read(boundary, &whole, 4_740)?, Answer::done(4_740))?;
-    is(texts::read(boundary, &whole, WIDE)?, Answer::done(4_740))
+    is(texts::read(boundary, &whole, 5_764)?, Answer::done(5_764))?;
+    is(texts::read(boundary, &whole, WIDE)?, Answer::done(5_764))
 }
 
 #[test]
 fn tables_read() {
     tells(table_read, ReadTable, NARROW);
-    tells(table_read, ReadTable, &[Most(4_096), Most(4_739)]);
+    tells(table_read, ReadTable, &[Most(4_096), Most(5_763)]);
     tells(table_read, ReadCells, &[Low(8), Low(10)]);
     tells(table_read, ReadLength, &[Low(8), Low(12)]);
 }
 
 fn table_written(boundary: &Boundary) -> Checked {
-    let write = |cells: Vec<u16>| texts::write(boundary, &cells, 19_266);
-    tables(write, Answer::done(19_266))
+    let write = |cells: Vec<u16>| texts::write(boundary, &cells, 21_314);
+    tables(write, Answer::done(21_314))
 }
 
 #[test]
 fn tables_written() {
     tells(table_written, WriteTable, NARROW);
-    tells(table_written, WriteTable, &[Most(4_096), Most(4_739)]);
+    tells(table_written, WriteTable, &[Most(4_096), Most(5_763)]);
     tells(table_written, WriteCells, &[Low(8), Low(13), Low(15)]);
 }
 
 fn text_written(boundary: &Boundary) -> Checked {
     let write = |length: usize| texts::write(boundary, &largest().cells(), length);
-    is(write(19_266)?, Answer::done(19_266))?;
-    is(write(WIDE)?, Answer::done(19_266))
+    is(write(21_314)?, Answer::done(21_314))?;
+    is(write(WIDE)?, Answer::done(21_314))
 }
 
 #[test]
 fn texts_written() {
     tells(text_written, WriteText, NARROW);
-    tells(text_written, WriteText, &[Most(16_384), Most(19_265)]);
+    tells(text_written, WriteText, &[Most(16_384), Most(21_313)]);
     tells(text_written, WriteLength, &[Low(8), Low(13), Low(14)]);
 }

@@ -41,7 +41,7 @@ fn table(boundary: &Boundary) -> Checked {
 #[test]
 fn tables_of_lists() {
     tells(table, ListTable, NARROW);
-    tells(table, ListTable, &[Low(11), Most(2_048), Most(2_427)]);
+    tells(table, ListTable, &[Low(11), Most(2_048), Most(2_937)]);
     tells(table, ListCells, &[Low(8)]);
-    tells(table, ListLength, &[Low(8), Low(11), Most(2_427)]);
+    tells(table, ListLength, &[Low(8), Low(11), Most(2_937)]);
 }

@@ -24,7 +24,7 @@ returns c =
     let s = c .before .before .start in
     let r = c .before .start-run in
     let n = c .start-reply in
-    let same = start-is {x = started (now (args .table)) (args .task) (now (args .upper)) (now (args .lower))} {s = s .result} (s .ensures) in
+    let same = start-is {x = started (now (args .table)) (args .task) (now (args .upper)) (now (args .lower)) (args .ceiling)} {s = s .result} (s .ensures) in
     subst (λ (x : Started). ReplyIs x (args .run) (n .result) (r .result)) same (n .ensures .0, n .ensures .1, r .ensures)
 
 pub begin-spec : {M : Type 1} → statement M

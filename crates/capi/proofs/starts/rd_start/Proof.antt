@@ -64,12 +64,12 @@ Begin 𝓤 H A mem run = tripleOf 𝓤 H A begin.signature (begin.spec 𝓤 H A 
 
 module _ {M : Type 1} (𝓤 : URA M) (H : Heap 𝓤) (A : Atoms 𝓤) (W : Given 𝓤 H A) (mem : Memory → SProp 𝓤) (run : Routine → Fun 𝓤)
     (κs : Lfts 4) (qs : Shares 4) (bounds : AllOutlive 4 (f.signature .outlives) κs)
-    (t : RefT (List ℕ)) (n : ℕ) (u l : RefT (List ℕ)) (x : RefT Run) where
+    (t : RefT (List ℕ)) (n c : ℕ) (u l : RefT (List ℕ)) (x : RefT Run) where
   abbrev a : Args f.signature κs
-  a = (t, (n, (u, (l, (x, tt)))))
+  a = (t, (n, (c, (u, (l, (x, tt))))))
 
   abbrev vals : Vals f.signature κs
-  vals = (slice-vals t, (vint w32 n ∷ [], (slice-vals u, (slice-vals l, (vptr (x .ptr .0) (x .ptr .1) ∷ [], tt)))))
+  vals = (slice-vals t, (vint w32 n ∷ [], (vint w32 c ∷ [], (slice-vals u, (slice-vals l, (vptr (x .ptr .0) (x .ptr .1) ∷ [], tt))))))
 
   abbrev Post : Val → SProp 𝓤
   Post = walkOf 𝓤 H A f.ended (exits f.ended) (f.clauses 𝓤 H A mem run) .post ((κs, qs, bounds, a, vals), tt)
@@ -82,10 +82,10 @@ module _ {M : Type 1} (𝓤 : URA M) (H : Heap 𝓤) (A : Atoms 𝓤) (W : Given
   qs′ = (qs .0, (qs .1 .0, (qs .1 .1 .0, tt)))
 
   abbrev a′ : Args begin.signature κs′
-  a′ = (t, (n, (u, (l, (x .now, tt)))))
+  a′ = (t, (n, (c, (u, (l, (x .now, tt))))))
 
   abbrev vals′ : Vals begin.signature κs′
-  vals′ = (slice-vals t, (vint w32 n ∷ [], (slice-vals u, (slice-vals l, (LL.vals R.the-type R′.the-laws (x .now), tt)))))
+  vals′ = (slice-vals t, (vint w32 n ∷ [], (vint w32 c ∷ [], (slice-vals u, (slice-vals l, (LL.vals R.the-type R′.the-laws (x .now), tt))))))
 
   abbrev to : Begin 𝓤 H A mem run .Ghost
   to = ((κs′, qs′, tt, a′, vals′), tt)
@@ -100,11 +100,11 @@ module _ {M : Type 1} (𝓤 : URA M) (H : Heap 𝓤) (A : Atoms 𝓤) (W : Given
 
   -- what `begin` ensures
   abbrev Done : Begun → Type 0
-  Done r = ReplyIs (started (t .now) n (u .now) (l .now)) (x .now) (r .reply) (r .run)
+  Done r = ReplyIs (started (t .now) n (u .now) (l .now) c) (x .now) (r .reply) (r .run)
 
   -- the machine values passed
   abbrev passed : List Val
-  passed = slice t ∷ vint w32 n ∷ slice u ∷ slice l ∷ vptr (x .ptr .0) (x .ptr .1) ∷ []
+  passed = slice t ∷ vint w32 n ∷ vint w32 c ∷ slice u ∷ slice l ∷ vptr (x .ptr .0) (x .ptr .1) ∷ []
 
   -- the machine value of the reply
   abbrev ans : Begun → Val
@@ -113,48 +113,48 @@ module _ {M : Type 1} (𝓤 : URA M) (H : Heap 𝓤) (A : Atoms 𝓤) (W : Given
   -- what the arguments of `begin` own
   abbrev Args-own : Item 𝓤
   Args-own =
-      ‵ (owns (ShrSlice (named 0) (κs .0) u16 ∷ u32 ∷ ShrSlice (named 1) (κs .1 .0) u8 ∷ ShrSlice (named 2) (κs .1 .1 .0) u8 ∷ R.the-row ∷ []) a′ vals′)
+      ‵ (owns (ShrSlice (named 0) (κs .0) u16 ∷ u32 ∷ u32 ∷ ShrSlice (named 1) (κs .1 .0) u8 ∷ ShrSlice (named 2) (κs .1 .1 .0) u8 ∷ R.the-row ∷ []) a′ vals′)
 
   -- what the parameters own
   abbrev Params-own : Item 𝓤
   Params-own =
-      ‵ (owns (ShrSlice (named 0) (κs .0) u16 ∷ u32 ∷ ShrSlice (named 1) (κs .1 .0) u8 ∷ ShrSlice (named 2) (κs .1 .1 .0) u8
+      ‵ (owns (ShrSlice (named 0) (κs .0) u16 ∷ u32 ∷ u32 ∷ ShrSlice (named 1) (κs .1 .0) u8 ∷ ShrSlice (named 2) (κs .1 .1 .0) u8
       ∷ MutRef (named 3) (κs .1 .1 .1 .0) R.the-row ∷ []) a vals)
 
   goes : ent 𝓤 (⋆ 𝓤 H A (Three ∷ Args-own ∷ [])) (Begin 𝓤 H A mem run .pre to)
   goes = qed W (Three ∷ Args-own ∷ []) ∵ join ! $ frame ! $ done !
 
   module _ (C : Calls 𝓤 H) (Λ : Loops 𝓤 H) (fm : FmC 𝓤 H (W .laws) C) (known : Triple 𝓤 (C #begin) (Begin 𝓤 H A mem run)) where
-    walk : Room u16 (length (t .now)) → n < 2 ^ 32 → Room u8 (length (u .now)) → Room u8 (length (l .now))
+    walk : Room u16 (length (t .now)) → n < 2 ^ 32 → c < 2 ^ 32 → Room u8 (length (u .now)) → Room u8 (length (l .now))
         → ent 𝓤 (onEntry 𝓤 H A f.signature κs qs a vals) (WpFn 𝓤 H C Λ code.function passed Post)
-    walk rt n-fits ru rl =
+    walk rt n-fits c-fits ru rl =
         qed W (Four ∷ Params-own ∷ []) ∵
         -- the run's token is set apart, and what the run's reference owns
         split ! $ move ! (1 ∷ []) $ split ! $ move ! (1 ∷ []) $ split ! $ move ! (1 ∷ []) $ split ! $
         -- [the run's token; no more; 'lower; 'upper; 'table; what the parameters own]
         move ! (2 ∷ 1 ∷ []) $ join ! $ move ! (2 ∷ 0 ∷ []) $ join ! $ move ! (2 ∷ 0 ∷ []) $ join ! $
-        move ! (2 ∷ []) $ fsplit ! $ move ! (1 ∷ []) $ fsplit ! $ move ! (1 ∷ []) $ fsplit ! $ move ! (1 ∷ []) $ fsplit ! $ move ! (1 ∷ []) $ fsplit ! $
-        fsplit3 ! $ drop ! $ move ! (0 ∷ 1 ∷ 8 ∷ []) $ enter ! C Λ code.function passed _ $
-        alloc1 ! (λ l₀. alloc1 ! (λ l₁. alloc1 ! (λ l₂. alloc1 ! (λ l₃. alloc1 ! (λ l₄. alloc1 ! (λ l₅. alloc1 ! (λ l₆. alloc1 ! (λ l₇.
+        move ! (2 ∷ []) $ fsplit ! $ move ! (1 ∷ []) $ fsplit ! $ move ! (1 ∷ []) $ fsplit ! $ move ! (1 ∷ []) $ fsplit ! $ move ! (1 ∷ []) $ fsplit ! $ move ! (1 ∷ []) $ fsplit ! $
+        fsplit3 ! $ drop ! $ move ! (0 ∷ 1 ∷ 9 ∷ []) $ enter ! C Λ code.function passed _ $
+        alloc1 ! (λ l₀. alloc1 ! (λ l₁. alloc1 ! (λ l₂. alloc1 ! (λ l₃. alloc1 ! (λ l₄. alloc1 ! (λ l₅. alloc1 ! (λ l₆. alloc1 ! (λ l₇. alloc1 ! (λ l₈.
         alloc0 ! $ params1 ! $
-        pass1 ! (init ! 12 refl (slice-fits (rt .0))) $ pass1 ! (init ! 10 refl (tt, record { fits = n-fits })) $
-        pass1 ! (init ! 8 refl (slice-fits (ru .0))) $ pass1 ! (init ! 6 refl (slice-fits (rl .0))) $
+        pass1 ! (init ! 14 refl (slice-fits (rt .0))) $ pass1 ! (init ! 12 refl (tt, record { fits = n-fits })) $
+        pass1 ! (init ! 10 refl (tt, record { fits = c-fits })) $ pass1 ! (init ! 8 refl (slice-fits (ru .0))) $ pass1 ! (init ! 6 refl (slice-fits (rl .0))) $
         pass1 ! (init ! 4 refl (tt, tt)) $ pass0 ! $
         -- the borrow of the run is opened
-        move ! (16 ∷ 17 ∷ 18 ∷ []) $ opens ! tt R.the-row {h = x .now} (x .ptr .0) (x .ptr .1) (λ vs.
+        move ! (18 ∷ 19 ∷ 20 ∷ []) $ opens ! tt R.the-row {h = x .now} (x .ptr .0) (x .ptr .1) (λ vs.
         spelt ! R.the-row (Is R.the-row) (shows 𝓤 H A R.the-row) (LL.vals R.the-type R′.the-laws) (LL.tells R.the-type R′.the-laws)
         fullShare (x .now) vs (x .ptr .0) (x .ptr .1) $
         move ! (1 ∷ []) $ peeks ! R.the-row (Is R.the-row) (shows 𝓤 H A R.the-row) (x .now) (LL.vals R.the-type R′.the-laws (x .now)) (λ is.
-        -- [what the run owns; its cell; the open borrow; obs; auth; _7 at 5; …; _0 at 19; …; no more at 21; lower; upper; task; table;
+        -- [what the run owns; its cell; the open borrow; obs; auth; _8 at 5; …; _0 at 21; …; no more at 23; lower; upper; ceiling; task; table;
         -- three tokens]
         assigns ! (of-opd ! (load ! (from ! (hop ! (look ! 9 refl) (stop !))) (look-raw ! 1 refl))) (from ! (stop !))
         (init ! 5 refl (LL.lawful R.the-type R′.the-laws 𝓤 H A W .typed (x .now) _ is .0)) $
         -- what `begin` asks is put together
-        move ! (0 ∷ 21 ∷ []) $ fjoin ! $ move ! (21 ∷ 0 ∷ []) $ fjoin ! $ move ! (21 ∷ 0 ∷ []) $ fjoin ! $ move ! (21 ∷ 0 ∷ []) $ fjoin ! $
-        move ! (21 ∷ 0 ∷ []) $ fjoin ! $ move ! (21 ∷ 0 ∷ []) $ use2 W (raw (Begin 𝓤 H A mem run .pre to)) goes $
+        move ! (0 ∷ 23 ∷ []) $ fjoin ! $ move ! (23 ∷ 0 ∷ []) $ fjoin ! $ move ! (23 ∷ 0 ∷ []) $ fjoin ! $ move ! (23 ∷ 0 ∷ []) $ fjoin ! $ move ! (23 ∷ 0 ∷ []) $ fjoin ! $
+        move ! (23 ∷ 0 ∷ []) $ fjoin ! $ move ! (23 ∷ 0 ∷ []) $ use2 W (raw (Begin 𝓤 H A mem run .pre to)) goes $
         calls-at ! fm (Begin 𝓤 H A mem run) known to
-        (and-then ! (load ! (from ! (stop !)) (look ! 17 refl)) (and-then ! (load ! (from ! (stop !)) (look ! 15 refl)) (and-then ! (load ! (from ! (stop !)) (look ! 13 refl))
-        (and-then ! (load ! (from ! (stop !)) (look ! 11 refl)) (and-then ! (load ! (from ! (stop !)) (look ! 5 refl)) (no-more !)))))) (λ w.
+        (and-then ! (load ! (from ! (stop !)) (look ! 19 refl)) (and-then ! (load ! (from ! (stop !)) (look ! 17 refl)) (and-then ! (load ! (from ! (stop !)) (look ! 15 refl)) (and-then ! (load ! (from ! (stop !)) (look ! 13 refl))
+        (and-then ! (load ! (from ! (stop !)) (look ! 11 refl)) (and-then ! (load ! (from ! (stop !)) (look ! 5 refl)) (no-more !))))))) (λ w.
         use1 W (later (some (λ (r : Begun). (Three ⊛ ‵ (T.the-row .own r (w ∷ []))) ⊛ raw (ensured 𝓤 H A begin.ended (begin.clauses 𝓤 H A mem run) κs′ a′ tt r)))) (id⊢ 𝓤 _) $
         await ! tt $ pick ! (λ r.
         -- what `begin` ensures
@@ -162,47 +162,50 @@ module _ {M : Type 1} (𝓤 : URA M) (H : Heap 𝓤) (A : Atoms 𝓤) (W : Given
         use1 W (some (λ (ws : Lasts begin.ended κs′ a′). ‵ (lasts begin.ended κs′ a′ ws) ⊛ raw (fact 𝓤 (Done r)))) (id⊢ 𝓤 _) $
         pick ! (λ ws. split ! $ drop ! $ heard ! (Done r) (λ e.
         split ! $ move ! (1 ∷ []) $ peeks ! T.the-row (Is T.the-row) (shows 𝓤 H A T.the-row) r (w ∷ []) (λ is′.
-        -- [what the result owns; three tokens; the run's cell at 2; the open borrow; obs; auth; _7 at 6; …; _0 at 20; …]
+        -- [what the result owns; three tokens; the run's cell at 2; the open borrow; obs; auth; _8 at 6; …; _0 at 22; …]
         land ! (from ! (stop !)) (init ! 8 refl (LL.lawful T.the-type T′.the-laws 𝓤 H A W .typed r _ is′ .0)) $
-        rewrite ! 8 (λ (v : Val). ‵ (fat fullShare T′.mir l₆ 0 v)) (ap only (LL.tells T.the-type T′.the-laws r _ is′)) refl $
+        rewrite ! 8 (λ (v : Val). ‵ (fat fullShare T′.mir l₇ 0 v)) (ap only (LL.tells T.the-type T′.the-laws r _ is′)) refl $
         -- the run and the reply are taken out of it, and the borrow is closed at the new run
         assigns ! (of-opd ! (load ! (from ! (fld ! refl (stop !))) (look-in ! 8 (sub ! 1 refl (whole !))))) (from ! (hop ! (look ! 10 refl) (stop !)))
         (store-raw ! 2 refl (LL.lawful R.the-type R′.the-laws 𝓤 H A W .typed (r .run) _ (LL.owed T.the-type T′.the-laws r _ is′ .1 .0) .0)) $
         assigns ! (of-opd ! (load ! (from ! (fld ! refl (stop !))) (look-in ! 8 (sub ! 0 refl (whole !))))) (from ! (stop !))
-        (init ! 20 refl (LL.lawful S.the-type S′.the-laws 𝓤 H A W .typed (r .reply) _ (LL.owed T.the-type T′.the-laws r _ is′ .0) .0)) $
+        (init ! 22 refl (LL.lawful S.the-type S′.the-laws 𝓤 H A W .typed (r .reply) _ (LL.owed T.the-type T′.the-laws r _ is′ .0) .0)) $
         drop ! $ owned ! R.the-row (Is R.the-row) (LL.makes R.the-type R′.the-plain 𝓤 H A) (r .run) _ (LL.owed T.the-type T′.the-laws r _ is′ .1 .0) $
         move ! (2 ∷ 0 ∷ 3 ∷ 4 ∷ 5 ∷ []) $ closes ! tt R.the-row (r .run) (LL.vals R.the-type R′.the-laws (r .run)) (x .ptr .0) (x .ptr .1) $
-        -- [obs; the borrow; the run's token; three tokens; _7 at 4; …; _0 at 18; …]
-        returns ! (look ! 18 refl) $ forget ! 4 refl $ forget ! 6 refl $ forget ! 8 refl $ forget ! 10 refl $ forget ! 12 refl $ forget ! 14 refl $
-        forget ! 16 refl $ forget ! 18 refl $
-        move ! (18 ∷ 19 ∷ []) $ free1 ! $ move ! (16 ∷ 17 ∷ []) $ free1 ! $ move ! (14 ∷ 15 ∷ []) $ free1 ! $ move ! (12 ∷ 13 ∷ []) $ free1 ! $
+        -- [obs; the borrow; the run's token; three tokens; _8 at 4; …; _0 at 20; …]
+        returns ! (look ! 20 refl) $ forget ! 4 refl $ forget ! 6 refl $ forget ! 8 refl $ forget ! 10 refl $ forget ! 12 refl $ forget ! 14 refl $
+        forget ! 16 refl $ forget ! 18 refl $ forget ! 20 refl $
+        move ! (20 ∷ 21 ∷ []) $ free1 ! $ move ! (18 ∷ 19 ∷ []) $ free1 ! $ move ! (16 ∷ 17 ∷ []) $ free1 ! $ move ! (14 ∷ 15 ∷ []) $ free1 ! $ move ! (12 ∷ 13 ∷ []) $ free1 ! $
         move ! (10 ∷ 11 ∷ []) $ free1 ! $ move ! (8 ∷ 9 ∷ []) $ free1 ! $ move ! (6 ∷ 7 ∷ []) $ free1 ! $ move ! (4 ∷ 5 ∷ []) $ free1 ! $ free0 ! $
         -- the exit
         suffices ! _ (ends 𝓤 H A f.ended (f.clauses 𝓤 H A mem run) W ((κs, qs, bounds, a, vals), tt) (ans r) (r .reply)
-        (tt, (tt, (tt, (tt, (r .run, tt)))))) $ says ! e $
+        (tt, (tt, (tt, (tt, (tt, (r .run, tt))))))) $ says ! e $
         keep ! (3 ∷ 0 ∷ 2 ∷ []) $ split ! $ move ! (1 ∷ []) $ split ! $ move ! (1 ∷ []) $ split ! $
         -- ['lower; no more; 'upper; 'table; obs; the run's token]
         move ! (5 ∷ 1 ∷ []) $ join ! $ move ! (1 ∷ 0 ∷ []) $ join ! $ move ! (1 ∷ 0 ∷ []) $ join ! $ move ! (1 ∷ 0 ∷ []) $ join ! $ frame ! $
         use1 W (‵ (fres (x .name) (R.the-row .coded .code (r .run)))) (W .names .obs-res (x .name) (R.the-row .coded .code (r .run))) $
-        nothing ! $ move ! (1 ∷ 0 ∷ []) $ fjoin ! $ nothing ! $ fjoin ! $ nothing ! $ fjoin ! $ nothing ! $ fjoin ! $ nothing ! $ fjoin ! $ frame ! $
+        nothing ! $ move ! (1 ∷ 0 ∷ []) $ fjoin ! $ nothing ! $ fjoin ! $ nothing ! $ fjoin ! $ nothing ! $ fjoin ! $ nothing ! $ fjoin ! $ nothing ! $ fjoin ! $ frame ! $
         owned ! S.the-row (Is S.the-row) (LL.makes S.the-type S′.the-plain 𝓤 H A) (r .reply) _ (LL.owed T.the-type T′.the-laws r _ is′ .0) $
-        done !)))))))))))))))
+        done !))))))))))))))))
 
 module _ {M : Type 1} (𝓤 : URA M) (H : Heap 𝓤) (A : Atoms 𝓤) (W : Given 𝓤 H A) (mem : Memory → SProp 𝓤) (run : Routine → Fun 𝓤) where
   walks : (C : Calls 𝓤 H) (Λ : Loops 𝓤 H) → FmC 𝓤 H (W .laws) C → Triple 𝓤 (C #begin) (Begin 𝓤 H A mem run)
       → Walks 𝓤 H A f.ended (exits f.ended) (WpFn 𝓤 H C Λ code.function) (f.clauses 𝓤 H A mem run)
   walks C Λ fm known = walked 𝓤 H A f.ended (exits f.ended) (f.clauses 𝓤 H A mem run) (WpFn 𝓤 H C Λ code.function)
-      (λ κs. (slice-vals, (uint-vals w32, (slice-vals, (slice-vals, (ptr-vals, tt))))))
+      (λ κs. (slice-vals, (uint-vals w32, (uint-vals w32, (slice-vals, (slice-vals, (ptr-vals, tt)))))))
       (λ κs. (
         shr-slice-tells (named 0) (κs .0) u16,
         (
           uint-tells w32,
-          (shr-slice-tells (named 1) (κs .1 .0) u8, (shr-slice-tells (named 2) (κs .1 .1 .0) u8, (mut-tells (named 3) (κs .1 .1 .1 .0) R.the-row, tt))),
+          (
+            uint-tells w32,
+            (shr-slice-tells (named 1) (κs .1 .0) u8, (shr-slice-tells (named 2) (κs .1 .1 .0) u8, (mut-tells (named 3) (κs .1 .1 .1 .0) R.the-row, tt))),
+          ),
         ),
       ))
       (λ κs qs bounds a g are. via 𝓤 _ (fst∗ 𝓤 _ (emp 𝓤)) (walk 𝓤 H A W mem run κs qs bounds
-      (a .0) (a .1 .0) (a .1 .1 .0) (a .1 .1 .1 .0) (a .1 .1 .1 .1 .0) C Λ fm known
-      (are .0 .0 .1) (are .1 .0 .1) (are .1 .1 .0 .0 .1) (are .1 .1 .1 .0 .0 .1)))
+      (a .0) (a .1 .0) (a .1 .1 .0) (a .1 .1 .1 .0) (a .1 .1 .1 .1 .0) (a .1 .1 .1 .1 .1 .0) C Λ fm known
+      (are .0 .0 .1) (are .1 .0 .1) (are .1 .1 .0 .1) (are .1 .1 .1 .0 .0 .1) (are .1 .1 .1 .1 .0 .0 .1)))
 
 pub rd-start-spec : {M : Type 1} → stated.statement M
 unfolding code.routine

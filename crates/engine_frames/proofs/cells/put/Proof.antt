@@ -40,6 +40,15 @@ mul-stack-4 c = search needs
 slice-write-stack-4 : tie.Need-slice-write-stack-4
 slice-write-stack-4 c = simp length-set (omega arith)
 
+add-stack-4 : tie.Need-add-stack-4
+add-stack-4 c = search needs
+
+mul-stack-5 : tie.Need-mul-stack-5
+mul-stack-5 c = search needs
+
+slice-write-stack-5 : tie.Need-slice-write-stack-5
+slice-write-stack-5 c = simp length-set (omega arith)
+
 same-length : tie.Need-same-length
 same-length c = search needs
 
@@ -62,5 +71,8 @@ put-spec =
     add-stack-3
     mul-stack-4
     slice-write-stack-4
+    add-stack-4
+    mul-stack-5
+    slice-write-stack-5
     same-length
     returns)

@@ -1,4 +1,4 @@
--- Four stores in a row.
+-- Five stores in a row.
 use native.Mathlib.Omega.{arith}
 use denote.Ref.{now}
 use lib.ListN.{length-set}
@@ -11,7 +11,7 @@ mul-cells : tie.Need-mul-cells
 mul-cells c = search needs
 
 slice-write-cells : tie.Need-slice-write-cells
-slice-write-cells c = omega arith
+slice-write-cells c = search needs
 
 add-cells : tie.Need-add-cells
 add-cells c = search needs
@@ -40,11 +40,22 @@ mul-cells-4 c = search needs
 slice-write-cells-4 : tie.Need-slice-write-cells-4
 slice-write-cells-4 c = simp length-set (omega arith)
 
+add-cells-4 : tie.Need-add-cells-4
+add-cells-4 c = search needs
+
+mul-cells-5 : tie.Need-mul-cells-5
+mul-cells-5 c = search needs
+
+slice-write-cells-5 : tie.Need-slice-write-cells-5
+slice-write-cells-5 c = simp length-set (omega arith)
+
 same-length : tie.Need-same-length
 same-length c = search needs
 
 returns : tie.Need-returns
-returns c = let args = c .args in arc-stored (now (args .cells)) (args .at) (args .arc .source) (args .arc .upper) (args .arc .lower) (args .arc .target)
+returns c =
+    let args = c .args in
+    arc-stored (now (args .cells)) (args .at) (args .arc .source) (args .arc .upper) (args .arc .lower) (args .arc .target) (args .arc .penalty)
 
 pub put-arc-spec : {M : Type 1} → statement M
 put-arc-spec =
@@ -61,5 +72,8 @@ put-arc-spec =
     add-cells-3
     mul-cells-4
     slice-write-cells-4
+    add-cells-4
+    mul-cells-5
+    slice-write-cells-5
     same-length
     returns)
