@@ -33,7 +33,7 @@ use Rattle.engine_push.proofs.Cells.{pred-suc}
 use Rattle.engine_step.specs.declared.Move.{Move}
 use Rattle.engine_step.specs.declared.Move.the-variants.{Drops, Skips, Pushes}
 use Rattle.engine_step.specs.Setting.{Alike, taskBy, queryBy, tableBy, machineBy, held, InBounds, Top}
-use Rattle.engine_step.specs.Stepping.{pushIf, moveAs}
+use Rattle.engine_step.specs.Stepping.{pushIf, pushAlong, moveAs}
 
 -- The sides that a task by its flags reads.
 
@@ -64,26 +64,34 @@ under ceiling sum p o = bind o (λ e. somewhen (leb (sum + p) ceiling) (e, sum +
 
 -- The push along an arc that fits by its letters, by the sum.
 
-module _ (n d state : ℕ) (p : Passed) (ceiling penalty : ℕ) (g : Frame) (f : F.Frame (Passed × ℕ)) (E : g ≡ frameOf f) where
+module _ (n d ceiling : ℕ) (p : Passed) (arcs c : List ℕ) (i : ℕ) (g : Frame) (E : g ≡ frameOf (lookAt c i)) (a : Held.Arc) (A : a ≡ arcHeld (arcOf arcs (g .next))) where
+  abbrev along : Arc
+  along = arcOf arcs (lookAt c i .next)
+
   abbrev pushed : Option ℕ → Move
-  pushed = pushIf n d state p
+  pushed = pushIf n (suc d) (along .target) p
 
-  sum-is : countOf (summed ceiling (g .sum) penalty) ≡ countOf (summed ceiling (f .datum .1) penalty)
-  sum-is = ap (λ (x : Frame). countOf (summed ceiling (x .sum) penalty)) E
+  along-is : arcSaid a ≡ along
+  along-is = ap arcSaid A ∙ ap (λ (x : Frame). arcOf arcs (x .next)) E
 
-  pub over-ceiling : Stops ≡ countOf (summed ceiling (g .sum) penalty) → Skips ≡ pushed (summed ceiling (f .datum .1) penalty)
-  over-ceiling e = go (summed ceiling (f .datum .1) penalty) (e ∙ sum-is)
+  sum-is : countOf (summed ceiling (g .sum) (a .penalty)) ≡ countOf (summed ceiling (lookAt c i .datum .1) (along .penalty))
+  sum-is = ap₂ (λ (x : Frame) (y : Arc). countOf (summed ceiling (x .sum) (y .penalty))) E along-is
+
+  pub over-ceiling : Stops ≡ countOf (summed ceiling (g .sum) (a .penalty)) → Skips ≡ pushAlong n d ceiling along p (lookAt c i .datum .1)
+  over-ceiling e = go (summed ceiling (lookAt c i .datum .1) (along .penalty)) (e ∙ sum-is)
     where
       go : (o : Option ℕ) → Stops ≡ countOf o → Skips ≡ pushed o
       go none z = refl
       go (some r) z = absurd (let y : _≡_ {A = ℕ} 0 1 = cc in omega arith)
 
-  pub under-ceiling : (k r : ℕ) → k ≡ d → Passes r ≡ countOf (summed ceiling (g .sum) penalty) → Pushes (newFrame n k state (p .up) (p .low) r) ≡ pushed (summed ceiling (f .datum .1) penalty)
-  under-ceiling k r h e = ap (λ (x : ℕ). Pushes (newFrame n x state (p .up) (p .low) r)) h ∙ go (summed ceiling (f .datum .1) penalty) (e ∙ sum-is)
+  pub under-ceiling : (k r : ℕ) → k ≡ suc d → Passes r ≡ countOf (summed ceiling (g .sum) (a .penalty))
+      → Pushes (newFrame n k (a .target) (p .up) (p .low) r) ≡ pushAlong n d ceiling along p (lookAt c i .datum .1)
+  under-ceiling k r h e =
+      ap₂ (λ (x : ℕ) (y : Arc). Pushes (newFrame n x (y .target) (p .up) (p .low) r)) h along-is ∙ go (summed ceiling (lookAt c i .datum .1) (along .penalty)) (e ∙ sum-is)
     where
-      go : (o : Option ℕ) → Passes r ≡ countOf o → Pushes (newFrame n d state (p .up) (p .low) r) ≡ pushed o
+      go : (o : Option ℕ) → Passes r ≡ countOf o → Pushes (newFrame n (suc d) (along .target) (p .up) (p .low) r) ≡ pushed o
       go none z = absurd (let y : _≡_ {A = ℕ} 0 1 = cc in omega arith)
-      go (some x) z = let q : r ≡ x = cc in ap (λ (y : ℕ). Pushes (newFrame n d state (p .up) (p .low) y)) q
+      go (some x) z = let q : r ≡ x = cc in ap (λ (y : ℕ). Pushes (newFrame n (suc d) (along .target) (p .up) (p .low) y)) q
 
 -- The move.
 
@@ -189,6 +197,9 @@ module _ (s : Setup) (classes : List (List ℕ)) (initials arcs upper lower : Li
       untried-arc : lookAt c (d - 1) .next < below (suc (lookAt c (d - 1) .state)) (arcsAs arcs)
       untried-arc = omega (arith, next-is, end-is)
 
+      pub next-in : lookAt c (d - 1) .next < arcCount arcs
+      next-in = bounds .next-in untried-arc
+
       pub arc-in : g .next < arcCount arcs
       arc-in = omega (arith, next-is, bounds .next-in untried-arc)
 
@@ -210,7 +221,5 @@ module _ (s : Setup) (classes : List (List ℕ)) (initials arcs upper lower : Li
         skips-by y = skips-is d (d - 1) top-is untried-arc (bounds .next-in untried-arc) r (y ∙ fit-is)
 
         pub pushes-by : (u l : ℕ) → Fits u l ≡ fitted
-            → pushIf n (suc d) (a .target) (passedOf u l) (summed (s .ceiling) (lookAt c (d - 1) .datum .1) (a .penalty)) ≡ moveAs n d (move M store (held n d c))
-        pushes-by u l y =
-            ap (λ (x : Arc). pushIf n (suc d) (x .target) (passedOf u l) (summed (s .ceiling) (lookAt c (d - 1) .datum .1) (x .penalty))) arc-was
-            ∙ pushes-is d (d - 1) top-is untried-arc (bounds .next-in untried-arc) r u l (y ∙ fit-is)
+            → pushAlong n d (s .ceiling) (arcOf arcs (lookAt c (d - 1) .next)) (passedOf u l) (lookAt c (d - 1) .datum .1) ≡ moveAs n d (move M store (held n d c))
+        pushes-by u l y = pushes-is d (d - 1) top-is untried-arc (bounds .next-in untried-arc) r u l (y ∙ fit-is)

@@ -6,7 +6,7 @@ use mathlib.Core.List.{List, _++_}
 use lib.ListN.{length, drop}
 use Rattle.refusal.specs.declared.Refusal.{Refusal}
 use Rattle.refusal.specs.declared.Refusal.the-variants.{Input, State}
-use Rattle.table_format.specs.Table.{Table}
+use Rattle.table_format.specs.Table.{Arc, Table}
 use Rattle.machine.specs.declared.Run.{Run}
 use Rattle.machine.specs.Query.{Query}
 use Rattle.machine.specs.Frames as F
@@ -15,6 +15,7 @@ use Rattle.machine.specs.Step as S
 use Rattle.machine.specs.Step.{Stepped, ends, moves, finds, refuses}
 use Rattle.machine.specs.Transducer.{Passed, machine}
 use Rattle.machine.specs.Reading.{movedTo}
+use Rattle.engine_frames.specs.Sides.{summed}
 use Rattle.engine_push.specs.declared.NewFrame.{NewFrame}
 use Rattle.engine_push.specs.Pushing.{passedIn, enteredAt}
 use Rattle.engine_step.specs.declared.Move.{Move}
@@ -31,6 +32,10 @@ newFrameOf n d g = record { started = n; depth = d; state = g .state; up = g .da
 abbrev pub pushIf : ℕ → ℕ → ℕ → Passed → Option ℕ → Move
 pushIf n d s p none = Skips
 pushIf n d s p (some r) = Pushes (record { started = n; depth = d; state = s; up = p .up; low = p .low; sum = r })
+
+-- the push along an arc that fits by its letters, where n initial states are started and d frames are used, if the sum stays within the ceiling
+abbrev pub pushAlong : ℕ → ℕ → ℕ → Arc → Passed → ℕ → Move
+pushAlong n d ceiling a p sum = pushIf n (suc d) (a .target) p (summed ceiling sum (a .penalty))
 
 -- the machine's move as the code tells it, where n initial states are started and d frames are used; the end is not told here
 abbrev pub moveAs : ℕ → ℕ → S.Move (F.Frame (Passed × ℕ)) → Move

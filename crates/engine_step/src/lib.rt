@@ -20,10 +20,10 @@ ghost use Rattle.machine.specs.Query.{mostCeiling};
 ghost use Rattle.machine.specs.Stack.{mostFrames, framesIn, roomIn, lookAt, store};
 ghost use Rattle.machine.specs.Reading.{heldOf, movedTo};
 ghost use Rattle.machine.specs.Place.{Good};
-ghost use Rattle.table_format.specs.Cells.{arcSaid};
-ghost use Rattle.engine_frames.specs.Sides.{fitOf, passedOf, followIn, summed};
+ghost use Rattle.table_format.specs.Cells.{arcSaid, arcCount, arcOf};
+ghost use Rattle.engine_frames.specs.Sides.{fitOf, passedOf, followIn};
 ghost use Rattle.engine_step.specs.Setting.{SmallWords, Alike, machineBy, Prepared, Top};
-ghost use Rattle.engine_step.specs.Stepping.{pushIf, moveAs, TurnIs};
+ghost use Rattle.engine_step.specs.Stepping.{pushAlong, moveAs, TurnIs};
 
 // What a step is to do: a frame dropped, an arc tried that does not fit, or a frame pushed.
 pub enum Move {
@@ -78,14 +78,15 @@ fn fit(
     }
 }
 
-// The push along an arc that fits by its letters, if the sum stays within the ceiling. The top frame's sum is looked at only here, so that fewer
-// values are held before.
-fn within_ceiling(setup: Setup, arc: Arc, run: Run, stack: &[u32], up: u32, low: u32) -> Move
+// The push along the top frame's next arc, which fits by its letters, if the sum stays within the ceiling. Frame and arc are looked at once more for
+// it, so that fewer values are held before.
+fn within_ceiling(setup: Setup, arcs: &[u16], run: Run, stack: &[u32], up: u32, low: u32) -> Move
     requires { ⌜ (1 ≤ run .depth) × (run .depth ≤ framesIn (now stack)) × (run .depth ≤ mostFrames) ⌝ }
-    requires { ⌜ lookAt (now stack) (run .depth - 1) .datum .1 ≤ mostCeiling ⌝ }
-    ensures { λ r. ⌜ r ≡ pushIf (run .started) (suc (run .depth)) (arc .target) (passedOf up low) (summed (setup .ceiling) (lookAt (now (stack .entry)) (run .depth - 1) .datum .1) (arc .penalty)) ⌝ }
+    requires { ⌜ (lookAt (now stack) (run .depth - 1) .next < arcCount (now arcs)) × (lookAt (now stack) (run .depth - 1) .datum .1 ≤ mostCeiling) ⌝ }
+    ensures { λ r. ⌜ r ≡ pushAlong (run .started) (run .depth) (setup .ceiling) (arcOf (now (arcs .entry)) (lookAt (now (stack .entry)) (run .depth - 1) .next)) (passedOf up low) (lookAt (now (stack .entry)) (run .depth - 1) .datum .1) ⌝ }
 {
     let f = cells::look(stack, run.depth as usize - 1);
+    let arc = table_format::arc_at(arcs, f.next as usize);
     match sides::add(setup.ceiling, f.sum, arc.penalty) {
         Count::Stops => Move::Skips,
         Count::Passes(sum) => Move::Pushes(NewFrame {
@@ -138,7 +139,7 @@ fn choose(
     let arc = table_format::arc_at(arcs, next);
     match fit(setup, classes, arc, upper, lower, f.up, f.low) {
         Fit::Fails => Move::Skips,
-        Fit::Fits(up, low) => within_ceiling(setup, arc, run, stack, up, low),
+        Fit::Fits(up, low) => within_ceiling(setup, arcs, run, stack, up, low),
     }
 }
 

@@ -4,7 +4,7 @@ use Prim.Native.Nat.{ℕ, _<_, _≤_}
 use mathlib.Core.Path.{sym, subst, _∙_}
 use denote.Ref.{now}
 use Rattle.machine.specs.Query.{upperSide, lowerSide}
-use Rattle.engine_step.proofs.Moves.{begins-is, state-indexed, drops-by, sum-small, count-small, arc-in, arc-alike, skips-by, pushes-by}
+use Rattle.engine_step.proofs.Moves.{begins-is, state-indexed, drops-by, sum-small, count-small, next-in, arc-in, arc-alike, skips-by, pushes-by}
 use Rattle.engine_step.proofs.choose.Statement.{statement}
 use Rattle.engine_step.proofs.choose.Tie as tie
 
@@ -83,7 +83,7 @@ within-ceiling-requires : tie.Need-within-ceiling-requires
 within-ceiling-requires c κs =
     let a = c .before .before .before .before .before .before .before .before .before .before .before .before .before .before .before .before .before .before .args in
     let p = c .before .before .before .before .before .before .before .before .before .before .before .before .before .before .before .before .before .before .pre .0 in
-    ((omega arith, p .on-stack, p .few-frames), sum-small (a .setup) (now (a .classes)) (now (a .initials)) (now (a .arcs)) (now (a .upper)) (now (a .lower)) (a .run .started) (now (a .stack)) (now (a .first)) (a .run .depth) p (c .before .before .before .before .before .before .before .before .before .before .before .if1 .left) (c .before .before .before .before .before .before .before .before .before .before .look .result) (c .before .before .before .before .before .before .before .before .before .before .look .ensures))
+    ((omega arith, p .on-stack, p .few-frames), (next-in (a .setup) (now (a .classes)) (now (a .initials)) (now (a .arcs)) (now (a .upper)) (now (a .lower)) (a .run .started) (now (a .stack)) (now (a .first)) (a .run .depth) p (c .before .before .before .before .before .before .before .before .before .before .before .if1 .left) (c .before .before .before .before .before .before .before .before .before .before .look .result) (c .before .before .before .before .before .before .before .before .before .before .look .ensures) (subst (λ (x : ℕ). c .before .before .before .before .before .before .before .before .before .before .look .result .next < x) (c .before .before .before .before .before .before .cell-as-index .ensures .0) (c .before .before .before .before .before .if2 .left)), sum-small (a .setup) (now (a .classes)) (now (a .initials)) (now (a .arcs)) (now (a .upper)) (now (a .lower)) (a .run .started) (now (a .stack)) (now (a .first)) (a .run .depth) p (c .before .before .before .before .before .before .before .before .before .before .before .if1 .left) (c .before .before .before .before .before .before .before .before .before .before .look .result) (c .before .before .before .before .before .before .before .before .before .before .look .ensures)))
 
 returns-3 : tie.Need-returns-3
 returns-3 c =
