@@ -117,7 +117,7 @@ module _ (cells upper lower first : List ℕ) (run : Run) (P : Admitted cells (r
   query-is =
       ap (λ (k : Task). record { task = k; upperWord = upper; lowerWord = lower; ceiling = run .ceiling }) (ap₂ taskBy up low ∙ by-flags (P .asks))
 
-  facts : AskedFacts (tableIn cells) query (run .task) upper lower (run .ceiling)
+  facts : AskedFacts cells (tableIn cells) query (run .task) upper lower (run .ceiling)
   facts = asked-facts cells (run .task) upper lower (run .ceiling) (tableIn cells) query (P .runs-is)
 
   pub prepared : Prepared setup classes first initials terminals arcs upper lower

@@ -9,7 +9,7 @@ use Rattle.refusal.specs.declared.Refusal.{Refusal}
 use Rattle.faces.specs.Lent.{mostReadings}
 use Rattle.machine.specs.declared.Run.{Run}
 use Rattle.machine.specs.declared.Answer.the-variants.{Refused}
-use Rattle.machine.specs.Query.{Query, mostCeiling}
+use Rattle.machine.specs.Query.{Query, mostCeiling, synthesisOf}
 use Rattle.machine.specs.Machine.{Machine}
 use Rattle.machine.specs.Tour.{treeSize}
 use Rattle.machine.specs.Demand.{Lent, callOn, runAfter, Handed, received, stepsTold, unended, LastEnds}
@@ -18,7 +18,7 @@ use Rattle.lexicon.specs.Words.{Word}
 use Rattle.table_format.specs.Loaded.{cellsOf}
 use Rattle.trie_format.specs.Trie.{trieTable}
 use Rattle.segmentation.specs.Ways.{waysToCut, joined}
-use Rattle.segmentation.specs.Readings.{synthesisOf, treeMachine}
+use Rattle.segmentation.specs.Readings.{treeMachine}
 use Rattle.key_sheet.specs.Key.{Key, key, refused, firstStack, firstOutput}
 
 -- THE CALLS BEHIND A KEY, over any loaded table's cells.

@@ -24,9 +24,12 @@ use Rattle.machine.specs.Transducer.{sideToRead, toReadOn, lettersToRead
 use Rattle.machine.specs.Stack.{mostFrames}
 use Rattle.machine.specs.Asked.{Asked, turned, runs, askedWords, askedTask, askedTable, asked}
 
-pub record AskedFacts (t : Table) (q : Query) (task : ℕ) (upper lower : List ℕ) (ceiling : ℕ) : Type 0 where
+pub record AskedFacts (cells : List ℕ) (t : Table) (q : Query) (task : ℕ) (upper lower : List ℕ) (ceiling : ℕ) : Type 0 where
+  pub table-is : loaded cells ≡ some t
   pub keeps-rules : keepsRules t ≡ true
   pub task-is : taskOf task ≡ some (q .task)
+  pub upper-is : q .upperWord ≡ upper
+  pub lower-is : q .lowerWord ≡ lower
   pub words-hold : wordsHold q ≡ true
   pub ceiling-holds : ceilingHolds q ≡ true
   pub ceiling-is : q .ceiling ≡ ceiling
@@ -61,26 +64,30 @@ words-facts s t p q e = go (sidesHold p) (wordsHold p) (ceilingHolds p) e
     go true false c x = absurd (turned-runs (Input WordFault) t q x)
     go false b c x = absurd (turned-runs (Input TaskFault) t q x)
 
-pub asked-facts : (cells : List ℕ) (task : ℕ) (upper lower : List ℕ) (ceiling : ℕ) (t : Table) (q : Query) → asked cells task upper lower ceiling ≡ runs t q → AskedFacts t q task upper lower ceiling
+pub asked-facts : (cells : List ℕ) (task : ℕ) (upper lower : List ℕ) (ceiling : ℕ) (t : Table) (q : Query) → asked cells task upper lower ceiling ≡ runs t q → AskedFacts cells t q task upper lower ceiling
 unfolding asked
 asked-facts cells task upper lower ceiling t q e = by-table (loaded cells) refl e
   where
-    by-task : (s : Table) → keepsRules s ≡ true → (o : Option Task) → taskOf task ≡ o → askedTask s o upper lower ceiling ≡ runs t q → AskedFacts t q task upper lower ceiling
+    by-task : (s : Table) → loaded cells ≡ some s → (o : Option Task) → taskOf task ≡ o → askedTask s o upper lower ceiling ≡ runs t q → AskedFacts cells t q task upper lower ceiling
     by-task s k none w x = absurd (turned-runs (Input TaskFault) t q x)
     by-task s k (some a) w x =
         let p : Query = record { task = a; upperWord = upper; lowerWord = lower; ceiling = ceiling } in
         let F = words-facts s t p q x in
+        let T : loaded cells ≡ some t = k ∙ ap (λ (z : Table). some z) (F .0) in
         record {
-          keeps-rules = subst (λ (z : Table). keepsRules z ≡ true) (F .0) k;
+          table-is = T;
+          keeps-rules = loaded-rules cells t T;
           task-is = w ∙ ap (λ (z : Query). some (z .task)) (F .1);
+          upper-is = sym (ap (λ (z : Query). z .upperWord) (F .1));
+          lower-is = sym (ap (λ (z : Query). z .lowerWord) (F .1));
           words-hold = subst (λ (z : Query). wordsHold z ≡ true) (F .1) (F .3);
           ceiling-holds = subst (λ (z : Query). ceilingHolds z ≡ true) (F .1) (F .4);
           ceiling-is = sym (ap (λ (z : Query). z .ceiling) (F .1));
         }
 
-    by-table : (o : Option Table) → loaded cells ≡ o → askedTable o task upper lower ceiling ≡ runs t q → AskedFacts t q task upper lower ceiling
+    by-table : (o : Option Table) → loaded cells ≡ o → askedTable o task upper lower ceiling ≡ runs t q → AskedFacts cells t q task upper lower ceiling
     by-table none w x = absurd (turned-runs _ t q x)
-    by-table (some s) w x = by-task s (loaded-rules cells s w) (taskOf task) refl x
+    by-table (some s) w x = by-task s w (taskOf task) refl x
 
 -- what is turned down before anything runs has the numbers 20, 11, 10 and 39
 abbrev pub TurnedBy : Asked → Type 0
@@ -130,16 +137,19 @@ module _ (t : Table) (q : Query) (U : Ruled t) (W : wordsHold q ≡ true) where
 
 -- askings that differ in their ceilings alone
 pub same-query : (cells : List ℕ) (task : ℕ) (upper lower : List ℕ) (c d : ℕ) (t u : Table) (q r : Query) → asked cells task upper lower c ≡ runs t q → asked cells task upper lower d ≡ runs u r → (t ≡ u) × (withCeiling r c ≡ q)
-unfolding asked
-same-query cells task upper lower c d t u q r a b = by-table (loaded cells) a b
+same-query cells task upper lower c d t u q r a b = (
+  table,
+  λ i. record { task = task-same i; upperWord = (G .upper-is ∙ sym (F .upper-is)) i; lowerWord = (G .lower-is ∙ sym (F .lower-is)) i; ceiling = sym (F .ceiling-is) i },
+)
   where
-    by-task : (s : Table) (o : Option Task) → askedTask s o upper lower c ≡ runs t q → askedTask s o upper lower d ≡ runs u r → (t ≡ u) × (withCeiling r c ≡ q)
-    by-task s none x y = absurd (let z : _≡_ {A = ℕ} 0 1 = cc in omega arith)
-    by-task s (some k) x y =
-        let F = words-facts s t (record { task = k; upperWord = upper; lowerWord = lower; ceiling = c }) q x in
-        let G = words-facts s u (record { task = k; upperWord = upper; lowerWord = lower; ceiling = d }) r y in
-        (sym (F .0) ∙ G .0, ap (λ (z : Query). withCeiling z c) (sym (G .1)) ∙ F .1)
+    F : AskedFacts cells t q task upper lower c
+    F = asked-facts cells task upper lower c t q a
 
-    by-table : (o : Option Table) → askedTable o task upper lower c ≡ runs t q → askedTable o task upper lower d ≡ runs u r → (t ≡ u) × (withCeiling r c ≡ q)
-    by-table none x y = absurd (let z : _≡_ {A = ℕ} 0 1 = cc in omega arith)
-    by-table (some s) x y = by-task s (taskOf task) x y
+    G : AskedFacts cells u r task upper lower d
+    G = asked-facts cells task upper lower d u r b
+
+    table : t ≡ u
+    table = let e : some t ≡ some u = sym (F .table-is) ∙ G .table-is in cc
+
+    task-same : r .task ≡ q .task
+    task-same = let e : some (r .task) ≡ some (q .task) = sym (G .task-is) ∙ F .task-is in cc

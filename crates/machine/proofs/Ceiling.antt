@@ -23,7 +23,7 @@ tested-parts none test e = absurd (let z : _≡_ {A = ℕ} 0 1 = cc in omega ari
 tested-parts (some a) test e = (a, refl, e)
 
 -- tests that hold in the same cases
-both-ways : (a b : Bool) → (a ≡ true → b ≡ true) → (b ≡ true → a ≡ true) → a ≡ b
+pub both-ways : (a b : Bool) → (a ≡ true → b ≡ true) → (b ≡ true → a ≡ true) → a ≡ b
 both-ways true b f g = sym (f refl)
 both-ways false true f g = g refl
 both-ways false false f g = refl

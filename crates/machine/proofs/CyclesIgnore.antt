@@ -1,35 +1,28 @@
 -- "the refusal for loops ignores penalties": tables that are the same without their penalties have the same idle cycles, and their starts tell the same.
 use Prim.Native.Nat.{ℕ}
-use mathlib.Core.Path.{_≡_, refl, sym, ap, ap₂, _∙_}
-use mathlib.Core.Bool.{Bool, true, false, _&&_, _||_}
+use mathlib.Core.Path.{_≡_, refl, sym, ap, _∙_}
+use mathlib.Core.Bool.{Bool, true, false}
 use mathlib.Core.Option.{some}
-use mathlib.Core.List.{List, [], _∷_, map}
-use lib.Dec.{eqb}
+use mathlib.Core.List.{List}
 use Rattle.refusal.specs.declared.Refusal.the-variants.{Input}
 use Rattle.refusal.specs.declared.InputCause.the-variants.{IdleCycle}
-use Rattle.table_format.specs.Table.{Arc, Table, withoutPenalty, withoutPenalties}
-use Rattle.graph.specs.Shown.{hasReachedCycle, shownCycle}
+use Rattle.table_format.specs.Table.{Table, withoutPenalty, withoutPenalties}
 use Rattle.machine.specs.Query.{Task, Query}
-use Rattle.machine.specs.Idle.{idle, leadsBy, always, hasIdleCycle, shownIdle}
+use Rattle.machine.specs.Idle.{hasIdleCycle, shownIdle}
 use Rattle.machine.specs.Asked.{runs, asked}
 use Rattle.machine.specs.declared.StartAnswer.the-variants.{Refused}
 use Rattle.machine.specs.declared.Started.{Started}
 use Rattle.machine.specs.Start.{firstRun, noRun, startedWith, byTest, started, startToldBy}
+use Rattle.machine.proofs.Idle.{cycle-made, shown-made}
 use Rattle.machine.proofs.Asked.{asked-facts}
 use Rattle.machine.proofs.Start.{started-by}
 
--- a test that does not look at the penalty
-leads-same : (test : Arc → Bool) → ((a : Arc) → test (withoutPenalty a) ≡ test a) → (l : List Arc) (s r : ℕ) → leadsBy (map withoutPenalty l) test s r ≡ leadsBy l test s r
-leads-same test h [] s r = refl
-leads-same test h (a ∷ l) s r = ap₂ (λ (b c : Bool). (b && (eqb (a .source) s && eqb (a .target) r)) || c) (h a) (leads-same test h l s r)
-
 module _ (t : Table) (k : Task) where
   cycle-without : hasIdleCycle (withoutPenalties t) k ≡ hasIdleCycle t k
-  unfolding hasIdleCycle
-  cycle-without = λ i. hasReachedCycle (λ s r. leads-same always (λ a. refl) (t .arcs) s r i) (λ s r. leads-same (idle k) (λ a. refl) (t .arcs) s r i) (t .states) (t .initials)
+  cycle-without = cycle-made t withoutPenalty k k (λ a. refl) (λ a. refl) (λ a. refl)
 
   shown-without : shownIdle (withoutPenalties t) k ≡ shownIdle t k
-  shown-without = λ i. shownCycle (λ s r. leads-same always (λ a. refl) (t .arcs) s r i) (λ s r. leads-same (idle k) (λ a. refl) (t .arcs) s r i) (t .states) (t .initials)
+  shown-without = shown-made t withoutPenalty k k (λ a. refl) (λ a. refl) (λ a. refl)
 
 module _ (t u : Table) (same : withoutPenalties t ≡ withoutPenalties u) where
   pub same-cycle : (k : Task) → hasIdleCycle t k ≡ hasIdleCycle u k

@@ -334,7 +334,7 @@ module _ (cells : List ℕ) (task : ℕ) (upper lower : List ℕ) (ceiling : ℕ
       q : Query
       q = R .query
 
-      F : asks.AskedFacts t q task upper lower ceiling
+      F : asks.AskedFacts cells t q task upper lower ceiling
       F = asks.asked-facts cells task upper lower ceiling t q (R .is)
 
       U : Ruled t

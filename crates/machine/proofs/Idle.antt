@@ -3,8 +3,8 @@ use Prim.Native.Nat.{ℕ, _<_}
 use native.Mathlib.Omega.{arith}
 use mathlib.Core.Path.{_≡_, refl, sym, subst, _∙_}
 use mathlib.Core.Logic.{_↔_}
-use mathlib.Core.Bool.{Bool, true, false, _&&_}
-use mathlib.Core.List.{List, [], _∷_, List·Memᴰ}
+use mathlib.Core.Bool.{Bool, true, false, _&&_, _||_}
+use mathlib.Core.List.{List, [], _∷_, map, List·Memᴰ}
 use lib.ListN.{length}
 use lib.Dec.{eqb}
 use borrow.Author.Tests.{eqb-true, eq-eqb}
@@ -13,6 +13,7 @@ use Rattle.table_format.proofs.Tests.{and-left, and-right, and-both}
 use Rattle.table_format.proofs.Any.{any-found, any-mem}
 use Rattle.table_format.proofs.Ruled.{Ruled}
 use Rattle.graph.specs.Walk.{Among, Decides}
+use Rattle.graph.specs.Shown.{hasReachedCycle, shownCycle}
 use Rattle.graph.proofs.Reached.{cycle-reached}
 use Rattle.graph.proofs.Shown as graphs
 use Rattle.machine.specs.Query.{Task}
@@ -128,3 +129,21 @@ module _ (t u : Table) (U : Ruled t) (O : Ruled u) (i : (s : ℕ) → List·Mem�
       go true b h g = sym (shown-is u k O (shownIdle t k) (shown-too t u i f k (shownIdle t k) (shown-there t k U h)))
       go false true h g = shown-is t k U (shownIdle u k) (shown-too u t (λ s. (i s .1, i s .0)) (λ a. (f a .1, f a .0)) k (shownIdle u k) (shown-there u k O g))
       go false false h g = shown-none t k U h ∙ sym (shown-none u k O g)
+
+-- A table whose arcs are made of another's, with their sources and targets: where an arc is idle exactly if the other is, though for another task, the
+-- idle cycles are the same.
+module _ (t : Table) (f : Arc → Arc) (j k : Task) (from : (a : Arc) → f a .source ≡ a .source) (to : (a : Arc) → f a .target ≡ a .target) (same : (a : Arc) → idle j (f a) ≡ idle k a) where
+  abbrev made : Table
+  made = record { states = t .states; classes = t .classes; initials = t .initials; terminals = t .terminals; arcs = map f (t .arcs) }
+
+  leads-made : (test other : Arc → Bool) → ((a : Arc) → other (f a) ≡ test a) → (l : List Arc) (s r : ℕ) → leadsBy (map f l) other s r ≡ leadsBy l test s r
+  leads-made test other h [] s r = refl
+  leads-made test other h (a ∷ l) s r =
+      λ i. (h a i && (eqb (from a i) s && eqb (to a i) r)) || leads-made test other h l s r i
+
+  pub cycle-made : hasIdleCycle made j ≡ hasIdleCycle t k
+  unfolding hasIdleCycle
+  cycle-made = λ i. hasReachedCycle (λ s r. leads-made always always (λ a. refl) (t .arcs) s r i) (λ s r. leads-made (idle k) (idle j) same (t .arcs) s r i) (t .states) (t .initials)
+
+  pub shown-made : shownIdle made j ≡ shownIdle t k
+  shown-made = λ i. shownCycle (λ s r. leads-made always always (λ a. refl) (t .arcs) s r i) (λ s r. leads-made (idle k) (idle j) same (t .arcs) s r i) (t .states) (t .initials)

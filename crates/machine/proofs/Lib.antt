@@ -8,6 +8,7 @@ pub mod Narrow
 pub mod Options
 pub mod Ceiling
 pub mod Higher
+pub mod Morphism
 pub mod Free
 pub mod Turn
 pub mod Stops

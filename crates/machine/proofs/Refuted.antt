@@ -9,7 +9,7 @@ use Rattle.refusal.specs.declared.Refusal.the-variants.{State}
 use Rattle.refusal.specs.declared.StateCause.the-variants.{OutputFull}
 use Rattle.machine.specs.declared.Run.{Run}
 use Rattle.machine.specs.declared.Answer.the-variants.{Refused}
-use Rattle.machine.specs.Query.{Query, synthesis, mostCeiling}
+use Rattle.machine.specs.Query.{Query, mostCeiling, synthesisOf}
 use Rattle.machine.specs.Frames.{placeHolds}
 use Rattle.machine.specs.Step.{move, step}
 use Rattle.machine.specs.Call.{advance, call}
@@ -27,7 +27,7 @@ refusesAll r x = record { called = record { answer = Refused 0 (State OutputFull
 
 -- the first row's query and what its first call is lent
 abbrev pub queryK : Query
-queryK = record { task = synthesis; upperWord = 1 ∷ 2 ∷ []; lowerWord = []; ceiling = mostCeiling }
+queryK = synthesisOf (1 ∷ 2 ∷ []) mostCeiling
 
 abbrev pub firstK : Lent
 firstK = lentFor (cellsOf (tableK [])) big []

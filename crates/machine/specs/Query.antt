@@ -84,3 +84,13 @@ ceilingHolds q = leb (q .ceiling) mostCeiling
 -- the same question under another ceiling
 abbrev pub withCeiling : Query → ℕ → Query
 withCeiling q c = record { task = q .task; upperWord = q .upperWord; lowerWord = q .lowerWord; ceiling = c }
+
+-- what each task is asked: recognition of two words, synthesis of an upper one, analysis of a lower one
+abbrev pub recognitionOf : List ℕ → List ℕ → ℕ → Query
+recognitionOf upper lower ceiling = record { task = recognition; upperWord = upper; lowerWord = lower; ceiling = ceiling }
+
+abbrev pub synthesisOf : List ℕ → ℕ → Query
+synthesisOf w ceiling = record { task = synthesis; upperWord = w; lowerWord = []; ceiling = ceiling }
+
+abbrev pub analysisOf : List ℕ → ℕ → Query
+analysisOf w ceiling = record { task = analysis; upperWord = []; lowerWord = w; ceiling = ceiling }

@@ -9,7 +9,7 @@ use Rattle.table_format.specs.Table.{Table}
 use Rattle.table_format.specs.Loaded.{cellsOf}
 use Rattle.machine.specs.declared.Started.{Started}
 use Rattle.machine.specs.declared.StartAnswer.the-variants.{Ready}
-use Rattle.machine.specs.Query.{Query, synthesis, wordHolds, mostCeiling}
+use Rattle.machine.specs.Query.{Query, synthesis, wordHolds, mostCeiling, synthesisOf}
 use Rattle.machine.specs.Tour.{Entry, tour, readings}
 use Rattle.machine.specs.Asked.{runs, asked}
 use Rattle.machine.specs.Start.{started, StartedIs}
@@ -23,7 +23,7 @@ use Rattle.trie_format.specs.Trie.{trieTable}
 use Rattle.trie_format.proofs.Names.{names}
 use Rattle.trie_format.proofs.Headlines.{trie-loaded}
 use Rattle.segmentation.specs.Ways.{waysToCut, joined}
-use Rattle.segmentation.specs.Readings.{synthesisOf, treeMachine, treeReadings}
+use Rattle.segmentation.specs.Readings.{treeMachine, treeReadings}
 use Rattle.segmentation.proofs.Cuts.{cuts-on}
 use Rattle.segmentation.proofs.Idle.{no-idle-cycle}
 

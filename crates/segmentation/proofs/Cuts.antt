@@ -11,6 +11,7 @@ use lib.ListN.{length, getD, drop, List·getD-eq-default}
 use lib.Dec.{eqb, leb·zero}
 use borrow.Author.Tests.{eq-eqb, ne-eqb}
 use Rattle.graph.proofs.Lists.{most?}
+use Rattle.machine.specs.Query.{synthesisOf}
 use Rattle.machine.specs.Machine.{Machine}
 use Rattle.machine.specs.Tour.{readings, readingIf, tour}
 use Rattle.machine.specs.Transducer.{Passed, machine}
@@ -22,7 +23,6 @@ use Rattle.trie_format.specs.Trie.{placeFrom, letterArcs, cutArc, arcsOf, table
 use Rattle.trie_format.proofs.Names.{place-found, ends-are, above-root, Names}
 use Rattle.trie_format.proofs.Shapes.{arcs-from}
 use Rattle.segmentation.specs.Ways.{cutsFrom, waysToCut, joined}
-use Rattle.segmentation.specs.Readings.{synthesisOf}
 use Rattle.machine.proofs.ArcLists.{listTell, list-tell-append}
 use Rattle.segmentation.proofs.Parts.{state-part}
 use Rattle.segmentation.proofs.Ways.{cuts-none, cuts-join}

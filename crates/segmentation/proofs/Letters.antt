@@ -10,11 +10,11 @@ use lib.Dec.{leb·zero}
 use borrow.Author.Tests.{eq-eqb, ne-eqb, lt-ltb}
 use Rattle.table_format.specs.Table.{Arc, Table}
 use Rattle.graph.proofs.Lists.{same?}
+use Rattle.machine.specs.Query.{synthesisOf}
 use Rattle.machine.specs.Transducer.{Passed}
 use Rattle.machine.specs.Denotation.{ifFits}
 use Rattle.lexicon.specs.Words.{Word}
 use Rattle.trie_format.specs.Trie.{placeFrom, letterArc, letterArcs}
-use Rattle.segmentation.specs.Readings.{synthesisOf}
 use Rattle.machine.proofs.ArcLists.{listTell, list-tell-append}
 
 -- letters passed, with no penalty

@@ -1,16 +1,12 @@
 -- The readings in synthesis of a word over the letter tree's table of a list of words, under a ceiling; no arc of the tree has a penalty.
 use Prim.Native.Nat.{ℕ}
-use mathlib.Core.List.{List, []}
-use Rattle.machine.specs.Query.{Query, synthesis}
+use mathlib.Core.List.{List}
+use Rattle.machine.specs.Query.{synthesisOf}
 use Rattle.machine.specs.Machine.{Machine}
 use Rattle.machine.specs.Tour.{tour, readings}
 use Rattle.machine.specs.Transducer.{machine}
 use Rattle.lexicon.specs.Words.{Word}
 use Rattle.trie_format.specs.Trie.{trieTable}
-
--- what is asked
-abbrev pub synthesisOf : Word → ℕ → Query
-synthesisOf w ceiling = record { task = synthesis; upperWord = w; lowerWord = []; ceiling = ceiling }
 
 -- the machine of the tree's table
 abbrev pub treeMachine : List Word → Word → ℕ → Machine

@@ -1,0 +1,137 @@
+-- What a caller receives, by demand 3: from searches on a table and on its inverse, and from the three tasks on one table.
+use Prim.Native.Nat.{ℕ}
+use native.Mathlib.Nat.{zero-add}
+use mathlib.Core.Path.{_≡_, refl, sym, ap, subst, subst₂, _∙_}
+use mathlib.Core.Bool.{true}
+use mathlib.Core.Option.{some}
+use mathlib.Core.List.{List, []}
+use lib.ListN.{length, take}
+use Rattle.table_format.specs.Table.{Table}
+use Rattle.table_format.specs.Rules.{keepsRules}
+use Rattle.table_format.specs.Loaded.{loaded}
+use Rattle.machine.specs.Query.{Task, recognition, synthesis, analysis, taskOf, Query, recognitionOf, analysisOf}
+use Rattle.machine.specs.Machine.{Machine}
+use Rattle.machine.specs.Tour.{Entry, tour, readings}
+use Rattle.machine.specs.Transducer.{machine}
+use Rattle.machine.specs.Idle.{NoIdleCycle}
+use Rattle.machine.specs.Asked.{runs, asked}
+use Rattle.machine.specs.Demand.{Demand3, Lent, Handed}
+use Rattle.machine.proofs.Asked.{AskedFacts, asked-facts}
+use Rattle.machine.proofs.Order.{readings-outputs}
+use Rattle.machine.proofs.Demand.{ended-steps}
+use Rattle.machine.proofs.Morphism.{Morphism, tour-same, tree-same, told-same}
+use Rattle.machine.proofs.Headlines as machines
+use Rattle.inverse.specs.Inverse.{inverse, inverseLoaded, inverseNumber, inverseQuery}
+use Rattle.inverse.specs.Readings.{readingsOf, occurrences}
+use Rattle.inverse.specs.Search.{Search, key, steps, Ended}
+use Rattle.inverse.proofs.Table.{rules-alike}
+use Rattle.inverse.proofs.Machine.{inverse-morphism}
+use Rattle.inverse.proofs.Starts.{inverseAsked, same-asked}
+use Rattle.inverse.proofs.Counts as counts
+
+-- A search on a table, and one on its inverse with the sides of the question exchanged.
+module _ (c d : List ℕ) (inverted : loaded d ≡ inverseLoaded (loaded c)) (task : ℕ) (u l : List ℕ) (ceiling : ℕ)
+    (X : Search c task u l ceiling) (Y : Search d (inverseNumber task) l u ceiling) where
+  abbrev one : (t : Table) × (q : Query) × (asked c task u l ceiling ≡ runs t q) × ((zs : List Lent) → Handed u l c (X .start .run) [] zs → Demand3 u l t q (X .start .run) zs)
+  one = machines.demand-three c task u l ceiling (X .start) (X .start-is) (X .ready)
+
+  abbrev t : Table
+  t = one .0
+
+  abbrev q : Query
+  q = one .1
+
+  abbrev M : Machine
+  M = machine t q
+
+  abbrev N : Machine
+  N = machine (inverse t) (inverseQuery q)
+
+  F : Morphism M N
+  F = inverse-morphism t (rules-alike t (asked-facts c task u l ceiling t q (one .2) .keeps-rules)) q
+
+  mine : Demand3 u l t q (X .start .run) (X .calls)
+  mine = one .3 (X .calls) (X .handed)
+
+  theirs : Demand3 l u (inverse t) (inverseQuery q) (Y .start .run) (Y .calls)
+  theirs =
+      let E = machines.demand-three d (inverseNumber task) l u ceiling (Y .start) (Y .start-is) (Y .ready) in
+      let e : runs (E .0) (E .1) ≡ runs (inverse t) (inverseQuery q) = sym (E .2) ∙ same-asked c d inverted task u l ceiling ∙ ap inverseAsked (one .2) in
+      subst₂ (λ (x : Table) (y : Query). Demand3 l u x y (Y .start .run) (Y .calls)) (cc) (cc) (E .3 (Y .calls) (Y .handed))
+
+  -- after as many steps the same readings were received, whatever the calls
+  pub same-so-far : steps X ≡ steps Y → key X ≡ key Y
+  same-so-far e =
+      mine .same-readings ∙ ap (λ (n : ℕ). readings M (take n (tour M))) e ∙ sym (ap (λ (es : List Entry). readings M (take (steps Y) es)) (tour-same M N F))
+      ∙ sym (told-same M N F (take (steps Y) (tour N))) ∙ sym (theirs .same-readings)
+
+  pub same-steps : Ended X → Ended Y → steps X ≡ steps Y
+  same-steps a b =
+      sym (zero-add (steps X)) ∙ ended-steps u l t q (X .calls) 0 (X .start .run) (mine .tells) a ∙ sym (tree-same M N F)
+      ∙ sym (ended-steps l u (inverse t) (inverseQuery q) (Y .calls) 0 (Y .start .run) (theirs .tells) b) ∙ zero-add (steps Y)
+
+-- One search: its table, and the whole key.
+
+-- what is asked, by task and words
+abbrev question : Task → List ℕ → List ℕ → ℕ → Query
+question k u l ceiling = record { task = k; upperWord = u; lowerWord = l; ceiling = ceiling }
+
+pub record Told {c : List ℕ} {task : ℕ} {u l : List ℕ} {ceiling : ℕ} (k : Task) (X : Search c task u l ceiling) : Type 0 where
+  pub table : Table
+  pub table-is : loaded c ≡ some table
+  pub rules : keepsRules table ≡ true
+  pub no-cycle : NoIdleCycle table k
+  pub whole : Ended X → key X ≡ readingsOf table (question k u l ceiling)
+
+module _ {c : List ℕ} {task : ℕ} {u l : List ℕ} {ceiling : ℕ} (k : Task) (e : taskOf task ≡ some k) (X : Search c task u l ceiling) where
+  told : Told k X
+  told =
+      let E = machines.start-to-end c task u l ceiling (X .start) (X .start-is) (X .ready) in
+      by (E .0) (E .1) (E .2) (E .3) (E .4) (λ a. E .5 (X .calls) (X .handed) a ∙ sym (readings-outputs (machine (E .0) (E .1)) (tour (machine (E .0) (E .1)))))
+    where
+      by : (t : Table) (q : Query) → asked c task u l ceiling ≡ runs t q → keepsRules t ≡ true → NoIdleCycle t (q .task) → (Ended X → key X ≡ readingsOf t q) → Told k X
+      by t q a rules none whole =
+          record {
+            table = t;
+            table-is = F .table-is;
+            rules = rules;
+            no-cycle = subst (λ (x : Query). NoIdleCycle t (x .task)) query-is none;
+            whole = λ z. whole z ∙ ap (readingsOf t) query-is;
+          }
+        where
+          F : AskedFacts c t q task u l ceiling
+          F = asked-facts c task u l ceiling t q a
+
+          task-is : q .task ≡ k
+          task-is = let x : some (q .task) ≡ some k = sym (F .task-is) ∙ e in cc
+
+          query-is : q ≡ question k u l ceiling
+          query-is = λ i. record { task = task-is i; upperWord = F .upper-is i; lowerWord = F .lower-is i; ceiling = F .ceiling-is i }
+
+-- The tasks on one table.
+module _ (c u l : List ℕ) (ceiling : ℕ) where
+  -- one table, and what each task tells of it
+  same-table : (s t : Table) → loaded c ≡ some s → loaded c ≡ some t → s ≡ t
+  same-table s t a b = let x : some s ≡ some t = sym a ∙ b in cc
+
+  pub synthesis-count : (R : Search c 1 u l ceiling) (S : Search c 2 u [] ceiling) → Ended R → Ended S → length (key R) ≡ occurrences l (key S)
+  synthesis-count R S a b =
+      let A = told recognition refl R in
+      let B = told synthesis refl S in
+      ap length (A .whole a ∙ ap (λ (t : Table). readingsOf t (recognitionOf u l ceiling)) (same-table (A .table) (B .table) (A .table-is) (B .table-is)))
+      ∙ counts.as-many (B .table) (recognitionOf u l ceiling) ∙ counts.synthesis-count (B .table) (B .rules) u l ceiling (B .no-cycle) ∙ sym (ap (occurrences l) (B .whole b))
+
+  pub analysis-count : (R : Search c 1 u l ceiling) (S : Search c 3 [] l ceiling) → Ended R → Ended S → length (key R) ≡ occurrences u (key S)
+  analysis-count R S a b =
+      let A = told recognition refl R in
+      let B = told analysis refl S in
+      ap length (A .whole a ∙ ap (λ (t : Table). readingsOf t (recognitionOf u l ceiling)) (same-table (A .table) (B .table) (A .table-is) (B .table-is)))
+      ∙ counts.as-many (B .table) (recognitionOf u l ceiling) ∙ counts.analysis-count (B .table) (B .rules) u l ceiling (B .no-cycle) ∙ sym (ap (occurrences u) (B .whole b))
+
+  pub keys-agree : (S : Search c 2 u [] ceiling) (A : Search c 3 [] l ceiling) → Ended S → Ended A → occurrences l (key S) ≡ occurrences u (key A)
+  keys-agree S A a b =
+      let B = told synthesis refl S in
+      let C = told analysis refl A in
+      ap (occurrences l) (B .whole a) ∙ sym (counts.synthesis-count (B .table) (B .rules) u l ceiling (B .no-cycle))
+      ∙ counts.analysis-count (B .table) (B .rules) u l ceiling (subst (λ (t : Table). NoIdleCycle t analysis) (same-table (C .table) (B .table) (C .table-is) (B .table-is)) (C .no-cycle))
+      ∙ ap (λ (t : Table). occurrences u (readingsOf t (analysisOf l ceiling))) (same-table (B .table) (C .table) (B .table-is) (C .table-is)) ∙ sym (ap (occurrences u) (C .whole b))
