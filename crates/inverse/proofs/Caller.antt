@@ -9,7 +9,7 @@ use lib.ListN.{length, take}
 use Rattle.table_format.specs.Table.{Table}
 use Rattle.table_format.specs.Rules.{keepsRules}
 use Rattle.table_format.specs.Loaded.{loaded}
-use Rattle.machine.specs.Query.{Task, recognition, synthesis, analysis, taskOf, Query, recognitionOf, analysisOf}
+use Rattle.machine.specs.Query.{Task, recognition, synthesis, analysis, taskOf, Query, recognitionOf}
 use Rattle.machine.specs.Machine.{Machine}
 use Rattle.machine.specs.Tour.{Entry, tour, readings}
 use Rattle.machine.specs.Transducer.{machine}
@@ -22,7 +22,7 @@ use Rattle.machine.proofs.Demand.{ended-steps}
 use Rattle.machine.proofs.Morphism.{Morphism, tour-same, tree-same, told-same}
 use Rattle.machine.proofs.Headlines as machines
 use Rattle.inverse.specs.Inverse.{inverse, inverseLoaded, inverseNumber, inverseQuery}
-use Rattle.inverse.specs.Readings.{readingsOf, occurrences}
+use Rattle.inverse.specs.Readings.{acceptingPaths, readingsOf, occurrences}
 use Rattle.inverse.specs.Search.{Search, key, steps, Ended}
 use Rattle.inverse.proofs.Table.{rules-alike}
 use Rattle.inverse.proofs.Machine.{inverse-morphism}
@@ -110,28 +110,29 @@ module _ {c : List ℕ} {task : ℕ} {u l : List ℕ} {ceiling : ℕ} (k : Task)
 
 -- The tasks on one table.
 module _ (c u l : List ℕ) (ceiling : ℕ) where
-  -- one table, and what each task tells of it
   same-table : (s t : Table) → loaded c ≡ some s → loaded c ≡ some t → s ≡ t
   same-table s t a b = let x : some s ≡ some t = sym a ∙ b in cc
 
-  pub synthesis-count : (R : Search c 1 u l ceiling) (S : Search c 2 u [] ceiling) → Ended R → Ended S → length (key R) ≡ occurrences l (key S)
-  synthesis-count R S a b =
+  -- recognition against a task whose readings are counted so
+  counted : {task : ℕ} {v w : List ℕ} (k : Task) → taskOf task ≡ some k → (x : List ℕ)
+      → ((t : Table) → keepsRules t ≡ true → NoIdleCycle t k → length (acceptingPaths t (recognitionOf u l ceiling)) ≡ occurrences x (readingsOf t (question k v w ceiling)))
+      → (R : Search c 1 u l ceiling) (S : Search c task v w ceiling) → Ended R → Ended S → length (key R) ≡ occurrences x (key S)
+  counted k e x count R S a b =
       let A = told recognition refl R in
-      let B = told synthesis refl S in
+      let B = told k e S in
       ap length (A .whole a ∙ ap (λ (t : Table). readingsOf t (recognitionOf u l ceiling)) (same-table (A .table) (B .table) (A .table-is) (B .table-is)))
-      ∙ counts.as-many (B .table) (recognitionOf u l ceiling) ∙ counts.synthesis-count (B .table) (B .rules) u l ceiling (B .no-cycle) ∙ sym (ap (occurrences l) (B .whole b))
+      ∙ counts.as-many (B .table) (recognitionOf u l ceiling) ∙ count (B .table) (B .rules) (B .no-cycle) ∙ sym (ap (occurrences x) (B .whole b))
 
-  pub analysis-count : (R : Search c 1 u l ceiling) (S : Search c 3 [] l ceiling) → Ended R → Ended S → length (key R) ≡ occurrences u (key S)
-  analysis-count R S a b =
-      let A = told recognition refl R in
-      let B = told analysis refl S in
-      ap length (A .whole a ∙ ap (λ (t : Table). readingsOf t (recognitionOf u l ceiling)) (same-table (A .table) (B .table) (A .table-is) (B .table-is)))
-      ∙ counts.as-many (B .table) (recognitionOf u l ceiling) ∙ counts.analysis-count (B .table) (B .rules) u l ceiling (B .no-cycle) ∙ sym (ap (occurrences u) (B .whole b))
+  pub synthesis-count : (R : Search c 1 u l ceiling) (S : Search c 2 u [] ceiling) → Ended R → Ended S → length (key R) ≡ occurrences l (key S)
+  synthesis-count = counted synthesis refl l (λ t rules none. counts.synthesis-count t rules u l ceiling none)
+
+  pub analysis-count : (R : Search c 1 u l ceiling) (A : Search c 3 [] l ceiling) → Ended R → Ended A → length (key R) ≡ occurrences u (key A)
+  analysis-count = counted analysis refl u (λ t rules none. counts.analysis-count t rules u l ceiling none)
 
   pub keys-agree : (S : Search c 2 u [] ceiling) (A : Search c 3 [] l ceiling) → Ended S → Ended A → occurrences l (key S) ≡ occurrences u (key A)
   keys-agree S A a b =
       let B = told synthesis refl S in
       let C = told analysis refl A in
       ap (occurrences l) (B .whole a) ∙ sym (counts.synthesis-count (B .table) (B .rules) u l ceiling (B .no-cycle))
-      ∙ counts.analysis-count (B .table) (B .rules) u l ceiling (subst (λ (t : Table). NoIdleCycle t analysis) (same-table (C .table) (B .table) (C .table-is) (B .table-is)) (C .no-cycle))
-      ∙ ap (λ (t : Table). occurrences u (readingsOf t (analysisOf l ceiling))) (same-table (B .table) (C .table) (B .table-is) (C .table-is)) ∙ sym (ap (occurrences u) (C .whole b))
+      ∙ ap (λ (t : Table). length (acceptingPaths t (recognitionOf u l ceiling))) (same-table (B .table) (C .table) (B .table-is) (C .table-is))
+      ∙ counts.analysis-count (C .table) (C .rules) u l ceiling (C .no-cycle) ∙ sym (ap (occurrences u) (C .whole b))

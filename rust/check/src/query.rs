@@ -17,6 +17,15 @@ pub fn sides(task: u32) -> Option<(bool, bool)> {
     }
 }
 
+/// The task with the sides exchanged.
+pub fn inverse(task: u32) -> u32 {
+    match task {
+        SYNTHESIS => ANALYSIS,
+        ANALYSIS => SYNTHESIS,
+        other => other,
+    }
+}
+
 fn word_is_bad(word: &[u8]) -> bool {
     word.len() > 64 || word.iter().any(|letter| *letter == 0 || *letter > 63)
 }

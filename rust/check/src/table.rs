@@ -68,6 +68,15 @@ impl Arc {
         }
     }
 
+    /// The same with its letters exchanged.
+    pub fn inverse(self) -> Arc {
+        Arc {
+            upper: self.lower,
+            lower: self.upper,
+            ..self
+        }
+    }
+
     pub fn cells(&self) -> [u16; ARC_CELLS] {
         [
             self.source,
@@ -147,6 +156,14 @@ impl Table {
             table.arcs.push(arc);
         }
         fault.is_none().then_some(table)
+    }
+
+    /// The same with the letters of each arc exchanged; arcs keep their numbers.
+    pub fn inverse(&self) -> Table {
+        Table {
+            arcs: self.arcs.iter().map(|arc| arc.inverse()).collect(),
+            ..self.clone()
+        }
     }
 
     /// The arcs without a class that an arc stands for, by rising letter: itself where it has none.

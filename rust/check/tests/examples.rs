@@ -81,6 +81,24 @@ fn the_far_fetched_readings_under_ceilings() {
     }
 }
 
+/// The text of a session's input, or of what it prints.
+fn example(name: &str) -> String {
+    fs::read_to_string(from_root(&format!("examples/{name}"))).expect("an example")
+}
+
+/// The table of the one has the letters of the other's exchanged, and synthesis on it prints what analysis does on the other.
+#[test]
+fn the_exchanged_table_prints_the_same() {
+    let (table, exchanged) = (example("backward.txt"), example("exchanged.txt"));
+    let table = table
+        .strip_suffix("100300020505\n")
+        .expect("analysis of ee");
+    let inverse = text::parse(table.as_bytes()).expect("a table").inverse();
+    let expected = [&text::print(&inverse)[..], b"100202050500\n"].concat();
+    assert_eq!(exchanged.as_bytes(), expected);
+    assert_eq!(example("backward.out"), example("exchanged.out"));
+}
+
 /// What a C program under examples/ prints. The header and the archive serve it; `cc` is the compiler that links these tests too.
 fn c_program(name: &str) -> String {
     let program = Path::new(env!("CARGO_TARGET_TMPDIR")).join(name);

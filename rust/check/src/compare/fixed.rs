@@ -1,6 +1,6 @@
 //! The fixed series of cases that an engine is put to.
 use super::tally::Tally;
-use super::{cuts, damage, search, series, sheets, start, texts, words};
+use super::{cuts, damage, inverse, search, series, sheets, start, texts, words};
 use crate::engine::{Engine, Sheets, Texts, Trees};
 
 /// Starts and lists of calls on one run.
@@ -108,4 +108,51 @@ pub fn all_sheets(sheets: &impl Sheets) -> Result<(), String> {
     sheets::faults(sheets)?;
     self::sheets(sheets)?;
     Ok(())
+}
+
+/// Starts on good and bad tables, tasks and words, beside those on the inverse tables.
+pub fn inverse_starts(engine: &impl Engine) -> Result<Tally, String> {
+    series("inverse starts", 0x1F7E45, 10_000, |random, tally| {
+        inverse::compare(engine, inverse::cells, |both| {
+            start::any(both, random, tally)
+        })
+    })
+}
+
+/// Starts on tables with many idle arcs between few states, beside those on the inverse tables.
+pub fn inverse_knots(engine: &impl Engine) -> Result<Tally, String> {
+    series("inverse knots", 0x1F7E46, 3_000, |random, tally| {
+        inverse::compare(engine, inverse::cells, |both| {
+            start::knotted(both, random, tally)
+        })
+    })
+}
+
+/// Starts and lists of calls on one run, beside those on the inverse table.
+pub fn inverse_searches(engine: &impl Engine) -> Result<Tally, String> {
+    let seed = inverse::SEARCHES;
+    series("inverse searches", seed, 5_000, |random, tally| {
+        inverse::compare(engine, inverse::cells, |both| {
+            search::any(both, random, tally)
+        })
+    })
+}
+
+/// Calls on places with damage, beside those on the inverse tables.
+pub fn inverse_places(engine: &impl Engine) -> Result<Tally, String> {
+    series("inverse places", 0x1F7E48, 10_000, |random, tally| {
+        inverse::compare(engine, inverse::cells, |both| {
+            damage::any(both, random, tally)
+        })
+    })
+}
+
+/// Tables with and without damage written, beside the inverse ones.
+pub fn inverse_tables(texts: &impl Texts) -> Result<Tally, String> {
+    series("inverse tables", 0x1F7E49, 4_000, |random, tally| {
+        inverse::compare(texts, inverse::cells, |both| {
+            texts::round_trip(both, random, tally)?;
+            texts::damaged(both, random, tally)
+        })
+    })
 }

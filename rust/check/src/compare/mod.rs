@@ -7,6 +7,7 @@ pub mod damage;
 mod filled;
 pub mod fixed;
 mod flaws;
+pub mod inverse;
 pub mod listed;
 pub mod loops;
 pub mod page;
