@@ -3,7 +3,7 @@ use Prim.Native.Nat.{ℕ}
 use native.Mathlib.Nat.{zero-add}
 use mathlib.Core.Path.{_≡_, refl, sym, ap, subst, subst₂, _∙_}
 use mathlib.Core.Bool.{true}
-use mathlib.Core.Option.{some}
+use mathlib.Core.Option.{some, Option·map}
 use mathlib.Core.List.{List, []}
 use lib.ListN.{length, take}
 use Rattle.table_format.specs.Table.{Table}
@@ -21,16 +21,16 @@ use Rattle.machine.proofs.Order.{readings-outputs}
 use Rattle.machine.proofs.Demand.{ended-steps}
 use Rattle.machine.proofs.Morphism.{Morphism, tour-same, tree-same, told-same}
 use Rattle.machine.proofs.Headlines as machines
-use Rattle.inverse.specs.Inverse.{inverse, inverseLoaded, inverseNumber, inverseQuery}
+use Rattle.inverse.specs.Inverse.{inverse, inverseNumber, inverseQuery}
 use Rattle.inverse.specs.Readings.{acceptingPaths, readingsOf, occurrences}
-use Rattle.inverse.specs.Search.{Search, key, steps, Ended}
+use Rattle.inverse.specs.Search.{Search, receivedBy, steps, Ended}
 use Rattle.inverse.proofs.Table.{rules-alike}
 use Rattle.inverse.proofs.Machine.{inverse-morphism}
 use Rattle.inverse.proofs.Starts.{inverseAsked, same-asked}
 use Rattle.inverse.proofs.Counts as counts
 
 -- A search on a table, and one on its inverse with the sides of the question exchanged.
-module _ (c d : List ℕ) (inverted : loaded d ≡ inverseLoaded (loaded c)) (task : ℕ) (u l : List ℕ) (ceiling : ℕ)
+module _ (c d : List ℕ) (inverted : loaded d ≡ Option·map inverse (loaded c)) (task : ℕ) (u l : List ℕ) (ceiling : ℕ)
     (X : Search c task u l ceiling) (Y : Search d (inverseNumber task) l u ceiling) where
   abbrev one : (t : Table) × (q : Query) × (asked c task u l ceiling ≡ runs t q) × ((zs : List Lent) → Handed u l c (X .start .run) [] zs → Demand3 u l t q (X .start .run) zs)
   one = machines.demand-three c task u l ceiling (X .start) (X .start-is) (X .ready)
@@ -60,7 +60,7 @@ module _ (c d : List ℕ) (inverted : loaded d ≡ inverseLoaded (loaded c)) (ta
       subst₂ (λ (x : Table) (y : Query). Demand3 l u x y (Y .start .run) (Y .calls)) (cc) (cc) (E .3 (Y .calls) (Y .handed))
 
   -- after as many steps the same readings were received, whatever the calls
-  pub same-so-far : steps X ≡ steps Y → key X ≡ key Y
+  pub same-so-far : steps X ≡ steps Y → receivedBy X ≡ receivedBy Y
   same-so-far e =
       mine .same-readings ∙ ap (λ (n : ℕ). readings M (take n (tour M))) e ∙ sym (ap (λ (es : List Entry). readings M (take (steps Y) es)) (tour-same M N F))
       ∙ sym (told-same M N F (take (steps Y) (tour N))) ∙ sym (theirs .same-readings)
@@ -70,7 +70,7 @@ module _ (c d : List ℕ) (inverted : loaded d ≡ inverseLoaded (loaded c)) (ta
       sym (zero-add (steps X)) ∙ ended-steps u l t q (X .calls) 0 (X .start .run) (mine .tells) a ∙ sym (tree-same M N F)
       ∙ sym (ended-steps l u (inverse t) (inverseQuery q) (Y .calls) 0 (Y .start .run) (theirs .tells) b) ∙ zero-add (steps Y)
 
--- One search: its table, and the whole key.
+-- One search: its table, and all that it received where it came to its end.
 
 -- what is asked, by task and words
 abbrev question : Task → List ℕ → List ℕ → ℕ → Query
@@ -81,7 +81,7 @@ pub record Told {c : List ℕ} {task : ℕ} {u l : List ℕ} {ceiling : ℕ} (k 
   pub table-is : loaded c ≡ some table
   pub rules : keepsRules table ≡ true
   pub no-cycle : NoIdleCycle table k
-  pub whole : Ended X → key X ≡ readingsOf table (question k u l ceiling)
+  pub whole : Ended X → receivedBy X ≡ readingsOf table (question k u l ceiling)
 
 module _ {c : List ℕ} {task : ℕ} {u l : List ℕ} {ceiling : ℕ} (k : Task) (e : taskOf task ≡ some k) (X : Search c task u l ceiling) where
   told : Told k X
@@ -89,7 +89,7 @@ module _ {c : List ℕ} {task : ℕ} {u l : List ℕ} {ceiling : ℕ} (k : Task)
       let E = machines.start-to-end c task u l ceiling (X .start) (X .start-is) (X .ready) in
       by (E .0) (E .1) (E .2) (E .3) (E .4) (λ a. E .5 (X .calls) (X .handed) a ∙ sym (readings-outputs (machine (E .0) (E .1)) (tour (machine (E .0) (E .1)))))
     where
-      by : (t : Table) (q : Query) → asked c task u l ceiling ≡ runs t q → keepsRules t ≡ true → NoIdleCycle t (q .task) → (Ended X → key X ≡ readingsOf t q) → Told k X
+      by : (t : Table) (q : Query) → asked c task u l ceiling ≡ runs t q → keepsRules t ≡ true → NoIdleCycle t (q .task) → (Ended X → receivedBy X ≡ readingsOf t q) → Told k X
       by t q a rules none whole =
           record {
             table = t;
@@ -116,20 +116,20 @@ module _ (c u l : List ℕ) (ceiling : ℕ) where
   -- recognition against a task whose readings are counted so
   counted : {task : ℕ} {v w : List ℕ} (k : Task) → taskOf task ≡ some k → (x : List ℕ)
       → ((t : Table) → keepsRules t ≡ true → NoIdleCycle t k → length (acceptingPaths t (recognitionOf u l ceiling)) ≡ occurrences x (readingsOf t (question k v w ceiling)))
-      → (R : Search c 1 u l ceiling) (S : Search c task v w ceiling) → Ended R → Ended S → length (key R) ≡ occurrences x (key S)
+      → (R : Search c 1 u l ceiling) (S : Search c task v w ceiling) → Ended R → Ended S → length (receivedBy R) ≡ occurrences x (receivedBy S)
   counted k e x count R S a b =
       let A = told recognition refl R in
       let B = told k e S in
       ap length (A .whole a ∙ ap (λ (t : Table). readingsOf t (recognitionOf u l ceiling)) (same-table (A .table) (B .table) (A .table-is) (B .table-is)))
       ∙ counts.as-many (B .table) (recognitionOf u l ceiling) ∙ count (B .table) (B .rules) (B .no-cycle) ∙ sym (ap (occurrences x) (B .whole b))
 
-  pub synthesis-count : (R : Search c 1 u l ceiling) (S : Search c 2 u [] ceiling) → Ended R → Ended S → length (key R) ≡ occurrences l (key S)
+  pub synthesis-count : (R : Search c 1 u l ceiling) (S : Search c 2 u [] ceiling) → Ended R → Ended S → length (receivedBy R) ≡ occurrences l (receivedBy S)
   synthesis-count = counted synthesis refl l (λ t rules none. counts.synthesis-count t rules u l ceiling none)
 
-  pub analysis-count : (R : Search c 1 u l ceiling) (A : Search c 3 [] l ceiling) → Ended R → Ended A → length (key R) ≡ occurrences u (key A)
+  pub analysis-count : (R : Search c 1 u l ceiling) (A : Search c 3 [] l ceiling) → Ended R → Ended A → length (receivedBy R) ≡ occurrences u (receivedBy A)
   analysis-count = counted analysis refl u (λ t rules none. counts.analysis-count t rules u l ceiling none)
 
-  pub keys-agree : (S : Search c 2 u [] ceiling) (A : Search c 3 [] l ceiling) → Ended S → Ended A → occurrences l (key S) ≡ occurrences u (key A)
+  pub keys-agree : (S : Search c 2 u [] ceiling) (A : Search c 3 [] l ceiling) → Ended S → Ended A → occurrences l (receivedBy S) ≡ occurrences u (receivedBy A)
   keys-agree S A a b =
       let B = told synthesis refl S in
       let C = told analysis refl A in

@@ -3,7 +3,7 @@ use Prim.Native.Nat.{ℕ, suc, _+_, _-_, _*_}
 use native.Mathlib.Omega.{arith}
 use mathlib.Core.Path.{_≡_, refl, sym, ap, ap₂, subst, _∙_}
 use mathlib.Core.Bool.{Bool, true, false, cond}
-use mathlib.Core.Option.{Option, none, some}
+use mathlib.Core.Option.{Option, none, some, Option·map}
 use mathlib.Core.List.{List, [], _∷_, map}
 use lib.ListN.{getD}
 use lib.Dec.{ltb}
@@ -15,13 +15,13 @@ use Rattle.machine.specs.Machine.{listed}
 use Rattle.machine.specs.Transducer.{arcAt, Passed, writesArc, inRow, plainBy, plainAt, followAt, writesAt, plainMachine, penaltyAt, machine}
 use Rattle.machine.specs.Classes.{Fits}
 use Rattle.machine.proofs.Classes.{plain-follows, class-fits, class-passes}
-use Rattle.machine.proofs.Morphism.{held, Morphism, ceiled-morphism}
-use Rattle.inverse.specs.Inverse.{inverseArc, inverse, ClassesAlike, inverseQuery}
-use Rattle.inverse.proofs.Table.{arc-at, plain-same, alike-at}
+use Rattle.machine.proofs.Morphism.{Morphism, ceiled-morphism}
+use Rattle.inverse.specs.Inverse.{inverseArc, inverse, inverseQuery}
+use Rattle.inverse.proofs.Table.{ClassesAlike, arc-at, plain-same, alike-at}
 use Rattle.inverse.proofs.Sides.{exchanged, letters-same, done-same, follow-same, writes-same, fits-other, fits-back}
 
 -- what there is by a function, where either is there with the other
-held-by : {A B : Type 0} (f : A → B) (o : Option A) (r : Option B) → ((a : A) → o ≡ some a → r ≡ some (f a)) → ((b : B) → r ≡ some b → (a : A) × (o ≡ some a)) → r ≡ held f o
+held-by : {A B : Type 0} (f : A → B) (o : Option A) (r : Option B) → ((a : A) → o ≡ some a → r ≡ some (f a)) → ((b : B) → r ≡ some b → (a : A) × (o ≡ some a)) → r ≡ Option·map f o
 held-by f (some a) r to from = to a refl
 held-by f none none to from = refl
 held-by f none (some b) to from = absurd (let P = from b refl in let e : none ≡ some (P .0) = P .1 in let z : _≡_ {A = ℕ} 0 1 = cc in omega arith)
@@ -32,7 +32,7 @@ below-same s (a ∷ l) = ap (λ (n : ℕ). cond (ltb (a .source) s) (suc n) n) (
 
 module _ (t : Table) (q : Query) (a : Arc) (alike : isPlain a ≡ false → a .upper ≡ a .lower) (d : Passed) where
   -- an arc of a class fits where a letter of the class is next, whatever the sides are called
-  class-follows : isPlain a ≡ false → followAt (inverse t) (inverseQuery q) (inverseArc a) (exchanged d) ≡ held exchanged (followAt t q a d)
+  class-follows : isPlain a ≡ false → followAt (inverse t) (inverseQuery q) (inverseArc a) (exchanged d) ≡ Option·map exchanged (followAt t q a d)
   class-follows class = held-by exchanged (followAt t q a d) (followAt (inverse t) (inverseQuery q) (inverseArc a) (exchanged d)) to from
     where
       class' : isPlain (inverseArc a) ≡ false
@@ -49,25 +49,25 @@ module _ (t : Table) (q : Query) (a : Arc) (alike : isPlain a ≡ false → a .u
           let F = class-fits (inverse t) (inverseQuery q) (inverseArc a) (exchanged d) class' .0 (e, h) in
           class-fits t q a d class .1 (F .0, subst (λ (x : ℕ). Fits (rowOf (t .classes) x) q d (F .0)) (sym (alike class)) (fits-back (rowOf (t .classes) (a .lower)) q d (F .0) (F .1)))
 
-  arc-follows : followAt (inverse t) (inverseQuery q) (inverseArc a) (exchanged d) ≡ held exchanged (followAt t q a d)
+  arc-follows : followAt (inverse t) (inverseQuery q) (inverseArc a) (exchanged d) ≡ Option·map exchanged (followAt t q a d)
   arc-follows = go (isPlain a) refl
     where
-      go : (b : Bool) → isPlain a ≡ b → followAt (inverse t) (inverseQuery q) (inverseArc a) (exchanged d) ≡ held exchanged (followAt t q a d)
-      go true p = plain-follows (inverse t) (inverseQuery q) (inverseArc a) (exchanged d) (plain-same a ∙ p) ∙ follow-same q a d ∙ sym (ap (held exchanged) (plain-follows t q a d p))
+      go : (b : Bool) → isPlain a ≡ b → followAt (inverse t) (inverseQuery q) (inverseArc a) (exchanged d) ≡ Option·map exchanged (followAt t q a d)
+      go true p = plain-follows (inverse t) (inverseQuery q) (inverseArc a) (exchanged d) (plain-same a ∙ p) ∙ follow-same q a d ∙ sym (ap (Option·map exchanged) (plain-follows t q a d p))
       go false p = class-follows p
 
   -- the plain arc that an arc is where x is the next letter
-  plain-by-same : (x : ℕ) → plainBy (t .classes) (inverseArc a) x ≡ held inverseArc (plainBy (t .classes) a x)
+  plain-by-same : (x : ℕ) → plainBy (t .classes) (inverseArc a) x ≡ Option·map inverseArc (plainBy (t .classes) a x)
   plain-by-same x = ap (λ (b : Bool). cond b (some (inverseArc a)) (classed (a .lower))) (plain-same a) ∙ go (isPlain a) refl
     where
       classed : ℕ → Option Arc
       classed y = cond (inRow x (rowOf (t .classes) y)) (some (withLetter a x)) none
 
-      letter : (b : Bool) → cond b (some (withLetter a x)) none ≡ held inverseArc (cond b (some (withLetter a x)) none)
+      letter : (b : Bool) → cond b (some (withLetter a x)) none ≡ Option·map inverseArc (cond b (some (withLetter a x)) none)
       letter true = refl
       letter false = refl
 
-      go : (b : Bool) → isPlain a ≡ b → cond b (some (inverseArc a)) (classed (a .lower)) ≡ held inverseArc (cond b (some a) (classed (a .upper)))
+      go : (b : Bool) → isPlain a ≡ b → cond b (some (inverseArc a)) (classed (a .lower)) ≡ Option·map inverseArc (cond b (some a) (classed (a .upper)))
       go true p = refl
       go false p = ap classed (sym (alike p)) ∙ letter (inRow x (rowOf (t .classes) (a .upper)))
 
@@ -85,7 +85,7 @@ module _ (t : Table) (q : Query) (a : Arc) (alike : isPlain a ≡ false → a .u
       by-letter : (k : Task) (x : ℕ) → listed (plainBy (t .classes) (inverseArc a) x) (writesArc (inverseQuery (asked k))) ≡ listed (plainBy (t .classes) a x) (writesArc (asked k))
       by-letter k x = ap (λ (o : Option Arc). listed o (writesArc (inverseQuery (asked k)))) (plain-by-same x) ∙ each (plainBy (t .classes) a x)
         where
-          each : (o : Option Arc) → listed (held inverseArc o) (writesArc (inverseQuery (asked k))) ≡ listed o (writesArc (asked k))
+          each : (o : Option Arc) → listed (Option·map inverseArc o) (writesArc (inverseQuery (asked k))) ≡ listed o (writesArc (asked k))
           each none = refl
           each (some b) = writes-same (asked k) b
 

@@ -13,47 +13,20 @@ use Rattle.table_format.specs.Table.{Arc, Table}
 use Rattle.table_format.proofs.Tests.{and-left, and-right, and-both}
 use Rattle.table_format.proofs.Ruled.{Ruled}
 use Rattle.graph.specs.Lists.{keep}
-use Rattle.graph.proofs.Walk.{walk-map}
-use Rattle.machine.specs.Query.{Task, recognition, synthesis, upperSide, lowerSide, reads, Query, sameWord, recognitionOf, synthesisOf}
+use Rattle.machine.specs.Query.{synthesis, Query, sameWord, recognitionOf, synthesisOf}
 use Rattle.machine.specs.Machine.{Machine, Path, start, more, bind, somewhen, listed, tested, final, datum, accepts, output, ArcOf, Allowed}
 use Rattle.machine.specs.Order.{Narrows}
 use Rattle.machine.specs.Transducer.{arcAt, sideFollow, sideWrites, Passed, both, followArc, writesArc, plainAt, plainMachine, penaltyAt, machine}
-use Rattle.machine.specs.Idle.{sideIdle, idle, NoIdleCycle}
+use Rattle.machine.specs.Idle.{NoIdleCycle}
 use Rattle.machine.proofs.Options.{somewhen-parts}
 use Rattle.machine.proofs.Transducer.{both-parts, getD-lt, step-parts, written-length}
 use Rattle.machine.proofs.Bound.{has-datum}
-use Rattle.machine.proofs.Ceiling as ceilings
+use Rattle.machine.proofs.Idle.{recognition-none}
+use Rattle.machine.proofs.Higher.{narrows-under}
+use Rattle.machine.proofs.Words.{same-word, word-same}
 use Rattle.machine.proofs.Penalties.{bounded}
 use Rattle.machine.proofs.Narrow as narrow
 use Rattle.inverse.specs.Readings.{acceptingPaths}
-
--- The test for equal words.
-
-pub same-word : (v w : List ℕ) → sameWord v w ≡ true → v ≡ w
-same-word [] [] e = refl
-same-word [] (y ∷ w) e = absurd (let z : _≡_ {A = ℕ} 0 1 = cc in omega arith)
-same-word (x ∷ v) [] e = absurd (let z : _≡_ {A = ℕ} 0 1 = cc in omega arith)
-same-word (x ∷ v) (y ∷ w) e = ap₂ (λ (a : ℕ) (l : List ℕ). a ∷ l) (eqb-true x y (and-left (eqb x y) (sameWord v w) e)) (same-word v w (and-right (eqb x y) (sameWord v w) e))
-
-pub word-same : (v w : List ℕ) → v ≡ w → sameWord v w ≡ true
-word-same v w e = subst (λ (x : List ℕ). sameWord v x ≡ true) e (itself v)
-  where
-    itself : (v : List ℕ) → sameWord v v ≡ true
-    itself [] = refl
-    itself (x ∷ v) = and-both (eq-eqb x x refl) (itself v)
-
--- An arc that is idle for recognition is so for any task, so that recognition has no other cycles.
-
-idle-any : (k : Task) (a : Arc) → idle recognition a ≡ true → idle k a ≡ true
-idle-any k a e =
-    and-both (side (reads k upperSide) (a .upper) (and-left (sideIdle true (a .upper)) (sideIdle true (a .lower)) e)) (side (reads k lowerSide) (a .lower) (and-right (sideIdle true (a .upper)) (sideIdle true (a .lower)) e))
-  where
-    side : (r : Bool) (x : ℕ) → sideIdle true x ≡ true → sideIdle r x ≡ true
-    side true x h = h
-    side false x h = refl
-
-pub no-cycle : (t : Table) (k : Task) → NoIdleCycle t k → NoIdleCycle t recognition
-no-cycle t k none s R w = none s R (walk-map (λ x y L. record { arc = L .arc; listed = L .listed; from = L .from; to = L .to; passes = idle-any k (L .arc) (L .passes) }) s s w)
 
 -- One letter x of the lower side, where o was written and is as long as the letters passed.
 
@@ -146,8 +119,8 @@ module _ (t : Table) (u l : List ℕ) (c : ℕ) where
   abbrev readAll : Passed → Bool
   readAll d = eqb (d .up) (length u)
 
-  narrows-plain : Narrows R S (λ p. sameWord (output S p) l)
-  narrows-plain p = (into, out)
+  narrows : Narrows R S (λ p. sameWord (output S p) l)
+  narrows p = (into, out)
     where
       terminal : Bool
       terminal = S .terminal (final S p)
@@ -178,18 +151,7 @@ module _ (t : Table) (u l : List ℕ) (c : ℕ) where
                 ∙ and-both (and-left terminal (readAll d && true) b) (and-both read (eq-eqb (d .low) (length l) (sym (written p d (D .1)) ∙ ap length w))),
           )
 
-  -- the same under the ceiling
-  narrows : Narrows (machine t rec) (machine t syn) (λ p. sameWord (output (machine t syn) p) l)
-  narrows p = (
-    λ a. let L = ceilings.allowed-to R (penaltyAt t) c p (a .0) in
-        let N = narrows-plain p .0 (L .0, sym (ceilings.accepts-same R (penaltyAt t) c p (a .0)) ∙ a .1) in
-        let A = ceilings.allowed-from S (penaltyAt t) c p (N .0 .0) (L .1) in
-        ((A, ceilings.accepts-same S (penaltyAt t) c p A ∙ N .0 .1), ap (λ (w : List ℕ). sameWord w l) (ceilings.output-same S (penaltyAt t) c p A) ∙ N .1),
-    λ a. let L = ceilings.allowed-to S (penaltyAt t) c p (a .0 .0) in
-        let N = narrows-plain p .1 ((L .0, sym (ceilings.accepts-same S (penaltyAt t) c p (a .0 .0)) ∙ a .0 .1), ap (λ (w : List ℕ). sameWord w l) (sym (ceilings.output-same S (penaltyAt t) c p (a .0 .0))) ∙ a .1) in
-        let A = ceilings.allowed-from R (penaltyAt t) c p (N .0) (L .1) in
-        (A, ceilings.accepts-same R (penaltyAt t) c p A ∙ N .1),
-  )
-
   pub recognition-paths : Ruled t → NoIdleCycle t synthesis → acceptingPaths t rec ≡ keep (λ p. sameWord (output (machine t syn) p) l) (acceptingPaths t syn)
-  recognition-paths U none = narrow.narrowed (machine t rec) (machine t syn) (λ p. sameWord (output (machine t syn) p) l) narrows (bounded t rec (no-cycle t synthesis none) U) (bounded t syn none U)
+  recognition-paths U none =
+      narrow.narrowed (machine t rec) (machine t syn) (λ p. sameWord (output (machine t syn) p) l) (narrows-under R S (penaltyAt t) c (λ w. sameWord w l) narrows)
+      (bounded t rec (recognition-none t synthesis none) U) (bounded t syn none U)

@@ -3,7 +3,7 @@ use Prim.Native.Nat.{ℕ, _+_}
 use native.Mathlib.Omega.{arith}
 use mathlib.Core.Path.{_≡_, refl, sym, ap₂, subst, _∙_}
 use mathlib.Core.Bool.{Bool, true, false, _&&_, and-comm}
-use mathlib.Core.Option.{Option, none, some}
+use mathlib.Core.Option.{Option, none, some, Option·map}
 use mathlib.Core.List.{List, _++_, append-nil}
 use lib.ListN.{getD}
 use Rattle.table_format.specs.Table.{Arc}
@@ -11,7 +11,6 @@ use Rattle.machine.specs.Query.{Task, recognition, synthesis, analysis, Side, u
 use Rattle.machine.specs.Transducer.{sideFollow, sideWrites, sideDone, sideToRead, Passed, passed, both, followArc, writesArc, doneOn, lettersToRead}
 use Rattle.machine.specs.Idle.{sideIdle, idle}
 use Rattle.machine.specs.Classes.{Fits}
-use Rattle.machine.proofs.Morphism.{held}
 use Rattle.inverse.specs.Inverse.{inverseArc, inverseTask, inverseQuery}
 
 -- the other side
@@ -56,12 +55,12 @@ module _ (q : Query) where
 
   -- A plain arc.
 
-  pub follow-same : (a : Arc) (d : Passed) → followArc (inverseQuery q) (inverseArc a) (exchanged d) ≡ held exchanged (followArc q a d)
+  pub follow-same : (a : Arc) (d : Passed) → followArc (inverseQuery q) (inverseArc a) (exchanged d) ≡ Option·map exchanged (followArc q a d)
   follow-same a d =
       ap₂ (λ (b c : Bool). both (sideFollow b (q .lowerWord) (a .lower) (d .low)) (sideFollow c (q .upperWord) (a .upper) (d .up))) (reads-other (q .task) upperSide) (reads-other (q .task) lowerSide)
       ∙ go (sideFollow (reads (q .task) upperSide) (q .upperWord) (a .upper) (d .up)) (sideFollow (reads (q .task) lowerSide) (q .lowerWord) (a .lower) (d .low))
     where
-      go : (u l : Option ℕ) → both l u ≡ held exchanged (both u l)
+      go : (u l : Option ℕ) → both l u ≡ Option·map exchanged (both u l)
       go none none = refl
       go none (some l) = refl
       go (some u) none = refl

@@ -1,25 +1,28 @@
--- What a start answers on the inverse, with the sides of the question exchanged: the same, 12 with the same cycle.
+-- What a start answers on the inverse, with the sides of the question exchanged: the same, 12 with the same cycle. And where recognition starts.
 use Prim.Native.Nat.{ℕ}
 use native.Mathlib.Omega.{arith}
 use mathlib.Core.Path.{_≡_, refl, sym, ap, ap₂, subst, _∙_}
 use mathlib.Core.Bool.{Bool, true, false, cond, _&&_, _||_, and-comm}
-use mathlib.Core.Option.{Option, none, some}
+use mathlib.Core.Option.{Option, none, some, Option·map}
 use mathlib.Core.List.{List}
-use lib.Dec.{eqb}
+use lib.Dec.{eqb, leb}
 use borrow.Author.Tests.{eqb-true}
 use Rattle.refusal.specs.declared.Refusal.the-variants.{Input}
 use Rattle.refusal.specs.declared.InputCause.the-variants.{WordFault, TaskFault, CeilingLimit, IdleCycle}
 use Rattle.table_format.specs.Table.{Table}
 use Rattle.table_format.specs.Rules.{isEmpty}
 use Rattle.table_format.specs.Loaded.{loaded}
-use Rattle.machine.specs.declared.StartAnswer.the-variants.{Refused}
-use Rattle.machine.specs.Query.{Task, recognition, synthesis, analysis, taskOf, upperSide, lowerSide, Query, wordHolds, sideHolds, wordsHold, sidesHold, ceilingHolds}
+use Rattle.table_format.proofs.Tests.{and-both}
+use Rattle.machine.specs.declared.Started.{Started}
+use Rattle.machine.specs.declared.StartAnswer.the-variants.{Ready, Refused}
+use Rattle.machine.specs.Query.{Task, recognition, synthesis, analysis, taskOf, upperSide, lowerSide, Query, wordHolds, sideHolds, wordsHold, sidesHold, ceilingHolds, mostCeiling, recognitionOf}
 use Rattle.machine.specs.Idle.{hasIdleCycle, shownIdle}
 use Rattle.machine.specs.Asked.{Asked, turned, runs, askedWords, askedTask, askedTable, asked}
-use Rattle.machine.specs.Start.{firstRun, noRun, startedWith, byTest, startedAs, started}
-use Rattle.machine.proofs.Idle.{cycle-made, shown-made}
-use Rattle.machine.proofs.Morphism.{held}
-use Rattle.inverse.specs.Inverse.{inverseArc, inverse, inverseLoaded, inverseTask, inverseNumber, inverseQuery, inverseStarted}
+use Rattle.machine.specs.Start.{firstRun, noRun, startedWith, byTest, startedAs, started, StartedIs}
+use Rattle.machine.proofs.Idle.{recognition-none, cycle-made, shown-made}
+use Rattle.machine.proofs.Asked.{AskedFacts, asked-facts}
+use Rattle.machine.proofs.Headlines.{ready-is}
+use Rattle.inverse.specs.Inverse.{inverseArc, inverse, inverseTask, inverseNumber, inverseQuery, inverseStarted}
 use Rattle.inverse.proofs.Sides.{reads-other, idle-same}
 
 pub same-cycle : (t : Table) (k : Task) → hasIdleCycle (inverse t) (inverseTask k) ≡ hasIdleCycle t k
@@ -33,18 +36,18 @@ abbrev pub inverseAsked : Asked → Asked
 inverseAsked (turned r) = turned r
 inverseAsked (runs t q) = runs (inverse t) (inverseQuery q)
 
-task-number : (n : ℕ) → taskOf (inverseNumber n) ≡ held inverseTask (taskOf n)
+task-number : (n : ℕ) → taskOf (inverseNumber n) ≡ Option·map inverseTask (taskOf n)
 task-number n = go (eqb n 2) (eqb n 3) refl refl
   where
-    other : (a b c : Bool) → b ≡ false → c ≡ false → cond a (some recognition) (cond b (some synthesis) (cond c (some analysis) none)) ≡ held inverseTask (cond a (some recognition) (cond b (some synthesis) (cond c (some analysis) none)))
+    other : (a b c : Bool) → b ≡ false → c ≡ false → cond a (some recognition) (cond b (some synthesis) (cond c (some analysis) none)) ≡ Option·map inverseTask (cond a (some recognition) (cond b (some synthesis) (cond c (some analysis) none)))
     other true b c e f = refl
     other false true c e f = absurd (let z : _≡_ {A = ℕ} 0 1 = cc in omega arith)
     other false false true e f = absurd (let z : _≡_ {A = ℕ} 0 1 = cc in omega arith)
     other false false false e f = refl
 
-    go : (b c : Bool) → eqb n 2 ≡ b → eqb n 3 ≡ c → taskOf (cond b 3 (cond c 2 n)) ≡ held inverseTask (taskOf n)
-    go true c e f = subst (λ (m : ℕ). some analysis ≡ held inverseTask (taskOf m)) (sym (eqb-true n 2 e)) refl
-    go false true e f = subst (λ (m : ℕ). some synthesis ≡ held inverseTask (taskOf m)) (sym (eqb-true n 3 f)) refl
+    go : (b c : Bool) → eqb n 2 ≡ b → eqb n 3 ≡ c → taskOf (cond b 3 (cond c 2 n)) ≡ Option·map inverseTask (taskOf n)
+    go true c e f = subst (λ (m : ℕ). some analysis ≡ Option·map inverseTask (taskOf m)) (sym (eqb-true n 2 e)) refl
+    go false true e f = subst (λ (m : ℕ). some synthesis ≡ Option·map inverseTask (taskOf m)) (sym (eqb-true n 3 f)) refl
     go false false e f = other (eqb n 1) (eqb n 2) (eqb n 3) e f
 
 sides-same : (q : Query) → sidesHold (inverseQuery q) ≡ sidesHold q
@@ -65,16 +68,16 @@ words-same t q =
     go true false c = refl
     go false b c = refl
 
-module _ (c d : List ℕ) (inverted : loaded d ≡ inverseLoaded (loaded c)) (task : ℕ) (upper lower : List ℕ) (ceiling : ℕ) where
+module _ (c d : List ℕ) (inverted : loaded d ≡ Option·map inverse (loaded c)) (task : ℕ) (upper lower : List ℕ) (ceiling : ℕ) where
   pub same-asked : asked d (inverseNumber task) lower upper ceiling ≡ inverseAsked (asked c task upper lower ceiling)
   unfolding asked
   same-asked = ap (λ (o : Option Table). askedTable o (inverseNumber task) lower upper ceiling) inverted ∙ by-table (loaded c)
     where
-      by-task : (t : Table) (o : Option Task) → askedTask (inverse t) (held inverseTask o) lower upper ceiling ≡ inverseAsked (askedTask t o upper lower ceiling)
+      by-task : (t : Table) (o : Option Task) → askedTask (inverse t) (Option·map inverseTask o) lower upper ceiling ≡ inverseAsked (askedTask t o upper lower ceiling)
       by-task t none = refl
       by-task t (some k) = words-same t (record { task = k; upperWord = upper; lowerWord = lower; ceiling = ceiling })
 
-      by-table : (o : Option Table) → askedTable (inverseLoaded o) (inverseNumber task) lower upper ceiling ≡ inverseAsked (askedTable o task upper lower ceiling)
+      by-table : (o : Option Table) → askedTable (Option·map inverse o) (inverseNumber task) lower upper ceiling ≡ inverseAsked (askedTable o task upper lower ceiling)
       by-table none = refl
       by-table (some t) = ap (λ (o : Option Task). askedTask (inverse t) o lower upper ceiling) (task-number task) ∙ by-task t (taskOf task)
 
@@ -89,3 +92,23 @@ module _ (c d : List ℕ) (inverted : loaded d ≡ inverseLoaded (loaded c)) (ta
       go : (w : Asked) → startedAs (inverseAsked w) (firstRun (inverseNumber task) ceiling) ≡ inverseStarted (startedAs w (firstRun task ceiling))
       go (turned r) = refl
       go (runs t q) = ap (byTest (inverse t) (inverseQuery q) (firstRun (inverseNumber task) ceiling)) (same-cycle t (q .task)) ∙ by-test t q (hasIdleCycle t (q .task))
+
+-- Where any task starts on a table, recognition of any two words that hold does.
+
+-- what is started is as it is
+pub itself : (s : Started) → StartedIs s s
+itself s = (refl, refl, refl, refl)
+
+pub recognition-ready : (c : List ℕ) (task : ℕ) (v w : List ℕ) (ceiling : ℕ) → started c task v w ceiling .answer ≡ Ready
+    → (u l : List ℕ) → wordHolds u ≡ true → wordHolds l ≡ true → started c 1 u l ceiling .answer ≡ Ready
+unfolding asked
+recognition-ready c task v w ceiling ready u l good fine =
+    let R = ready-is c task v w ceiling (started c task v w ceiling) (itself (started c task v w ceiling)) .0 ready in
+    ready-is c 1 u l ceiling (started c 1 u l ceiling) (itself (started c 1 u l ceiling)) .1
+    (R .0, recognitionOf u l ceiling, asked-is (R .0) (R .1) (asked-facts c task v w ceiling (R .0) (R .1) (R .2)), recognition-none (R .0) (R .1 .task) (R .3))
+  where
+    asked-is : (t : Table) (q : Query) → AskedFacts c t q task v w ceiling → asked c 1 u l ceiling ≡ runs t (recognitionOf u l ceiling)
+    asked-is t q F =
+        ap (λ (o : Option Table). askedTable o 1 u l ceiling) (F .table-is)
+        ∙ ap₂ (λ (a b : Bool). cond a (cond b (runs t (recognitionOf u l ceiling)) (turned (Input CeilingLimit))) (turned (Input WordFault))) (and-both good fine)
+        (ap (λ (n : ℕ). leb n mostCeiling) (sym (F .ceiling-is)) ∙ F .ceiling-holds)

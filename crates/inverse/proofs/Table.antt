@@ -9,20 +9,24 @@ use Rattle.table_format.specs.Table.{Arc, Table, noArc, withoutPenalty}
 use Rattle.table_format.specs.Classes.{firstClass, isPlain, isDefined, rowOf}
 use Rattle.table_format.specs.Rules.{keepsRules}
 use Rattle.table_format.specs.Ruled.{DifferBy, AtLeast, Ruled}
+use Rattle.table_format.proofs.Tests.{both-ways}
 use Rattle.table_format.proofs.Ruled.{ruled, kept}
 use Rattle.table_format.proofs.All.{all-getD, all-from}
 use Rattle.machine.specs.Transducer.{arcAt}
-use Rattle.machine.proofs.Ceiling.{both-ways}
-use Rattle.inverse.specs.Inverse.{inverseArc, inverse, ClassesAlike}
-
-pub twice : (t : Table) → inverse (inverse t) ≡ t
-twice t = λ i. record { states = t .states; classes = t .classes; initials = t .initials; terminals = t .terminals; arcs = (map-map inverseArc inverseArc (t .arcs) ∙ map-id (t .arcs)) i }
+use Rattle.inverse.specs.Inverse.{inverseArc, inverse}
 
 pub arc-at : (t : Table) (n : ℕ) → arcAt (inverse t) n ≡ inverseArc (arcAt t n)
 arc-at t n = List·getD-map inverseArc (t .arcs) n noArc
 
+pub twice : (t : Table) → inverse (inverse t) ≡ t
+twice t = λ i. record { states = t .states; classes = t .classes; initials = t .initials; terminals = t .terminals; arcs = (map-map inverseArc inverseArc (t .arcs) ∙ map-id (t .arcs)) i }
+
 pub plain-same : (a : Arc) → isPlain (inverseArc a) ≡ isPlain a
 plain-same a = and-comm (ltb (a .lower) firstClass) (ltb (a .upper) firstClass)
+
+-- each arc with a class has the same on both sides, as 34 demands of a table
+abbrev pub ClassesAlike : Table → Type 0
+ClassesAlike t = (a : Arc) → List·Memᴰ a (t .arcs) → isPlain a ≡ false → a .upper ≡ a .lower
 
 -- the arc of any number
 pub alike-at : (t : Table) → ClassesAlike t → (n : ℕ) → isPlain (arcAt t n) ≡ false → arcAt t n .upper ≡ arcAt t n .lower

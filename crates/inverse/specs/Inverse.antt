@@ -1,35 +1,23 @@
 -- Document 02, slip 3: "the table with upper and lower letters exchanged and arc numbers kept" (the inverse of a transducer), and what is asked of it
 -- where the sides of a question are exchanged too.
 use Prim.Native.Nat.{ℕ}
-use mathlib.Core.Path.{_≡_}
-use mathlib.Core.Bool.{false, cond}
-use mathlib.Core.Option.{Option, none, some}
-use mathlib.Core.List.{map, List·Memᴰ}
+use mathlib.Core.Bool.{cond}
+use mathlib.Core.List.{map}
 use lib.Dec.{eqb}
 use Rattle.table_format.specs.Table.{Arc, Table}
-use Rattle.table_format.specs.Classes.{isPlain}
 use Rattle.machine.specs.declared.Run.{Run}
 use Rattle.machine.specs.declared.Started.{Started}
 use Rattle.machine.specs.Query.{Task, recognition, synthesis, analysis, Query}
 
 -- The table.
 
--- an arc "with upper and lower letters exchanged"; its states, a class and its penalty stay
+-- an arc "with upper and lower letters exchanged"; its states and its penalty stay
 abbrev pub inverseArc : Arc → Arc
 inverseArc a = record { source = a .source; upper = a .lower; lower = a .upper; target = a .target; penalty = a .penalty }
 
 -- "and arc numbers kept": the arcs stay in their order
 abbrev pub inverse : Table → Table
 inverse t = record { states = t .states; classes = t .classes; initials = t .initials; terminals = t .terminals; arcs = map inverseArc (t .arcs) }
-
--- that of a loaded table, if there is one
-abbrev pub inverseLoaded : Option Table → Option Table
-inverseLoaded none = none
-inverseLoaded (some t) = some (inverse t)
-
--- each arc with a class has the same on both sides, as 34 demands of a table (`rules-alike`)
-abbrev pub ClassesAlike : Table → Type 0
-ClassesAlike t = (a : Arc) → List·Memᴰ a (t .arcs) → isPlain a ≡ false → a .upper ≡ a .lower
 
 -- What is asked.
 

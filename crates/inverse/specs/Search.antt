@@ -16,9 +16,9 @@ pub record Search (cells : List ℕ) (task : ℕ) (upper lower : List ℕ) (ceil
   pub handed : Handed upper lower cells (start .run) [] calls
 
 module _ {cells : List ℕ} {task : ℕ} {upper lower : List ℕ} {ceiling : ℕ} where
-  -- the readings received: where the calls came to their end, this is the key
-  abbrev pub key : Search cells task upper lower ceiling → List (List ℕ)
-  key s = received upper lower (s .start .run) (s .calls)
+  -- the readings received; where the calls came to their end, a key
+  abbrev pub receivedBy : Search cells task upper lower ceiling → List (List ℕ)
+  receivedBy s = received upper lower (s .start .run) (s .calls)
 
   -- the steps told
   abbrev pub steps : Search cells task upper lower ceiling → ℕ

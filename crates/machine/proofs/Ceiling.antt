@@ -3,14 +3,14 @@
 use Prim.Native.Nat.{ℕ, pred, _+_, _≤_}
 use native.Mathlib.Omega.{arith}
 use mathlib.Core.Path.{_≡_, refl, sym, ap, subst, _∙_}
-use mathlib.Core.Bool.{Bool, true, false, _&&_}
+use mathlib.Core.Bool.{Bool, true, _&&_}
 use mathlib.Core.Logic.{_↔_}
 use mathlib.Core.Option.{Option, none, some}
 use mathlib.Core.List.{List, [], _∷_, _++_}
 use lib.ListN.{getD}
 use lib.Dec.{eqb, ltb, leb}
 use borrow.Author.Tests.{eqb-true, eq-eqb, leb-true, le-leb}
-use Rattle.table_format.proofs.Tests.{and-left, and-right, and-both}
+use Rattle.table_format.proofs.Tests.{and-left, and-right, and-both, both-ways}
 use Rattle.machine.specs.Machine.{Machine, Path, start, more, bind, somewhen, listed, tested, final, datum, accepts, output, ArcOf, Allowed, Bounded}
 use Rattle.machine.specs.Ceiling.{sumOf, ceiled}
 use Rattle.machine.specs.Frames.{Frame, nextHolds, bottomHolds, linkHolds, chainHolds}
@@ -21,12 +21,6 @@ use Rattle.machine.proofs.Options.{bind-parts, somewhen-parts}
 tested-parts : {A : Type 0} (o : Option A) (test : A → Bool) → tested o test ≡ true → (a : A) × (o ≡ some a) × (test a ≡ true)
 tested-parts none test e = absurd (let z : _≡_ {A = ℕ} 0 1 = cc in omega arith)
 tested-parts (some a) test e = (a, refl, e)
-
--- tests that hold in the same cases
-pub both-ways : (a b : Bool) → (a ≡ true → b ≡ true) → (b ≡ true → a ≡ true) → a ≡ b
-both-ways true b f g = sym (f refl)
-both-ways false true f g = g refl
-both-ways false false f g = refl
 
 module _ (M : Machine) (penalty : ℕ → ℕ) where
   -- "An arc that would lift the sum over the ceiling does not fit": the parts of a step under a ceiling

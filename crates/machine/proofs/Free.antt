@@ -3,14 +3,14 @@ use Prim.Native.Nat.{ℕ, _+_}
 use native.Mathlib.Omega.{arith}
 use mathlib.Core.Path.{_≡_, refl, ap, _∙_}
 use mathlib.Core.Bool.{Bool}
-use mathlib.Core.Option.{Option, none, some}
+use mathlib.Core.Option.{Option, none, some, Option·map}
 use lib.Dec.{leb}
 use borrow.Author.Tests.{le-leb}
 use Rattle.machine.specs.Machine.{Machine, bind, somewhen}
 use Rattle.machine.specs.Tour.{tour, pathsIn, readings}
 use Rattle.machine.specs.Order.{accepting}
 use Rattle.machine.specs.Ceiling.{ceiled}
-use Rattle.machine.proofs.Morphism.{held, Morphism, tour-same, accepting-same, readings-same}
+use Rattle.machine.proofs.Morphism.{Morphism, tour-same, accepting-same, readings-same}
 
 module _ (M : Machine) (penalty : ℕ → ℕ) (free : (n : ℕ) → penalty n ≡ 0) (c : ℕ) where
   abbrev N : Machine
@@ -20,7 +20,7 @@ module _ (M : Machine) (penalty : ℕ → ℕ) (free : (n : ℕ) → penalty n �
   abbrev withZero : M .D → M .D × ℕ
   withZero d = (d, 0)
 
-  step-free : (n : ℕ) (o : Option (M .D)) → bind o (λ e. somewhen (leb (0 + penalty n) c) (e, 0 + penalty n)) ≡ held withZero o
+  step-free : (n : ℕ) (o : Option (M .D)) → bind o (λ e. somewhen (leb (0 + penalty n) c) (e, 0 + penalty n)) ≡ Option·map withZero o
   step-free n none = refl
   step-free n (some e) =
       let z : 0 + penalty n ≡ 0 = omega (arith, free n) in

@@ -73,3 +73,17 @@ module _ (M : Machine) (penalty : ℕ → ℕ) where
 
       pub higher-holds : Sublistᴰ (readings L (tour L)) (readings H (tour H))
       higher-holds = subst₂ (λ (x y : List (List ℕ)). Sublistᴰ x y) (sym higher-readings) (sym (readings-outputs H (tour H))) (kept-outputs H (within low) (accepting H (pathsIn (tour H))))
+
+-- A machine that narrows another by its outputs does so under one ceiling too.
+pub narrows-under : (R S : Machine) (penalty : ℕ → ℕ) (c : ℕ) (test : List ℕ → Bool) → Narrows R S (λ p. test (output S p))
+    → Narrows (ceiled R penalty c) (ceiled S penalty c) (λ p. test (output (ceiled S penalty c) p))
+narrows-under R S penalty c test narrows p = (
+  λ a. let L = allowed-to R penalty c p (a .0) in
+      let N = narrows p .0 (L .0, sym (accepts-same R penalty c p (a .0)) ∙ a .1) in
+      let A = allowed-from S penalty c p (N .0 .0) (L .1) in
+      ((A, accepts-same S penalty c p A ∙ N .0 .1), ap test (output-same S penalty c p A) ∙ N .1),
+  λ a. let L = allowed-to S penalty c p (a .0 .0) in
+      let N = narrows p .1 ((L .0, sym (accepts-same S penalty c p (a .0 .0)) ∙ a .0 .1), ap test (sym (output-same S penalty c p (a .0 .0))) ∙ a .1) in
+      let A = allowed-from R penalty c p (N .0) (L .1) in
+      (A, accepts-same R penalty c p A ∙ N .1),
+)

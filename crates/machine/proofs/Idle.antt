@@ -14,10 +14,11 @@ use Rattle.table_format.proofs.Any.{any-found, any-mem}
 use Rattle.table_format.proofs.Ruled.{Ruled}
 use Rattle.graph.specs.Walk.{Among, Decides}
 use Rattle.graph.specs.Shown.{hasReachedCycle, shownCycle}
+use Rattle.graph.proofs.Walk.{walk-map}
 use Rattle.graph.proofs.Reached.{cycle-reached}
 use Rattle.graph.proofs.Shown as graphs
-use Rattle.machine.specs.Query.{Task}
-use Rattle.machine.specs.Idle.{idle, Leads, leadsBy, always, AnyArc, StateReached, IdleArc, IdleWalk, NoIdleCycle, CycleStates, hasIdleCycle, ShownIdle, shownIdle}
+use Rattle.machine.specs.Query.{Task, recognition, upperSide, lowerSide, reads}
+use Rattle.machine.specs.Idle.{sideIdle, idle, Leads, leadsBy, always, AnyArc, StateReached, IdleArc, IdleWalk, NoIdleCycle, CycleStates, hasIdleCycle, ShownIdle, shownIdle}
 
 -- the test tells the arcs
 pub tells : (arcs : List Arc) (test : Arc → Bool) → Decides (Leads arcs test) (leadsBy arcs test)
@@ -130,8 +131,21 @@ module _ (t u : Table) (U : Ruled t) (O : Ruled u) (i : (s : ℕ) → List·Mem�
       go false true h g = shown-is t k U (shownIdle u k) (shown-too u t (λ s. (i s .1, i s .0)) (λ a. (f a .1, f a .0)) k (shownIdle u k) (shown-there u k O g))
       go false false h g = shown-none t k U h ∙ sym (shown-none u k O g)
 
--- A table whose arcs are made of another's, with their sources and targets: where an arc is idle exactly if the other is, though for another task, the
--- idle cycles are the same.
+-- An arc that is idle for recognition is so for any task: where a task has no idle cycle that is reached, recognition has none.
+
+idle-any : (k : Task) (a : Arc) → idle recognition a ≡ true → idle k a ≡ true
+idle-any k a e =
+    and-both (side (reads k upperSide) (a .upper) (and-left (sideIdle true (a .upper)) (sideIdle true (a .lower)) e)) (side (reads k lowerSide) (a .lower) (and-right (sideIdle true (a .upper)) (sideIdle true (a .lower)) e))
+  where
+    side : (r : Bool) (x : ℕ) → sideIdle true x ≡ true → sideIdle r x ≡ true
+    side true x h = h
+    side false x h = refl
+
+pub recognition-none : (t : Table) (k : Task) → NoIdleCycle t k → NoIdleCycle t recognition
+recognition-none t k none s R w = none s R (walk-map (λ x y L. record { arc = L .arc; listed = L .listed; from = L .from; to = L .to; passes = idle-any k (L .arc) (L .passes) }) s s w)
+
+-- A table whose arcs are another's under f, which keeps sources and targets: where f a is idle for j exactly when a is for k, the idle cycles are the
+-- same.
 module _ (t : Table) (f : Arc → Arc) (j k : Task) (from : (a : Arc) → f a .source ≡ a .source) (to : (a : Arc) → f a .target ≡ a .target) (same : (a : Arc) → idle j (f a) ≡ idle k a) where
   abbrev made : Table
   made = record { states = t .states; classes = t .classes; initials = t .initials; terminals = t .terminals; arcs = map f (t .arcs) }

@@ -1,4 +1,5 @@
 -- Laws of the definitions; Headlines states together what they come to.
+pub mod Words
 pub mod Frames
 pub mod Tour
 pub mod Step

@@ -1,9 +1,9 @@
--- A morphism of machines: states, arcs and letters written are the same, and what was passed is held in another way. Two machines with one have the
+-- A morphism of machines: states, arcs and letters written are the same, and what was passed is Option·map in another way. Two machines with one have the
 -- same tour, and its paths accept and write the same.
 use Prim.Native.Nat.{ℕ, zero, suc, _+_, _-_}
 use mathlib.Core.Path.{_≡_, refl, sym, ap, ap₂, _∙_}
 use mathlib.Core.Bool.{Bool, true, false, cond, _&&_}
-use mathlib.Core.Option.{Option, none, some}
+use mathlib.Core.Option.{Option, none, some, Option·map}
 use mathlib.Core.List.{List, [], _∷_, _++_}
 use lib.ListN.{length, getD}
 use lib.Dec.{leb}
@@ -12,10 +12,6 @@ use Rattle.machine.specs.Tour.{Entry, branch, trail, following, after, t
 use Rattle.machine.specs.Order.{accepting}
 use Rattle.machine.specs.Ceiling.{ceiled}
 use Rattle.machine.proofs.Tour.{tree-law}
-
--- a datum as the other machine holds it, if there is one
-abbrev pub held : {A B : Type 0} → (A → B) → Option A → Option B
-held f o = bind o (λ a. some (f a))
 
 pub record Morphism (M N : Machine) : Type 0 where
   pub to : M .D → N .D
@@ -26,7 +22,7 @@ pub record Morphism (M N : Machine) : Type 0 where
   pub terminal-is : (s : ℕ) → N .terminal s ≡ M .terminal s
   pub limit-is : N .limit ≡ M .limit
   pub d₀-is : N .d₀ ≡ to (M .d₀)
-  pub follow-is : (n : ℕ) (d : M .D) → N .follow n (to d) ≡ held to (M .follow n d)
+  pub follow-is : (n : ℕ) (d : M .D) → N .follow n (to d) ≡ Option·map to (M .follow n d)
   pub writes-is : (n : ℕ) (d : M .D) → N .writes n (to d) ≡ M .writes n d
   pub done-is : (d : M .D) → N .done (to d) ≡ M .done d
 
@@ -35,17 +31,17 @@ module _ (M N : Machine) (F : Morphism M N) where
   final-same (start i) = ap (λ (l : List ℕ). getD l i 0) (F .initials-are)
   final-same (more p n) = F .target-is n
 
-  datum-same : (p : Path) → datum N p ≡ held (F .to) (datum M p)
+  datum-same : (p : Path) → datum N p ≡ Option·map (F .to) (datum M p)
   datum-same (start i) = ap (λ (d : N .D). some d) (F .d₀-is)
   datum-same (more p n) = ap (λ (o : Option (N .D)). bind o (N .follow n)) (datum-same p) ∙ go (datum M p)
     where
-      go : (o : Option (M .D)) → bind (held (F .to) o) (N .follow n) ≡ held (F .to) (bind o (M .follow n))
+      go : (o : Option (M .D)) → bind (Option·map (F .to) o) (N .follow n) ≡ Option·map (F .to) (bind o (M .follow n))
       go none = refl
       go (some d) = F .follow-is n d
 
   -- The tour.
 
-  branch-same : (g h : Path → List Entry) (p : Path) (r s : List Entry) → g p ≡ h p → r ≡ s → (o : Option (M .D)) → branch (held (F .to) o) g p r ≡ branch o h p s
+  branch-same : (g h : Path → List Entry) (p : Path) (r s : List Entry) → g p ≡ h p → r ≡ s → (o : Option (M .D)) → branch (Option·map (F .to) o) g p r ≡ branch o h p s
   branch-same g h p r s e f none = ap (λ (l : List Entry). none ∷ l) f
   branch-same g h p r s e f (some d) = ap₂ (λ (x y : List Entry). some p ∷ (x ++ y)) e f
 
@@ -82,7 +78,7 @@ module _ (M N : Machine) (F : Morphism M N) where
   accepts-same p =
       ap₂ (λ (a b : Bool). a && b) (F .terminal-is (final N p) ∙ ap (M .terminal) (final-same p)) (ap (λ (o : Option (N .D)). tested o (N .done)) (datum-same p) ∙ go (datum M p))
     where
-      go : (o : Option (M .D)) → tested (held (F .to) o) (N .done) ≡ tested o (M .done)
+      go : (o : Option (M .D)) → tested (Option·map (F .to) o) (N .done) ≡ tested o (M .done)
       go none = refl
       go (some d) = F .done-is d
 
@@ -90,7 +86,7 @@ module _ (M N : Machine) (F : Morphism M N) where
   output-same (start i) = refl
   output-same (more p n) = ap₂ (λ (x y : List ℕ). x ++ y) (output-same p) (ap (λ (o : Option (N .D)). listed o (N .writes n)) (datum-same p) ∙ go (datum M p))
     where
-      go : (o : Option (M .D)) → listed (held (F .to) o) (N .writes n) ≡ listed o (M .writes n)
+      go : (o : Option (M .D)) → listed (Option·map (F .to) o) (N .writes n) ≡ listed o (M .writes n)
       go none = refl
       go (some d) = F .writes-is n d
 
@@ -119,11 +115,11 @@ module _ (M N : Machine) (F : Morphism M N) where
     abbrev toSummed : M .D × ℕ → N .D × ℕ
     toSummed d = (F .to (d .0), d .1)
 
-    follow-summed : (n : ℕ) (d : M .D × ℕ) → ceiled N other c .follow n (toSummed d) ≡ held toSummed (ceiled M penalty c .follow n d)
+    follow-summed : (n : ℕ) (d : M .D × ℕ) → ceiled N other c .follow n (toSummed d) ≡ Option·map toSummed (ceiled M penalty c .follow n d)
     follow-summed n d =
         ap₂ (λ (o : Option (N .D)) (x : ℕ). bind o (λ e. somewhen (leb (d .1 + x) c) (e, d .1 + x))) (F .follow-is n (d .0)) (same n) ∙ go (M .follow n (d .0)) (leb (d .1 + penalty n) c)
       where
-        go : (o : Option (M .D)) (b : Bool) → bind (held (F .to) o) (λ e. somewhen b (e, d .1 + penalty n)) ≡ held toSummed (bind o (λ e. somewhen b (e, d .1 + penalty n)))
+        go : (o : Option (M .D)) (b : Bool) → bind (Option·map (F .to) o) (λ e. somewhen b (e, d .1 + penalty n)) ≡ Option·map toSummed (bind o (λ e. somewhen b (e, d .1 + penalty n)))
         go none b = refl
         go (some e) true = refl
         go (some e) false = refl

@@ -1,5 +1,5 @@
--- Laws of tests: those joined by `&&` and `||`, and whether a list is empty.
-use mathlib.Core.Path.{_≡_, refl}
+-- Laws of tests: those joined by `&&` and `||`, those that hold in the same cases, and whether a list is empty.
+use mathlib.Core.Path.{_≡_, refl, sym}
 use mathlib.Core.Logic.{_⊎_, inl, inr}
 use mathlib.Core.Bool.{Bool, true, false, _&&_, _||_}
 use mathlib.Core.List.{List, [], _∷_}
@@ -37,6 +37,12 @@ or-right false b e = e
 pub neither : (a b : Bool) → (a || b) ≡ false → (a ≡ false) × (b ≡ false)
 neither true b e = (e, cc)
 neither false b e = (refl, e)
+
+-- tests that hold in the same cases
+pub both-ways : (a b : Bool) → (a ≡ true → b ≡ true) → (b ≡ true → a ≡ true) → a ≡ b
+both-ways true b f g = sym (f refl)
+both-ways false true f g = g refl
+both-ways false false f g = refl
 
 pub empty-nil : {A : Type 0} (xs : List A) → isEmpty xs ≡ true → xs ≡ []
 empty-nil [] e = refl
