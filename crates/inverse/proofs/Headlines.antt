@@ -60,7 +60,7 @@ keeps-rules = tables.keeps
 pub inverse-twice : (t : Table) → inverse (inverse t) ≡ t
 inverse-twice = tables.twice
 
--- It has a text, and cells that hold it are there, with anything behind them, for any cells that hold a table.
+-- It has a text where the table keeps the rules; and where cells hold a table, there are cells that hold its inverse, whatever stands behind them.
 pub inverse-text : (t : Table) → keepsRules t ≡ true → parsed (textOf (inverse t)) ≡ accepted (inverse t)
 inverse-text t rules = determines (textOf (inverse t)) (inverse t) .1 (tables.keeps t ∙ rules, refl)
 
@@ -100,6 +100,13 @@ module _ (t : Table) (alike : (a : Arc) → List·Memᴰ a (t .arcs) → isPlain
 
   pub inverse-readings : readingsOf (inverse t) (inverseQuery q) ≡ readingsOf t q
   inverse-readings = readings-same M N F
+
+-- What each task is asked.
+pub questions : (u l : List ℕ) (c : ℕ)
+    → (recognitionOf u l c ≡ record { task = recognition; upperWord = u; lowerWord = l; ceiling = c })
+    × (synthesisOf u c ≡ record { task = synthesis; upperWord = u; lowerWord = []; ceiling = c })
+    × (analysisOf l c ≡ record { task = analysis; upperWord = []; lowerWord = l; ceiling = c })
+questions u l c = (refl, refl, refl)
 
 -- "analysis on a table gives the same paths in the same order as synthesis on the table with upper and lower letters exchanged", "under one ceiling", with
 -- the same tour and the same readings; for tables that are accepted, and any word.

@@ -20,7 +20,7 @@ use Rattle.inverse.specs.Inverse.{inverseArc, inverse, inverseQuery}
 use Rattle.inverse.proofs.Table.{ClassesAlike, arc-at, plain-same, alike-at}
 use Rattle.inverse.proofs.Sides.{exchanged, letters-same, done-same, follow-same, writes-same, fits-other, fits-back}
 
--- what there is by a function, where either is there with the other
+-- an option is another's under f, where each has a value exactly when the other has
 held-by : {A B : Type 0} (f : A → B) (o : Option A) (r : Option B) → ((a : A) → o ≡ some a → r ≡ some (f a)) → ((b : B) → r ≡ some b → (a : A) × (o ≡ some a)) → r ≡ Option·map f o
 held-by f (some a) r to from = to a refl
 held-by f none none to from = refl

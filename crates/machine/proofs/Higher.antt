@@ -1,4 +1,5 @@
--- The lists under a ceiling: the accepting paths whose sum is within it, in the same order. So a higher ceiling's list holds a lower one's.
+-- The lists under a ceiling: the accepting paths whose sum is within it, in the same order. So a higher ceiling's list holds a lower one's. A machine
+-- that narrows another by its outputs does so under a ceiling.
 use Prim.Native.Nat.{ℕ, _≤_}
 use native.Mathlib.Omega.{arith}
 use mathlib.Core.Path.{_≡_, refl, sym, ap, ap₂, subst₂, _∙_}
@@ -74,7 +75,6 @@ module _ (M : Machine) (penalty : ℕ → ℕ) where
       pub higher-holds : Sublistᴰ (readings L (tour L)) (readings H (tour H))
       higher-holds = subst₂ (λ (x y : List (List ℕ)). Sublistᴰ x y) (sym higher-readings) (sym (readings-outputs H (tour H))) (kept-outputs H (within low) (accepting H (pathsIn (tour H))))
 
--- A machine that narrows another by its outputs does so under one ceiling too.
 pub narrows-under : (R S : Machine) (penalty : ℕ → ℕ) (c : ℕ) (test : List ℕ → Bool) → Narrows R S (λ p. test (output S p))
     → Narrows (ceiled R penalty c) (ceiled S penalty c) (λ p. test (output (ceiled S penalty c) p))
 narrows-under R S penalty c test narrows p = (

@@ -1,4 +1,5 @@
--- The test for an idle cycle that is reached is right, and where it says so the computed cycle is the one to be shown.
+-- The test for an idle cycle that is reached is right, and where it says so the computed cycle is the one to be shown. Recognition has no idle cycle that
+-- another task has not, and tables whose arcs are idle alike have the same ones.
 use Prim.Native.Nat.{ℕ, _<_}
 use native.Mathlib.Omega.{arith}
 use mathlib.Core.Path.{_≡_, refl, sym, subst, _∙_}

@@ -1,4 +1,4 @@
--- A morphism of machines: states, arcs and letters written are the same, and what was passed is Option·map in another way. Two machines with one have the
+-- A morphism of machines: states, arcs and letters written are the same, and what was passed is held in another way (`to`). Two machines with one have the
 -- same tour, and its paths accept and write the same.
 use Prim.Native.Nat.{ℕ, zero, suc, _+_, _-_}
 use mathlib.Core.Path.{_≡_, refl, sym, ap, ap₂, _∙_}

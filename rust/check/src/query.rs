@@ -1,4 +1,4 @@
-//! Tasks, words and ceilings: which sides a task reads, and refusals 11, 10 and 39.
+//! Tasks, words and ceilings: which sides a task reads, the task with them exchanged, and refusals 11, 10 and 39.
 
 pub const RECOGNITION: u32 = 1;
 pub const SYNTHESIS: u32 = 2;
@@ -17,7 +17,7 @@ pub fn sides(task: u32) -> Option<(bool, bool)> {
     }
 }
 
-/// The task with the sides exchanged.
+/// The task with the sides exchanged; a number of no task stays.
 pub fn inverse(task: u32) -> u32 {
     match task {
         SYNTHESIS => ANALYSIS,

@@ -13,6 +13,11 @@ use std::fs;
 use std::path::{Path, PathBuf};
 use std::process::Command;
 
+/// The text of an example, or of what it prints.
+fn example(name: &str) -> String {
+    fs::read_to_string(from_root(&format!("examples/{name}"))).expect("an example")
+}
+
 /// Every input of a session with its output. It begins with a table's header; a word list does not.
 fn examples() -> Vec<(PathBuf, PathBuf)> {
     let folder = fs::read_dir(from_root("examples")).expect("the folder examples/");
@@ -41,7 +46,7 @@ fn the_program_prints_what_stands_beside() {
 #[test]
 fn the_answer_keys_are_what_stands_beside() {
     let exam = fs::read(from_root("examples/exam.txt")).expect("an exam");
-    let expected = fs::read_to_string(from_root("examples/exam.out")).expect("its output");
+    let expected = example("exam.out");
     let output = run(built("keys").arg(from_root("examples/words.txt")), &exam);
     assert_eq!(String::from_utf8_lossy(&output.stdout), expected);
     assert!(output.status.success(), "it ends with {}", output.status);
@@ -69,7 +74,7 @@ fn the_german_tables_are_letter_trees() {
 /// Under a lower ceiling some readings of the session are left out, and the others keep their order.
 #[test]
 fn the_far_fetched_readings_under_ceilings() {
-    let text = fs::read_to_string(from_root("examples/far-fetched.txt")).expect("an example");
+    let text = example("far-fetched.txt");
     let (table, query) = text.split_at(text.len() - 13);
     assert_eq!(query, "100202010100\n");
     let table = Table::read(table).expect("a table");
@@ -81,12 +86,7 @@ fn the_far_fetched_readings_under_ceilings() {
     }
 }
 
-/// The text of a session's input, or of what it prints.
-fn example(name: &str) -> String {
-    fs::read_to_string(from_root(&format!("examples/{name}"))).expect("an example")
-}
-
-/// The table of the one has the letters of the other's exchanged, and synthesis on it prints what analysis does on the other.
+/// The one table is the inverse of the other, and synthesis on it prints what analysis prints on the other.
 #[test]
 fn the_exchanged_table_prints_the_same() {
     let (table, exchanged) = (example("backward.txt"), example("exchanged.txt"));
@@ -144,7 +144,7 @@ fn printed(name: &str) -> Vec<Vec<u8>> {
 fn the_cuts_are_the_readings_of_the_sessions() {
     let readings = [printed("german"), printed("wachstube")].concat();
     let shown = readings.iter().map(|reading| tree::shown(&reading[2..]));
-    let cuts = fs::read_to_string(from_root("examples/cuts.out")).expect("an output");
+    let cuts = example("cuts.out");
     assert!(shown.eq(cuts.lines()), "{cuts}");
 }
 

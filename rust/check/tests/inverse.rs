@@ -110,11 +110,11 @@ fn the_inverse_of_the_inverse_is_the_table() {
         unlike += usize::from(table.inverse() != table);
         let at = random.below(cells.len());
         cells[at] = random.below(300) as u16;
-        let (changed, turned) = (Table::loaded(&cells), inverse::cells(&cells));
-        assert_eq!(inverse::cells(&turned), cells);
+        let (changed, other) = (Table::loaded(&cells), inverse::cells(&cells));
+        assert_eq!(inverse::cells(&other), cells);
         kept += usize::from(changed.is_some());
         broken += usize::from(changed.is_none());
-        assert_eq!(Table::loaded(&turned), changed.map(|table| table.inverse()));
+        assert_eq!(Table::loaded(&other), changed.map(|table| table.inverse()));
     }
     let seen = [unlike, kept, broken];
     assert!(seen.iter().all(|count| *count >= 100), "{seen:?}");
@@ -307,7 +307,7 @@ fn the_twin_counts_paths() {
 }
 
 /// The sources and the targets are exchanged too.
-fn turned(table: &Table) -> Table {
+fn backwards(table: &Table) -> Table {
     let mut table = table.inverse();
     for arc in &mut table.arcs {
         swap(&mut arc.source, &mut arc.target);
@@ -370,7 +370,7 @@ fn noticed(wrong: fn(&Table) -> Table) -> usize {
 #[test]
 fn wrong_inverses_are_noticed() {
     let wrongs: [fn(&Table) -> Table; 6] = [
-        turned,
+        backwards,
         reversed,
         unpenalized,
         one_sided,
@@ -409,7 +409,7 @@ fn wrong_counts_are_noticed() {
     assert!(noticed.iter().all(|count| *count >= 100), "{noticed:?}");
 }
 
-/// Faults of one task alone.
+/// A fault of synthesis alone at a start, and one of recognition alone in calls.
 #[test]
 fn faults_of_a_task_are_noticed() {
     let starts = fixed::inverse_starts(&Twin::<{ fault::RECOGNITION_CYCLES }>).map(drop);

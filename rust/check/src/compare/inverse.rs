@@ -1,5 +1,5 @@
-//! Starts and calls on a table beside those of the exchanged task on its inverse, with the words exchanged: both must answer and leave the
-//! same.
+//! Starts, calls and writes on a table beside those of the exchanged task on its inverse, with the words exchanged: both must answer and
+//! leave the same.
 use super::same;
 use crate::answer::{Answer, Run, Started};
 use crate::engine::{Engine, Next, Start, Texts};
@@ -46,7 +46,7 @@ pub struct Beside<'a, E, T> {
     agreed: RefCell<Result<(), String>>,
 }
 
-/// A case on tables and on what is made of their cells: nothing, or the first difference, one between them before one from the model.
+/// Puts a case to tables, each beside what is made of its cells. A difference between the two is told before one from the model.
 pub fn compare<E, T: Fn(&[u16]) -> Vec<u16>>(
     engine: &E,
     other: T,
@@ -118,6 +118,7 @@ impl<E: Texts, T: Fn(&[u16]) -> Vec<u16>> Texts for Beside<'_, E, T> {
         self.engine.read(text, table)
     }
 
+    /// Only the answers are compared: the texts differ in their letters.
     fn write(&self, table: &[u16], text: &mut [u8]) -> Answer {
         let mut other_text = text.to_vec();
         let other = self.engine.write(&(self.other)(table), &mut other_text);
