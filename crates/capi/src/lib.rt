@@ -1,4 +1,6 @@
 // The C interface of include/readings.h: the calls of `table`, `trie`, `engine` and `sheet`, each answer as a struct of numbers.
+#![tactic(auto)]
+
 pub mod calls;
 pub mod sheets;
 pub mod starts;

@@ -1,4 +1,6 @@
 // Answers as structs of numbers, for C.
+#![tactic(auto)]
+
 ghost use Rattle.std.specs.Prelude.{◌≡◌, ℕ, ◌<◌, ◌^◌};
 ghost use Rattle.destination.specs.declared.Answer.TheVariants.{Done};
 ghost use Rattle.refusal.specs.Told.{refused_told, answered};

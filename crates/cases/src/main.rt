@@ -1,5 +1,7 @@
 // Runs the cases of a script, its standard input, and prints a line for each. The file `stdin` beside this folder is the script, and
 // says how a case is written.
+#![tactic(auto)]
+
 mod answers;
 mod searches;
 

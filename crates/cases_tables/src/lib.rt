@@ -1,4 +1,6 @@
 // The cases that call the crate `table`, on the cells of one table.
+#![tactic(auto)]
+
 use bytes::scan;
 use cases_script::{numbers, show};
 use destination::Answer;

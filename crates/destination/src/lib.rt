@@ -1,4 +1,6 @@
 // "24. A destination for a loaded table or for text is shorter than what is to be written to it. A longer one is untouched beyond that."
+#![tactic(auto)]
+
 ghost use Rattle.std.specs.Prelude.{◌≡◌, ◌++◌, ◌+◌, ◌≤◌, length, drop};
 ghost use Rattle.std.proofs.lemmas.List.Edits.{sets};
 ghost use Rattle.destination.specs.Stored.{stored_answer, stored_cells};

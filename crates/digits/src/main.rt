@@ -1,5 +1,7 @@
 // Puts each of the 256 bytes to `hexadecimal::value`, and prints a line for each that can be held against an ASCII chart: the byte's number, its
 // character where it has one that shows, and the value of the digit, or a dash where it is none.
+#![tactic(auto)]
+
 use hexadecimal::Decoded;
 
 fn say(text: &[u8]) {

@@ -1,4 +1,6 @@
 // The call for a reading: the caller's record of the run is moved on in it.
+#![tactic(auto)]
+
 ghost use Rattle.machine.specs.Answer.{told};
 ghost use Rattle.machine.specs.Reading.{outcome, OutcomeIs};
 

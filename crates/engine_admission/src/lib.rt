@@ -1,4 +1,6 @@
 // Refusals 20, 11, 10 and 39, which a start and a call look for in this order; and the sides that a task reads.
+#![tactic(auto)]
+
 ghost use Rattle.std.specs.Prelude.{◌≡◌, ◌||◌, List, ℕ};
 ghost use Rattle.table_format.specs.Rules.{is_empty};
 ghost use Rattle.table_check.specs.Check.{checked};

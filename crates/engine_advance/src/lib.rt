@@ -1,4 +1,6 @@
 // The core of a call for a reading: the run goes in by value, and comes back by value.
+#![tactic(auto)]
+
 ghost use Rattle.std.specs.Prelude.{◌≡◌};
 ghost use Rattle.table_format.specs.Loaded.{counts_in, table_in};
 ghost use Rattle.table_check.specs.Check.{layout_of};

@@ -1,6 +1,8 @@
 // A shortest cycle of idle arcs through a state, and among those the one whose states come first, by a breadth-first search backwards from that
 // state. It has number 1, and others have one more than their distance to it, layer by layer (`layer`, `layers`), until an arc leads from it to
 // the outermost layer. The way back goes from layer to layer, each time to the lowest state to which an arc leads (`lowest`, `trace`).
+#![tactic(auto)]
+
 ghost use Rattle.std.specs.Prelude.{◌≡◌, ◌<◌, ◌≤◌, length};
 ghost use Rattle.graph.specs.Walk.{Walk};
 ghost use Rattle.engine_graph.specs.Graph.{Graph, IdleEdge};

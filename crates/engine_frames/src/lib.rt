@@ -1,4 +1,6 @@
 // Frames: their cells on a stack, what an arc makes of their counts, whether their path accepts, and its output.
+#![tactic(auto)]
+
 pub mod cells;
 pub mod output;
 pub mod sides;

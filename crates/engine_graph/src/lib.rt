@@ -1,4 +1,6 @@
 // A table's arcs, in their cells, as a graph on its states: a definition with its laws, which arcs a state has, and whether an arc is idle.
+#![tactic(auto)]
+
 ghost use Rattle.std.specs.Prelude.{◌≡◌, ◌+◌, ◌<◌, length, get_or};
 ghost use Rattle.table_format.specs.Cells.{arc_count, arc_of};
 ghost use Rattle.machine.specs.Idle.{side_idle};

@@ -1,6 +1,8 @@
 // The idle cycle to be shown. Where peeling (engine_peel) leaves no state there is none. Else what is reached is marked (engine_reach), and of the
 // states that are left and reached, the lowest from which idle arcs lead back to it begins the cycle: the shortest and first one through it
 // (engine_cycle).
+#![tactic(auto)]
+
 ghost use Rattle.std.specs.Prelude.{◌≡◌, ◌↔◌, true, [], ◌<◌, length};
 ghost use Rattle.graph.specs.Lists.{AllBelow};
 ghost use Rattle.engine_graph.specs.Graph.{Graph};

@@ -1,6 +1,8 @@
 // Peeling: in the graph of a table's idle arcs, a state without an idle arc to a state that remains is removed, in rounds, until none is (leaf
 // removal). A state remains ("is alive") while its cell is 1. `leads` looks at an arc, `is_leaf` at the arcs of a state, `peel` makes a round,
 // `settle` all of them.
+#![tactic(auto)]
+
 ghost use Rattle.std.specs.Prelude.{◌≡◌, ◌<◌, length};
 ghost use Rattle.table_format.specs.Cells.{arc_count, arc_of};
 ghost use Rattle.engine_graph.specs.Graph.{Graph};

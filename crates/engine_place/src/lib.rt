@@ -1,4 +1,6 @@
 // Refusal 21: is the run with its used frames a place in a search?
+#![tactic(auto)]
+
 ghost use Rattle.std.specs.Prelude.{◌≡◌, List, [], ℕ, ◌+◌, ◌-◌, ◌<◌, ◌≤◌, eqb, length};
 ghost use Rattle.machine.specs.Frames.{frames_of, chain_holds, place_holds};
 ghost use Rattle.machine.specs.Stack.{most_frames, frames_in, look_at, store};

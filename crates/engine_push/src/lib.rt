@@ -1,4 +1,6 @@
 // A push: judged first; then, where it is made, its arc is counted, its frame put, and the output of an accepting path written.
+#![tactic(auto)]
+
 ghost use Rattle.std.specs.Prelude.{◌≡◌, true, ◌||◌, ℕ, suc, ◌-◌, ◌<◌, ◌≤◌, ltb, length, get_or};
 ghost use Rattle.machine.specs.Stack.{frames_in, room_in, look_at, put_at};
 ghost use Rattle.engine_push.specs.Pushing.{frame_in, verdict_by, refused_by, accepting_by, Pushable, counted_cells, pushed_cells, pushed_output};

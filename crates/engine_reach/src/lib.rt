@@ -2,6 +2,8 @@
 // idle arcs lead from a state back to it (`returns`). A state's cell is 1 once it is met, and the states stand in the order in which they were met.
 // `visit` meets a state, `visit_all` the initial ones, `follow` those to which the arcs of a state lead, and `spread` follows the arcs of each state
 // that is met.
+#![tactic(auto)]
+
 ghost use Rattle.std.specs.Prelude.{◌≡◌, ◌↔◌, true, ◌<◌, length};
 ghost use mathlib.Core.List.{Memᴰ};
 ghost use Rattle.graph.specs.Lists.{AllBelow};

@@ -1,4 +1,6 @@
 // The steps of a call on a table that keeps the rules: until the end, a reading, the allowance or a refusal.
+#![tactic(auto)]
+
 ghost use Rattle.std.specs.Prelude.{◌≡◌, ◌&&◌, eqb, leb, length};
 ghost use Rattle.machine.specs.declared.Answer.TheVariants.{Found, Refused};
 ghost use Rattle.machine.specs.Call.{advance};

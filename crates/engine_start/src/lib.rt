@@ -1,4 +1,6 @@
 // The start of a search: 20, 11, 10, 39, then 12.
+#![tactic(auto)]
+
 ghost use Rattle.std.specs.Prelude.{◌≡◌, []};
 ghost use Rattle.machine.specs.declared.StartAnswer.TheVariants.{Ready, Refused};
 ghost use Rattle.machine.specs.Start.{first_run, no_run, started_with, started, StartedIs};

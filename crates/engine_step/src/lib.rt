@@ -1,4 +1,6 @@
 // One step of a search.
+#![tactic(auto)]
+
 ghost use Rattle.std.specs.Prelude.{◌≡◌, true, ◌||◌, [], suc, ◌-◌, ◌<◌, ◌≤◌, length};
 ghost use Rattle.machine.specs.Step.{move, step};
 ghost use Rattle.machine.specs.Query.{most_ceiling};

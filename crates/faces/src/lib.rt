@@ -1,4 +1,6 @@
 // What is looked at before a sheet is written, for refusal 33: the faces of the letters, and (in `list`) the readings that are lent.
+#![tactic(auto)]
+
 pub mod list;
 
 ghost use Rattle.std.specs.Prelude.{◌≡◌};

@@ -1,4 +1,6 @@
 // Hexadecimal digits, upper case only, as one character each and as two for a byte.
+#![tactic(auto)]
+
 ghost use Rattle.std.specs.Prelude.{◌≡◌};
 ghost use Rattle.hexadecimal.specs.Hex.{value_of, decoded, digit_of, encoded};
 

@@ -1,4 +1,6 @@
 // What stands behind a descriptor, read to its end.
+#![tactic(auto)]
+
 ghost use Rattle.std.specs.Prelude.{length};
 ghost use Rattle.input.specs.Read.{Within};
 

@@ -1,1 +1,2 @@
 // Theory only: what is proved of a key. There is no code here.
+#![tactic(auto)]

@@ -4,6 +4,8 @@
 //
 // Both texts have a word a line. What cannot be used is told on standard error, and its last line counts words, readings and refused words; it is
 // another line only where the list, the input or the output failed.
+#![tactic(auto)]
+
 mod list;
 mod print;
 mod tell;

@@ -1,4 +1,6 @@
 // A list of words, each as a length byte and its letters, checked: how many states its letter tree has, or the first bad word's refusal.
+#![tactic(auto)]
+
 ghost use Rattle.std.specs.Prelude.{◌≡◌, ◌≤◌};
 ghost use Rattle.lexicon.specs.Words.{letter_holds, good_word, rises};
 ghost use Rattle.lexicon.specs.Lexicon.{most_states, lexicon};

@@ -1,4 +1,5 @@
 // The types of a search for readings, and the sizes of its stack. What they mean is in specs/.
+#![tactic(auto)]
 
 // The cells of a frame of a stack.
 pub const FRAME_WIDTH: usize = 5;

@@ -6,6 +6,8 @@
 //     2E number                    a refusal
 //
 // Where standard input cannot be read or standard output not be written, it says so on standard error and stops.
+#![tactic(auto)]
+
 use input::Got;
 use session::{LineResult, STACK_CELLS};
 use session_opening::{Opening, SessionState};

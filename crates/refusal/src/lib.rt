@@ -1,4 +1,6 @@
 // Every refusal of documents 01 and 02, and its number.
+#![tactic(auto)]
+
 ghost use Rattle.std.specs.Prelude.{◌≡◌};
 ghost use Rattle.refusal.specs.Refusal.{input_number, state_number, number_of};
 

@@ -1,5 +1,7 @@
 // A session that is open: its lines, one a call. Nothing here reads or writes but what it is lent. The lent arrays hold every table, every
 // query and every line, so nothing is too short.
+#![tactic(auto)]
+
 ghost use Rattle.std.specs.Prelude.{◌≡◌, ◌<◌};
 ghost use Rattle.session_calls.specs.Calls.{Fits};
 ghost use Rattle.session_replies.specs.Lines.{refusal_line, LineStored};

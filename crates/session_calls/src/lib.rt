@@ -1,4 +1,6 @@
 // Calls for a reading, one after the other.
+#![tactic(auto)]
+
 ghost use Rattle.session_calls.specs.Calls.{calls_outcome, CallsOutcomeIs};
 
 use machine::{Answer, Run};

@@ -1,4 +1,6 @@
 // The opening of a session: the input's length, the table, the query, the start.
+#![tactic(auto)]
+
 ghost use Rattle.std.specs.Prelude.{◌≡◌, ◌≤◌, length};
 ghost use Rattle.table_format.specs.Line.{lines_of};
 ghost use Rattle.table_format.specs.Loaded.{most_cells};

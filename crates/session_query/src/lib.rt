@@ -1,4 +1,6 @@
 // What a session reads after its length is known: where the table's text ends, and the query in the line after it.
+#![tactic(auto)]
+
 pub mod asker;
 pub mod splitter;
 pub mod words;

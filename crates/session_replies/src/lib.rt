@@ -1,4 +1,6 @@
 // The lines that a session prints, each stored from the front of a buffer.
+#![tactic(auto)]
+
 ghost use Rattle.std.specs.Prelude.{◌∷◌, ◌++◌, ◌+◌, ◌≤◌, length};
 ghost use Rattle.table_format.specs.Line.{characters_of};
 ghost use Rattle.table_format.specs.Text.{number};

@@ -1,4 +1,6 @@
 // The answer sheet: readings laid out on lines of 72 characters, and a sheet's opening and last line read back.
+#![tactic(auto)]
+
 pub mod ends;
 pub mod reader;
 pub mod writer;

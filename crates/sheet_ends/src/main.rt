@@ -1,5 +1,7 @@
 // Puts texts to `opens` and `last_word`: a sheet, each text that has one character of its opening or its last line set to some byte, and
 // each beginning of it. Prints how many are taken to open with `READINGS`, and to close with `END` or with `MORE`.
+#![tactic(auto)]
+
 use faces::FACES;
 use sheet::LastWord;
 use sheet::reader::{last_word, opens};

@@ -1,4 +1,6 @@
 // Lines of an answer sheet, written in place: their parts, and (in `reading`) the lines of a reading.
+#![tactic(auto)]
+
 pub mod reading;
 
 ghost use Rattle.std.specs.Prelude.{◌≡◌, [], ◌∷◌, ◌++◌, ◌+◌, ◌-◌, ◌≤◌, ◌<◌, length, replicate};

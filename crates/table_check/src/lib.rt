@@ -1,4 +1,6 @@
 // The table check: does a loaded table keep every rule, where do its parts stand, and where do each state's arcs begin?
+#![tactic(auto)]
+
 ghost use Rattle.std.specs.Prelude.{◌≡◌, true, ◌&&◌, List, ℕ, ◌≤◌, length, get_or};
 ghost use Rattle.table_format.specs.Classes.{class_count};
 ghost use Rattle.table_format.specs.Rules.{initials_keep, arcs_keep, penalties_keep, keeps_rules};

@@ -1,4 +1,6 @@
 // The letter classes of a table: their rules, 34, on a line, on an arc and on the rows of a loaded table, and the rows taken out of its cells.
+#![tactic(auto)]
+
 ghost use Rattle.std.specs.Prelude.{◌≡◌, ℕ, ◌+◌, ◌≤◌, ◌<◌, length, get_or, take, drop};
 ghost use Rattle.std.proofs.Math.Option.{some};
 ghost use Rattle.table_format.specs.Classes.{class_count, row_width, letters_in};

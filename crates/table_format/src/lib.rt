@@ -1,4 +1,6 @@
 // What a table, its cells and its text are, as definitions with their laws. The only code takes an arc out of its cells.
+#![tactic(auto)]
+
 ghost use Rattle.std.specs.Prelude.{◌≡◌, ◌<◌};
 ghost use Rattle.table_format.specs.Cells.{arc_count, arc_of, arc_held};
 

@@ -1,4 +1,6 @@
 // One line of a text after the header's: its kind, what it earns, its item put where it belongs in the cells, and the item's key.
+#![tactic(auto)]
+
 ghost use Rattle.std.specs.Prelude.{◌≡◌, List, ℕ, ◌≤◌, ◌<◌, ◌+◌, length, get_or, drop};
 ghost use Rattle.std.proofs.lemmas.List.Edits.{sets};
 ghost use Rattle.table_format.specs.Table.{Table, Counts};

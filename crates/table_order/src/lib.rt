@@ -1,4 +1,6 @@
 // Lists of a table that stand in order: one look at each item shows that they keep the rules.
+#![tactic(auto)]
+
 ghost use Rattle.std.specs.Prelude.{◌≡◌, length};
 ghost use Rattle.table_format.specs.Classes.{class_count};
 ghost use Rattle.table_format.specs.Loaded.{class_cells, rows_in};

@@ -1,4 +1,6 @@
 // The lines of a text to the cells of a table: each line is scanned, judged and appended.
+#![tactic(auto)]
+
 ghost use Rattle.std.specs.Prelude.{◌≡◌, true, ◌≤◌, length, drop};
 ghost use Rattle.table_format.specs.Rules.{counts_hold};
 ghost use Rattle.table_format.specs.Loaded.{count_cells, counts_in};

@@ -1,4 +1,6 @@
 // Bytes written as lines of text: the line of any bytes, each kind of line of a table, and the lines of a list.
+#![tactic(auto)]
+
 ghost use Rattle.std.specs.Prelude.{◌≡◌, ◌∷◌, map, ℕ, ◌+◌, ◌*◌, ◌/◌, ◌%◌, ◌≤◌, ◌<◌, length, get_or};
 ghost use Rattle.std.proofs.lemmas.List.Edits.{sets};
 ghost use Rattle.table_format.specs.Classes.{class_count, row_width};

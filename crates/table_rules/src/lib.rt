@@ -1,4 +1,6 @@
 // The rules of a table, 3 to 8 and 34, on a header and on one item, with the items of its kind before it.
+#![tactic(auto)]
+
 ghost use Rattle.std.specs.Prelude.{◌≡◌, ◌≤◌, true, length};
 ghost use Rattle.table_format.specs.Classes.{class_count};
 ghost use Rattle.table_format.specs.Loaded.{class_cells, rows_in};

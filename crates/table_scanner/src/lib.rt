@@ -1,4 +1,6 @@
 // One line of a text: its digits, two to a byte, up to its line feed; numbers and an arc out of the bytes of a table's line.
+#![tactic(auto)]
+
 ghost use Rattle.std.specs.Prelude.{◌≡◌, ◌+◌, ◌<◌, drop};
 ghost use Rattle.std.proofs.lemmas.List.Edits.{sets};
 ghost use Rattle.table_format.specs.Text.{line_bytes};

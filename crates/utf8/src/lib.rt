@@ -1,4 +1,6 @@
 // UTF-8: the character at the front of bytes.
+#![tactic(auto)]
+
 ghost use Rattle.std.specs.Prelude.{◌≡◌, ◌-◌, ◌≤◌, ◌<◌, drop};
 ghost use Rattle.utf8.specs.Utf8.{is_scalar, several, character_in};
 

@@ -1,4 +1,6 @@
 // Numbers as wider ones: a byte or a cell as an index, as a count, and a byte as a cell.
+#![tactic(auto)]
+
 ghost use Rattle.std.specs.Prelude.{◌≡◌, ◌<◌};
 
 pub fn byte_as_cell(byte: u8) -> u16

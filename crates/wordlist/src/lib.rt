@@ -1,4 +1,6 @@
 // The words of a text, sorted and each once, as a list for the letter tree; or the first line that cannot be used.
+#![tactic(auto)]
+
 ghost use Rattle.std.specs.Prelude.{◌≡◌, true, List, ℕ, ◌≤◌, ◌<◌, leb, length, take};
 ghost use Rattle.lexicon.specs.Words.{Word, list_holds};
 ghost use Rattle.lexicon.specs.Beginnings.{beginnings};

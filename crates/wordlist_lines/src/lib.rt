@@ -1,4 +1,6 @@
 // The lines of a text of words, one after another: those that hold a word, without the blanks at their ends.
+#![tactic(auto)]
+
 ghost use Rattle.std.specs.Prelude.{◌≡◌, ◌∷◌, suc, min, ◌≤◌, ◌<◌, length, take, drop};
 ghost use Rattle.wordlist_lines.specs.Lines.{is_blank, mark_size, lines_in, unled, untrailed, passed_over, whole_lines, feeds};
 ghost use Rattle.wordlist_lines.specs.Next.{NextIs};

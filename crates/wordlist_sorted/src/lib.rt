@@ -1,4 +1,6 @@
 // A list of words in dictionary order, each as a length byte and its letters: a word put in its place.
+#![tactic(auto)]
+
 ghost use Rattle.std.specs.Prelude.{◌≡◌, List, ℕ, ◌+◌, ◌≤◌, length};
 ghost use Rattle.lexicon.specs.Words.{Word, rises};
 ghost use Rattle.lexicon.specs.Lexicon.{spelled};

@@ -1,4 +1,6 @@
 // A line of characters as a word.
+#![tactic(auto)]
+
 ghost use Rattle.std.specs.Prelude.{◌≡◌};
 ghost use Rattle.wordlist_spelling.specs.Spelled.{SpelledIs};
 
