@@ -8,7 +8,7 @@ ghost use Rattle.destination.specs.Stored.{stored_answer, stored_cells};
 use refusal::{Refusal, StateCause};
 
 // What a call with a destination answers: how many cells or bytes were written, or a refusal.
-#[derive(Drop)]
+#[derive(Clone, Copy)]
 pub enum Answer {
     Done(usize),
     Refused(Refusal),

@@ -5,14 +5,14 @@ ghost use Rattle.std.specs.Prelude.{◌≡◌};
 ghost use Rattle.hexadecimal.specs.Hex.{value_of, decoded, digit_of, encoded};
 
 // What digits say: a value, or that one of them is no digit.
-#[derive(Drop)]
+#[derive(Clone, Copy)]
 pub enum Decoded {
     Value(u8),
     Invalid,
 }
 
 // A byte as two digits.
-#[derive(Drop)]
+#[derive(Clone, Copy)]
 pub struct Digits {
     pub high: u8,
     pub low: u8,

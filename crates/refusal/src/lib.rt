@@ -5,7 +5,7 @@ ghost use Rattle.std.specs.Prelude.{◌≡◌};
 ghost use Rattle.refusal.specs.Refusal.{input_number, state_number, number_of};
 
 // Why an input is turned down: document 01's 1 to 12, and document 02's 30 to 34 and 39.
-#[derive(Drop)]
+#[derive(Clone, Copy)]
 pub enum InputCause {
     Malformed,
     Misplaced,
@@ -28,7 +28,7 @@ pub enum InputCause {
 }
 
 // Why a state is turned down, document 01's 20 to 24.
-#[derive(Drop)]
+#[derive(Clone, Copy)]
 pub enum StateCause {
     LoadedTable,
     Place,
@@ -37,7 +37,7 @@ pub enum StateCause {
     DestinationShort,
 }
 
-#[derive(Drop)]
+#[derive(Clone, Copy)]
 pub enum Refusal {
     Input(InputCause),
     State(StateCause),

@@ -13,7 +13,7 @@ use table_format::{ARC_WIDTH, CLASSES_AT, INITIALS_AT, arc_at};
 use table_rules::Judged;
 
 // A loaded table's count of states, where its initial states, its terminal states and its arcs begin, and where it ends.
-#[derive(Drop)]
+#[derive(Clone, Copy)]
 pub struct Layout {
     pub states: u16,
     pub initials: usize,
@@ -23,7 +23,7 @@ pub struct Layout {
 }
 
 // What the table check tells: whether the table keeps the rules, where its parts stand, and where each state's arcs begin.
-#[derive(Drop)]
+#[derive(Clone, Copy)]
 pub struct Checked {
     pub ok: bool,
     pub layout: Layout,

@@ -42,6 +42,10 @@ module _ (l : List ℕ) (k : ℕ) (h : k < length l) where
   pub rise-step : (m : ℕ) → letters_rise m (drop k l) ≡ (is_next m (get_or l k 0) && letters_rise (get_or l k 0) (drop (k + 1) l))
   rise-step m = ap (letters_rise m) front
 
+  -- a letter over 63 ends the rise
+  pub rise_high : (m : ℕ) → 63 < get_or l k 0 → letters_rise m (drop k l) ≡ false
+  rise_high m p = rise-step m ∙ next-high m (get_or l k 0) (letters_rise (get_or l k 0) (drop (k + 1) l)) p
+
   pub blank-letter : (get_or l k 0 ≡ 0 → ⊥) → is_blank (drop k l) ≡ false
   blank-letter ne = ap is_blank front ∙ ap (λ (t : Bool). not (t || any (λ x. ltb 0 x) (drop (k + 1) l))) (lt-ltb 0 (get_or l k 0) (omega (arith, ne)))
 

@@ -12,6 +12,7 @@ ghost use Rattle.table_format.specs.Cells.{arc_said};
 use table_format::{Arc, CLASS_COUNT, CLASSES_AT, FIRST_CLASS, ROW_WIDTH};
 
 // Whether letters rise, from 1 to 63.
+#[tactic(auto, using(crate::proofs::ClassRows::rise_high))]
 fn letters_rise(letters: &[u8]) -> bool
     ensures { result ≡ letters_rise 0 letters.now }
 {

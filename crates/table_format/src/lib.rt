@@ -80,7 +80,7 @@ pub const PENALTY_LINE: usize = 2 * PENALTY_BYTES + 1;
 pub const MOST_PENALTY: u16 = 255;
 
 // An arc, out of its cells.
-#[derive(Drop)]
+#[derive(Clone, Copy)]
 pub struct Arc {
     pub source: u16,
     pub upper: u16,

@@ -47,7 +47,7 @@ module _ {c : Counts} {t : Table} {lines filled top : ℕ} {cells : List ℕ} (T
   filled_at =
       omega (
         arith,
-        T.Filled-is,
+        T.filled_is,
         classes-length t.classes T.classes_keep_lem,
         length-append (rows_cells t.classes) (t.initials ++ (t.terminals ++ arcs_cells t.arcs)),
         length-append t.initials (t.terminals ++ arcs_cells t.arcs),
@@ -61,10 +61,10 @@ module _ {c : Counts} {t : Table} {lines filled top : ℕ} {cells : List ℕ} (T
       omega (arith, filled_at, T.initials-most, T.terminals-most, T.arcs-most, b.states, b.initials, b.terminals, b.arcs)
 
   pub cells-long : length cells ≡ most_cells
-  cells-long = ap length T.cells_are ∙ length-filled (draft_cells c t) (omega (arith, T.Filled-is, filled-most))
+  cells-long = ap length T.cells_are ∙ length-filled (draft_cells c t) (omega (arith, T.filled_is, filled-most))
 
   front : take filled cells ≡ draft_cells c t
-  front = ap (take filled) T.cells_are ∙ take-filled (draft_cells c t) filled T.Filled-is
+  front = ap (take filled) T.cells_are ∙ take-filled (draft_cells c t) filled T.filled_is
 
   count-cell : (i : ℕ) → i < initials_at → get_or cells i 0 ≡ get_or (draft_cells c t) i 0
   count-cell i h = sym (get_or-take filled cells i 0 (omega (arith, filled_at))) ∙ ap (λ (l : List ℕ). get_or l i 0) front

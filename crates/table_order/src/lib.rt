@@ -40,6 +40,7 @@ fn letters(arc: Arc) -> u32
 }
 
 // Whether letters joined by `|` mean no class.
+#[tactic(auto, using(crate::proofs::Joined::joined_over))]
 fn joined_plain(joined: u32) -> bool
     ensures { result ≡ joined_plain joined }
 {

@@ -15,14 +15,14 @@ use table_rules::Judged;
 use table_scanner::{Scanned, number_at};
 
 // What the lines of a text give: how many cells a table has, or the first bad line's refusal.
-#[derive(Drop)]
+#[derive(Clone, Copy)]
 pub enum Read {
     Cells(usize),
     Fault(InputCause),
 }
 
 // What a text gives, with the cells of its table, filled up with 0; every cell of a refused text is 0.
-#[derive(Drop)]
+#[derive(Clone, Copy)]
 pub struct Gathered {
     pub read: Read,
     pub cells: [u16; MOST_CELLS],

@@ -2,7 +2,7 @@
 use Prim.Native.Nat.{ℕ, zero, suc, ◌-◌, ◌<◌, ◌≤◌}
 use native.Mathlib.Omega.{arith}
 use mathlib.Core.Path.{◌≡◌, refl, ap, ◌∙◌}
-use mathlib.Core.Bool.{Bool, true, false, ◌&&◌, ◌||◌, or-false}
+use mathlib.Core.Bool.{Bool, true, false, ◌&&◌, ◌||◌, and-false, or-false}
 use mathlib.Core.List.{List, [], ◌∷◌}
 use lib.Dec.{eqb, leb, ltb}
 use lib.ListN.{length, get_or}
@@ -140,6 +140,9 @@ module _ (n : ℕ) (rows : List (List ℕ)) (before : List Arc) (a : Arc) where
     pub arc-letter-out : (letter_holds a.upper && letter_holds a.lower) ≡ false → judged (arc_faults n rows before a) ≡ Broken LetterLimit
     unfolding arc_faults
     arc-letter-out e = simp (lt-ltb a.source n g, lt-ltb a.target n h, e)
+
+    pub arc_lower_out : 71 < a.lower → judged (arc_faults n rows before a) ≡ Broken LetterLimit
+    arc_lower_out e = arc-letter-out (ap (λ (b : Bool). letter_holds a.upper && b) (le-ltb a.lower 72 (omega arith)) ∙ and-false (letter_holds a.upper))
 
     module _ (l : (letter_holds a.upper && letter_holds a.lower) ≡ true) where
       pub arc_class_out : arc_class_holds rows a ≡ false → judged (arc_faults n rows before a) ≡ Broken ClassFault

@@ -13,7 +13,7 @@ use table_classes::arc_class_holds;
 use table_format::{ARC_WIDTH, Arc, arc_at};
 
 // How a rule judges an item: kept, or the first refusal that it earns.
-#[derive(Drop)]
+#[derive(Clone, Copy)]
 pub enum Judged {
     Kept,
     Broken(InputCause),
@@ -145,6 +145,7 @@ fn is_repeated(before: &[u16], arc: Arc) -> bool
 }
 
 // An arc, after arcs that keep the rules. One whose key is above `top`, which no key before it is, is new.
+#[tactic(auto, using(crate::proofs::Faults::arc_lower_out))]
 pub fn arc_fault(rows: &[u16], before: &[u16], states: u16, arc: Arc, top: u64) -> Judged
     requires rows_len { length rows.now ≡ class_cells }
     requires before_value { arcs_keep states (rows_in class_count rows.now) (arcs_as before.now) ≡ true }

@@ -12,7 +12,7 @@ use hexadecimal::Decoded;
 use table_format::{Arc, LINE_BYTES};
 
 // What a line of a text says: that it is malformed, or how many bytes, and where the next line begins.
-#[derive(Drop)]
+#[derive(Clone, Copy)]
 pub enum Scanned {
     Malformed,
     Says { count: usize, next: usize },

@@ -1,0 +1,85 @@
+use Prim.Native.Nat.{ℕ}
+use native.Mathlib.Omega.{arith}
+use mathlib.Core.Path.{◌≡◌, sym, ap, ◌∙◌}
+use mathlib.Core.Bool.{Bool, true, false}
+use lib.ListN.{drop, get_or, replicate}
+use mathlib.Core.List.{List}
+use Rattle.table_format.specs.Table.{Counts}
+use Rattle.table_format.specs.Rules.{counts_hold}
+use Rattle.table_format.specs.Loaded.{count_cells, counts_in}
+use Rattle.table_format.specs.Line.{bytes_of}
+use Rattle.table_format.specs.Parse.{header_kind, is_header, counts_from}
+use Rattle.table_format.specs.Text.{header_width, line_bytes}
+use Rattle.table_scanner.specs.Scan.{padded}
+use Rattle.table_items.specs.Draft.{filled_up}
+use Rattle.table_parser.specs.Gathered.{gathered, items_parsed}
+use Rattle.table_scanner.proofs.ScannedLine.{LineRead, line_read, line-bad}
+use Rattle.table_scanner.proofs.Padded.{byte_at, counts_as_lem}
+use Rattle.table_items.proofs.Filled.{counts-filled}
+use Rattle.table_items.proofs.LineKinds.{has_form_lem, not_code, not_wide}
+use Rattle.table_parser.proofs.Items.{header_missing, header_bad, header_misplaced, header_limit, header_on}
+use Rattle.table_parser.proofs.read_table.Goals as goal
+
+-- the first line, its bytes in their array, and that it is a header
+module _ {text : List ℕ} {count next : ℕ} {bytes : List ℕ} (L : LineRead text 0 count next (replicate line_bytes 0) bytes) where
+  abbrev said : List ℕ
+  said = bytes_of L.line.chars
+
+  bytes-are : bytes ≡ padded said
+  unfolding padded
+  bytes-are = L.bytes-are
+
+  is-header : get_or bytes 0 0 ≡ header_kind → count ≡ header_width → is_header said ≡ true
+  is-header k h = has_form_lem header_kind header_width said (sym (byte_at bytes said bytes-are 0 (omega arith)) ∙ k) (sym L.count-is ∙ h)
+
+  -- its counts
+  counts-are : {cells : List ℕ} → cells ≡ filled_up (count_cells (counts_from bytes)) → counts_in cells ≡ counts_from said
+  counts-are e = ap counts_in e ∙ counts-filled _ ∙ counts_as_lem bytes said bytes-are
+
+  counts-told : {cells : List ℕ} {r : Bool} (b : Bool) → cells ≡ filled_up (count_cells (counts_from bytes)) → r ≡ counts_hold (counts_in cells) → r ≡ b
+      → counts_hold (counts_from said) ≡ b
+  counts-told b e h t = sym (ap counts_hold (counts-are e)) ∙ sym h ∙ t
+
+pub returns-then-text-eq0 : goal.returns-then-text-eq0
+returns-then-text-eq0 c = c.refused.ensures ∙ ap gathered (sym (header_missing c.args.text.now c.if-text-eq0.true))
+
+pub returns-in_default : goal.returns-in_default
+returns-in_default c =
+    c.refused-in_default.ensures
+    ∙ ap gathered (sym (header_bad _ (line-bad _ 0 (omega (arith, c.if-text-eq0.false)) c.scan-line.ensures.0 c.in_default.is)))
+
+pub returns-then-count-ne-HEADER_BYTES : goal.returns-then-count-ne-HEADER_BYTES
+returns-then-count-ne-HEADER_BYTES c =
+    let L = line_read _ 0 (omega (arith, c.if-text-eq0.false)) c.scan-line.ensures.0 c.in-Says.is c.scan-line.ensures.1 in
+    c.refused-then-count-ne-HEADER_BYTES.ensures
+    ∙ ap gathered (sym (header_misplaced L (not_wide header_kind header_width (said L) (λ z. c.if-count-ne-HEADER_BYTES.true (L.count-is ∙ z)))))
+
+pub returns-then-bytes-ne-HEADER_KIND : goal.returns-then-bytes-ne-HEADER_KIND
+returns-then-bytes-ne-HEADER_KIND c =
+    let L = line_read _ 0 (omega (arith, c.if-text-eq0.false)) c.scan-line.ensures.0 c.in-Says.is c.scan-line.ensures.1 in
+    let b = said L in
+    c.refused-then-bytes-ne-HEADER_KIND.ensures
+    ∙ ap gathered (sym (header_misplaced L (not_code header_kind header_width b (λ z. c.if-bytes-ne-HEADER_KIND.true (byte_at _ b (bytes-are L) 0 (omega arith) ∙ z)))))
+
+pub read_items-requires : goal.read_items-requires
+read_items-requires c =
+    let L = line_read _ 0 (omega (arith, c.if-text-eq0.false)) c.scan-line.ensures.0 c.in-Says.is c.scan-line.ensures.1 in (
+      L.next-inside,
+      sym c.counts_hold.ensures ∙ c.if-counts_hold.true,
+      c.counted-cells.ensures ∙ ap (λ (x : Counts). filled_up (count_cells x)) (sym (ap counts_in c.counted-cells.ensures ∙ counts-filled _)),
+    )
+
+pub returns-then-counts_hold : goal.returns-then-counts_hold
+returns-then-counts_hold c =
+    let L = line_read _ 0 (omega (arith, c.if-text-eq0.false)) c.scan-line.ensures.0 c.in-Says.is c.scan-line.ensures.1 in
+    c.read_items.ensures
+    ∙ ap gathered
+    (ap (λ (x : Counts). items_parsed x (drop c.in-Says.next c.args.text.now)) (counts-are L c.counted-cells.ensures)
+    ∙ sym (header_on L (is-header L c.if-bytes-ne-HEADER_KIND.false c.if-count-ne-HEADER_BYTES.false) (counts-told L true c.counted-cells.ensures c.counts_hold.ensures c.if-counts_hold.true)))
+
+pub returns : goal.returns
+returns c =
+    let L = line_read _ 0 (omega (arith, c.if-text-eq0.false)) c.scan-line.ensures.0 c.in-Says.is c.scan-line.ensures.1 in
+    c.refused-2.ensures
+    ∙ ap gathered
+    (sym (header_limit L (is-header L c.if-bytes-ne-HEADER_KIND.false c.if-count-ne-HEADER_BYTES.false) (counts-told L false c.counted-cells.ensures c.counts_hold.ensures c.if-counts_hold.false)))
