@@ -44,7 +44,7 @@ stack_law cells upper lower run stack n buffer = go (asked cells run.task upper 
     go (turned r) = record { long = λ k. k; short = λ k. refl }
     go (runs t q) = stack-by t q run stack n buffer (call_by t q run stack n buffer)
 
--- a stack as lentFor makes it
+-- a stack as lent_for makes it
 module _ (used : List ℕ) (f : ℕ) where
   abbrev filled : List ℕ
   filled = take (f * frame_width) (used ++ replicate (f * frame_width) 7)

@@ -72,6 +72,7 @@ module _ (t : Table) (q : Query) where
     -- where n steps were told before and m calls have room enough: as many steps are told as calls with room enough do not answer Ended
     steps-enough : (xs : List Lent) (n m : ℕ) (r : Run) → Tells upper lower t q n r xs → AmpleCalls t q m xs → m + unended upper lower r xs ≤ length xs + steps_told upper lower r xs
     steps-enough [] n zero r T none = omega arith
+    steps-enough [] n (suc m) r T x4 = elim x4 [ ]
     steps-enough (x ∷ xs) n (suc m) r T (ample A C) =
         let k : one_unless_ended (told_by (call_on upper lower r x)).kind ≤ steps_on upper lower r x = ⊎_elim (λ h. omega (arith, one_at_most (call_on upper lower r x).called.answer)) (λ e. omega (arith, ap one_unless_ended e))
         (progress n r x (call_on upper lower r x) A T.0) in

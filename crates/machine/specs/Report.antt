@@ -116,7 +116,7 @@ write_letter (suc γ) = R (suc γ)
 
 -- Section 2.2: the relabelling α of each task, and its interface.
 
--- an arc's label (σ, γ) is (σ, ε) (ε, γ), and α is a morphism: α (σ, γ) is the product of both sides' relations (label-is)
+-- an arc's label (σ, γ) is (σ, ε) (ε, γ), and α is a morphism: α (σ, γ) is the product of both sides' relations (label_is)
 abbrev pub α : Task → Arc → Rel (Word × Word) (Word × Word)
 α recognition a = read_letter a.upper ⊗ read_letter a.lower
 α synthesis a = read_letter a.upper ⊗ write_letter a.lower
@@ -175,7 +175,7 @@ abbrev pub φ₋ : (k : Task) → Rel (Input k) (Word × Word)
 φ₋ synthesis w d = (d.0 ≡ w) × (d.1 ≡ [])
 φ₋ analysis w d = (d.0 ≡ []) × (d.1 ≡ w)
 
--- recognition: bothEmpty; synthesis: { ((ε, w'), w') }; analysis the same with the sides exchanged
+-- recognition: both_empty; synthesis: { ((ε, w'), w') }; analysis the same with the sides exchanged
 abbrev pub φ₊ : (k : Task) → Rel (Word × Word) (Output k)
 φ₊ recognition d b = both_empty d.0 d.1 ≡ b
 φ₊ synthesis d w = (d.0 ≡ []) × (d.1 ≡ w)

@@ -82,7 +82,7 @@ module _ (M : Machine) where
   paths_of c i zero = []
   paths_of c i (suc k) = paths_from c (start i) ++ paths_of c (suc i) k
 
-  -- every path that the words allow (paths-listed shows that they are these)
+  -- every path that the words allow (paths_listed shows that they are these)
   abbrev pub allowed_paths : List Path
   allowed_paths = paths_of M.limit 0 (length M.initials)
 

@@ -13,7 +13,7 @@ pub const MOST_CEILING: u32 = 100000;
 // The caller's record of a search: its task, how many initial states are started, how many frames are in use, and the ceiling for the sum of the
 // penalties on a path, which its start fixes.
 #[repr(C)]
-#[derive(Drop)]
+#[derive(Clone, Copy)]
 pub struct Run {
     pub task: u32,
     pub started: u32,
@@ -22,7 +22,7 @@ pub struct Run {
 }
 
 // What a call for a reading answers, with the steps made in it.
-#[derive(Drop)]
+#[derive(Clone, Copy)]
 pub enum Answer {
     Found {
         steps: u32,
@@ -41,21 +41,21 @@ pub enum Answer {
 }
 
 // An answer, with the run moved on.
-#[derive(Drop)]
+#[derive(Clone, Copy)]
 pub struct Called {
     pub answer: Answer,
     pub run: Run,
 }
 
 // What a start answers.
-#[derive(Drop)]
+#[derive(Clone, Copy)]
 pub enum StartAnswer {
     Ready,
     Refused(refusal::Refusal),
 }
 
 // What a start gives back: the run to go on with, and with refusal 12 the states of the idle cycle that is to be shown.
-#[derive(Drop)]
+#[derive(Clone, Copy)]
 pub struct Started {
     pub answer: StartAnswer,
     pub run: Run,
