@@ -6,7 +6,7 @@ pub mod reader;
 pub mod writer;
 
 // What the last line of a sheet says.
-#[derive(Drop)]
+#[derive(Clone, Copy)]
 pub enum LastWord {
     End,
     More,

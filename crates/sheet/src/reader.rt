@@ -4,7 +4,6 @@ ghost use Rattle.sheet.specs.Read.{opens_with, closes_with, last_word_in};
 
 use crate::LastWord;
 use crate::ends::{last_line, opening_line};
-use check::same;
 use sheet_lines::LINE;
 
 // Whether text opens as a sheet does.
@@ -15,7 +14,7 @@ pub fn opens(text: &[u8]) -> bool
         return false;
     }
     let line = opening_line();
-    same(&text[..LINE], &line)
+    text[..LINE] == line[..]
 }
 
 // Whether text closes as a sheet of a run that ended does, or of one that did not.
@@ -27,7 +26,7 @@ fn closes(text: &[u8], ended: bool) -> bool
     }
     let from = text.len() - LINE;
     let line = last_line(ended);
-    same(&text[from..], &line)
+    text[from..] == line[..]
 }
 
 // What the last line of text says.

@@ -1,13 +1,12 @@
 -- Characters stored in a sheet: blanks up to a line's end, a row's line, a reading's lines.
 use Prim.Native.Nat.{ℕ, suc, ◌+◌, ◌*◌, ◌-◌, ◌<◌, ◌≤◌}
 use native.Mathlib.Omega.{arith}
-use native.Mathlib.Nat.{add-zero}
 use native.Mathlib.Numerals.{add-one}
-use mathlib.Core.Path.{◌≡◌, refl, sym, ap, ap₂, ◌∙◌}
+use mathlib.Core.Path.{◌≡◌, refl, sym, ap, ◌∙◌}
 use mathlib.Core.Bool.{true}
 use mathlib.Core.List.{List, [], ◌∷◌, ◌++◌, map, append_assoc}
-use lib.ListN.{length, get_or, take, drop, set, replicate, length-append, length-drop, length-map, take-append-drop, drop_of_length-le}
-use lib.Seq.{sets, take_all, drop-cons, drop-drop}
+use lib.ListN.{length, get_or, take, drop, set, replicate, length-append, length-drop, length-map, take-append-drop}
+use lib.Seq.{sets, take_all, drop-drop}
 use Rattle.table_format.proofs.All.{all-at}
 use Rattle.table_format.proofs.Tests.{and_left, and_right}
 use Rattle.table_format.proofs.Stores.{then}

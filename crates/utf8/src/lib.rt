@@ -5,7 +5,7 @@ ghost use Rattle.std.specs.Prelude.{◌≡◌, ◌-◌, ◌≤◌, ◌<◌, drop
 ghost use Rattle.utf8.specs.Utf8.{is_scalar, several, character_in};
 
 // The character at the front, its code point and in how many bytes it stands; or none does.
-#[derive(Drop)]
+#[derive(Clone, Copy)]
 pub enum Character {
     Scalar { code: u32, size: usize },
     Malformed,
