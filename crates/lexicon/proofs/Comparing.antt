@@ -9,7 +9,6 @@ use lib.Seq.{drop-cons}
 use lib.Dec.{eqb, ltb}
 use borrow.Author.Tests.{le-leb, lt-leb, eq-eqb, ne_eqb, eqb-true, le-ltb, ltb-true, ltb-false}
 use Rattle.lexicon.specs.Words.{Word, letter_holds, letters_hold, good_word, rises}
-use Rattle.lexicon.specs.Lexicon.{words}
 use Rattle.lexicon.specs.Check.{common}
 
 -- A word's length and letters.

@@ -18,7 +18,7 @@ const MOST_LETTERS: usize = 64;
 const MOST_LETTER: u8 = 62;
 
 // What a list tells: the states of its letter tree, or 30, 31, 32.
-#[derive(Drop)]
+#[derive(Clone, Copy)]
 pub enum Listing {
     States(usize),
     Fault(InputCause),

@@ -1,7 +1,7 @@
 -- The theorems about the call that builds a table from a list of words, stated together. What each one means is in specs/; how it is shown is in
 -- Calls.
 use Prim.Native.Nat.{ℕ, ◌≤◌, ◌<◌}
-use mathlib.Core.Path.{◌≡◌, sym, ap, subst, ◌∙◌}
+use mathlib.Core.Path.{◌≡◌, ap, subst, ◌∙◌}
 use mathlib.Core.Logic.{◌↔◌}
 use mathlib.Core.Option.{some}
 use mathlib.Core.List.{List, ◌++◌}

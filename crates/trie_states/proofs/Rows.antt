@@ -94,7 +94,7 @@ module _ (parent letter : ℕ → ℕ) (bs : List Word) (W : Rows parent letter 
           let k : ℕ = a.target in
           let P : 0 < k = letter-above bs W.root a S in
           let Q = snoc-parts (get_or bs (parent k) []) (get_or bs a.source []) (letter k) a.lower (sym (W.row k P S.target_in) ∙ S.step) in
-          let E : parent k ≡ i = distinct-differ bs (rising-distinct bs R) [] (parent k) a.source (W.parent_in_lem k P S.target_in) S.source_in Q.0 ∙ F in
+          let E : parent k ≡ i = distinct-differ bs (rising-distinct bs R) [] (parent k) a.source (W.parent_in k P S.target_in) S.source_in Q.0 ∙ F in
           subst (λ (z : Arc). Memᴰ z (child_arcs 1 (length bs - 1))) (λ x. record { source = sym F x; upper = (Q.1 ∙ sym S.same) x; lower = Q.1 x; target = k; penalty = sym S.no_penalty x })
           (Memᴰ.map (child_arc letter i) (child_from parent i (length bs - 1) 1 k (omega arith) (omega (arith, S.target_in)) E))
 

@@ -9,7 +9,6 @@ use mathlib.Core.List.{List, [], ◌∷◌}
 use lib.Dec.{leb}
 use lib.ListN.{length, drop, length-take, length-drop, drop_of_length-le}
 use borrow.Author.Tests.{le-leb, lt-leb}
-use Rattle.table_format.specs.Rules.{each}
 use Rattle.lexicon.specs.Words.{Word}
 use Rattle.lexicon.specs.Beginnings.{beginnings}
 use Rattle.lexicon.specs.Lexicon.{most_states}

@@ -15,7 +15,7 @@ use wordlist_sorted::LIST_BYTES;
 use wordlist_spelling::{Ending, WORD_LETTERS};
 
 // The line that cannot be used: its number, from where to where its word stands in the text, and how many words stand before it.
-#[derive(Drop)]
+#[derive(Clone, Copy)]
 pub struct BadLine {
     pub number: usize,
     pub from: usize,
@@ -24,7 +24,7 @@ pub struct BadLine {
 }
 
 // What a text comes to: so many words in so many bytes of the list; or a line whose word is bad, or with whose word there are too many states.
-#[derive(Drop)]
+#[derive(Clone, Copy)]
 pub enum Gathered {
     Words { count: usize, bytes: usize },
     BadWord(BadLine),
@@ -44,7 +44,7 @@ fn fits(list: &[u8], bytes: usize) -> bool
 }
 
 // What a line's word comes to: the list's bytes with it in its place, or that it is bad, or that there are too many states with it.
-#[derive(Drop)]
+#[derive(Clone, Copy)]
 pub enum Added {
     Grown(usize),
     Bad,

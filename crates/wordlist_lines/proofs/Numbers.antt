@@ -60,7 +60,7 @@ held_at n (l ∷ before) line after e = go (passed_over (trimmed l)) (held_at (s
     go b m =
         let z : n + suc (length before) ≡ suc n + length before = omega arith in
         let k = Memᴰ.cast (ap (λ (i : ℕ). line_with i (trimmed line)) z) m in
-        elim b [ true ↦ k | false ↦ Memᴰ.tail k ]
+        elim b as (λ (b' : Bool). Memᴰ (line_with (n + suc (length before)) (trimmed line)) (held_by n l (before ++ (line ∷ after)) b')) [ true ↦ k | false ↦ Memᴰ.tail k ]
 
 pub numbers-held : (n : ℕ) (ls : List (List ℕ)) (x : Line) → HeldIn n ls x → Memᴰ x (held_from n ls)
 numbers-held n ls x H =

@@ -6,7 +6,7 @@ ghost use Rattle.wordlist_lines.specs.Lines.{is_blank, mark_size, lines_in, unle
 ghost use Rattle.wordlist_lines.specs.Next.{NextIs};
 
 // The next line that holds a word: from where to where it does, how many lines are passed over before it, and where the line after it begins.
-#[derive(Drop)]
+#[derive(Clone, Copy)]
 pub enum NextLine {
     Found {
         from: usize,

@@ -13,7 +13,7 @@ use destination::put;
 pub const LIST_BYTES: usize = 16640;
 
 // Where a word's place among listed ones is: it is there already, or it goes before the byte at a place.
-#[derive(Drop)]
+#[derive(Clone, Copy)]
 pub enum Place {
     Listed,
     At(usize),

@@ -11,7 +11,7 @@ use utf8::Character;
 pub const WORD_LETTERS: usize = 64;
 
 // How a line's letters end: with the line, at a character that is no letter, or at a letter after 64 others.
-#[derive(Drop)]
+#[derive(Clone, Copy)]
 pub enum Ending {
     Whole,
     NoLetter,
@@ -19,7 +19,7 @@ pub enum Ending {
 }
 
 // How many letters a line has before its end or its fault, and where that is; the character there has so many bytes.
-#[derive(Drop)]
+#[derive(Clone, Copy)]
 pub struct Spelling {
     pub letters: usize,
     pub ending: Ending,
