@@ -6,8 +6,8 @@ use denote.RattleType.{RattleType}
 use denote.Laws.{Ises, Spells, Tellss}
 use denote.Plain.{uint_vals, uint_Tells}
 use denote.Builtin.{u8, u16, u32}
-use denote.Ref.{MutRef, shr_vals, mut_Tells}
-use denote.Slice.{ShrSlice, MutSlice, shr_slice_vals, shr_slice_Tells, mut_slice_Tells}
+use denote.Ref.{MutRef, mut_vals, mut_Tells}
+use denote.Slice.{ShrSlice, MutSlice, shr_slice_vals, mut_slice_vals, shr_slice_Tells, mut_slice_Tells}
 use Rattle.machine.specs.contracts.Run as R
 
 -- their types, at the lifetimes of the references
@@ -18,7 +18,7 @@ parameters κs =
 
 -- their machine values, and that nothing else is passed
 abbrev pub spells : (κs : Lfts 6) → Spells (parameters κs)
-spells κs = (shr_slice_vals, (shr_slice_vals, (shr_slice_vals, (shr_vals, (shr_slice_vals, (uint_vals w32, (shr_slice_vals, tt)))))))
+spells κs = (shr_slice_vals, (shr_slice_vals, (shr_slice_vals, (mut_vals, (mut_slice_vals, (uint_vals w32, (mut_slice_vals, tt)))))))
 
 abbrev pub tells : (κs : Lfts 6) → Tellss (parameters κs) (Ises (parameters κs)) (spells κs)
 tells κs = (

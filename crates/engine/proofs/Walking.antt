@@ -4,7 +4,7 @@ use Prim.Native.Nat.{ℕ, ◌<◌, ◌^◌}
 use mathlib.Core.List.{List, [], ◌∷◌}
 use lib.ListN.{length}
 use seplogic.Ra.Ura.{Ura}
-use mir.Syntax.{Fn, Name, w64}
+use mir.Syntax.{Fn, Callee, w64}
 use mir.Val.{Val, Fits}
 use base.Logic.{ent}
 use prog.Model.{Model}
@@ -83,10 +83,10 @@ module _ {M : Type 1} {𝓤 : Ura M} (𝓛 : Logic 𝓤) (𝓜 : Model 𝓤 𝓛
   fm = fm_of 𝓤 H W.laws (tables_of 𝓤 H 𝓜 (tables 𝓤 H 𝓜 𝓡 γ))
 
   -- a walk shows the contract
-  pub by_hand : (T : Ended) (c : Clauses 𝓤 T) (k : Name) (e : Fn) → Closed 𝓤 H C Λ k e → Walks 𝓛 T (exits T) (WpFn 𝓤 H C Λ e) c
+  pub by_hand : (T : Ended) (c : Clauses 𝓤 T) (k : Callee) (e : Fn) → Closed 𝓤 H C Λ k e → Walks 𝓛 T (exits T) (WpFn 𝓤 H C Λ e) c
       → Meets 𝓛 T.signature (C k) (closing 𝓛 T c)
   unfolding tables_of
   by_hand T c k e closed walks =
       entered 𝓤 H (triple_of 𝓛 T.signature (closing 𝓛 T c)) C Λ k e closed
-      (walk_Meets 𝓛 T (exits T) W (go-exits W T.signature.lifetimes T.signature.params T.kept) c (WpFn 𝓤 H C Λ e)
+      (walk_Meets 𝓛 T (exits T) (go-exits 𝓛 T.signature.lifetimes T.signature.params T.kept) c (WpFn 𝓤 H C Λ e)
       (WpFn-mono 𝓤 H W.laws (tables_of 𝓤 H 𝓜 (tables 𝓤 H 𝓜 𝓡 γ)) e) walks)

@@ -1,6 +1,7 @@
 -- Laws of the refusals 20, 11, 10 and 39: letters by their places, the sides that a task's number reads, and each refusal in its turn.
-use Prim.Native.Nat.{ℕ, zero, suc, ◌<◌, ◌≤◌}
+use Prim.Native.Nat.{ℕ, zero, suc, ◌+◌, ◌<◌, ◌≤◌}
 use native.Mathlib.Omega.{arith}
+use native.Mathlib.Numerals.{add-one}
 use mathlib.Core.Path.{◌≡◌, refl, sym, ap, subst, ◌∙◌}
 use mathlib.Core.Logic.{◌⊎◌, ⊎_elim}
 use mathlib.Core.Bool.{Bool, true, false, cond, ◌&&◌, ◌||◌, and-true, and_assoc}
@@ -33,6 +34,9 @@ letters-more (x ∷ xs) zero h = and-true (leb 1 x && leb x 63)
 letters-more (x ∷ xs) (suc k) h =
     ap (λ (b : Bool). (leb 1 x && leb x 63) && b) (letters-more xs k (omega arith))
     ∙ sym (and_assoc (leb 1 x && leb x 63) (letters_within (take k xs)) (leb 1 (get_or xs k 0) && leb (get_or xs k 0) 63))
+
+pub letters_next : (w : List ℕ) (k : ℕ) → k < length w → letters_within (take (k + 1) w) ≡ (letters_within (take k w) && (leb 1 (get_or w k 0) && leb (get_or w k 0) 63))
+letters_next w k h = ap (λ (n : ℕ). letters_within (take n w)) (add-one k) ∙ letters-more w k h
 
 module _ (w : List ℕ) where
   pub word-long : 64 < length w → word_holds w ≡ false

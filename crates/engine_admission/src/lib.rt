@@ -11,14 +11,14 @@ ghost use Rattle.engine_admission.specs.Admission.{side_of, reads_at, admission_
 use refusal::{InputCause, Refusal, StateCause};
 
 // What these refusals leave: a search that may run, or the first of them.
-#[derive(Drop)]
+#[derive(Clone, Copy)]
 pub enum Admission {
     Passes,
     Refused(Refusal),
 }
 
 // A side of an arc.
-#[derive(Drop)]
+#[derive(Clone, Copy)]
 pub enum Side {
     Upper,
     Lower,

@@ -9,7 +9,7 @@ ghost use Rattle.engine_graph.specs.Graph.{Graph, IdleEdge};
 ghost use Rattle.engine_cycle.specs.Numbers.{Unnumbered, LowestAt, LayerAdded, LayersTo, cycle_cells, cycle_through};
 
 // The states of a cycle, from the front; none where there is no cycle.
-#[derive(Drop)]
+#[derive(Clone, Copy)]
 pub struct Cycle {
     pub states: [u16; 256],
     pub length: u32,

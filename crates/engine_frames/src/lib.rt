@@ -6,7 +6,7 @@ pub mod output;
 pub mod sides;
 
 // What a search needs of its table, task and run besides their lists: the count of states, whether each side is read, and the ceiling.
-#[derive(Drop)]
+#[derive(Clone, Copy)]
 pub struct Setup {
     pub states: u16,
     pub up: bool,
@@ -15,7 +15,7 @@ pub struct Setup {
 }
 
 // A frame: its state, its next arc, the letters passed on each side, and the sum of the penalties on its path.
-#[derive(Drop)]
+#[derive(Clone, Copy)]
 pub struct Frame {
     pub state: u32,
     pub next: u32,
@@ -25,14 +25,14 @@ pub struct Frame {
 }
 
 // What an arc makes of one side's count, or of the sum, if it fits there.
-#[derive(Drop)]
+#[derive(Clone, Copy)]
 pub enum Count {
     Passes(u32),
     Stops,
 }
 
 // What an arc makes of both counts, if it fits.
-#[derive(Drop)]
+#[derive(Clone, Copy)]
 pub enum Fit {
     Fits(u32, u32),
     Fails,

@@ -7,7 +7,7 @@ ghost use Rattle.machine.specs.Idle.{side_idle};
 ghost use Rattle.engine_graph.specs.Graph.{idle_by};
 
 // The numbers of a state's arcs: from one up to another.
-#[derive(Drop)]
+#[derive(Clone, Copy)]
 pub struct Span {
     pub from: usize,
     pub end: usize,

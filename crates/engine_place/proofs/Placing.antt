@@ -125,7 +125,7 @@ module _ {s : Setup} {classes : List (List ℕ)} {first initials terminals arcs 
             ∙ by_class_alone fits led (passed_of (suc d.up) (suc d.low)) same
             ∙ ap₂ (λ (x y : ℕ). makes none || makes-by_class true x y) (let z : suc d.up ≡ d.up + 1 = omega arith in z) (let z : suc d.low ≡ d.low + 1 = omega arith in z)
             ∙ ap₂ (λ (o : Option Passed) (b : Bool). makes o || makes-by_class b (d.up + 1) (d.low + 1))
-            (sym (class_stuck s classes upper lower a d A R.words_Small R.reads-some p))
+            (sym (class_stuck s classes upper lower a d A R.words_small R.reads-some p))
             (sym (le-leb first_class a.upper (ltb-false _ _ (sym (plain-on a A upper_side) ∙ p))))
 
   -- f is linked with g below it, by the rules of the sides or by its class

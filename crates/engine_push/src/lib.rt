@@ -9,7 +9,7 @@ use engine_frames::{Frame, Setup, cells, output, sides};
 use refusal::StateCause;
 
 // A frame to push: its state, the letters passed on each side and the sum of penalties, with the run's numbers after the push.
-#[derive(Drop)]
+#[derive(Clone, Copy)]
 pub struct NewFrame {
     pub started: u32,
     pub depth: u32,
@@ -20,7 +20,7 @@ pub struct NewFrame {
 }
 
 // What a push meets: a refusal, room, or room on an accepting path with the length of its output.
-#[derive(Drop)]
+#[derive(Clone, Copy)]
 pub enum Verdict {
     Refused(StateCause),
     Enters,

@@ -26,7 +26,7 @@ fn is_over(initials: &[u16], run: Run) -> bool
 }
 
 // What is due in a call.
-#[derive(Drop)]
+#[derive(Clone, Copy)]
 pub enum Due {
     Stop(Answer),
     Step,

@@ -175,7 +175,7 @@ module _ {s : Setup} {classes : List (List ℕ)} {first initials terminals arcs 
     tried_of_lem k f h P =
         record {
           on_stack = h;
-          tried-one = λ i z. let T = lower-tried k f P i z in (T.0, omega (arith, T.1, arcs-count), written_small s upper lower R.words_Small (arc_of arcs (pred (look_at c i).next)) (look_at c i).datum.0);
+          tried-one = λ i z. let T = lower-tried k f P i z in (T.0, omega (arith, T.1, arcs-count), written_small s upper lower R.words_small (arc_of arcs (pred (look_at c i).next)) (look_at c i).datum.0);
         }
 
   -- what a step may look at

@@ -19,7 +19,7 @@ use refusal::StateCause;
 use table_format::{Arc, FIRST_CLASS};
 
 // What a step is to do: a frame dropped, an arc tried that does not fit, or a frame pushed.
-#[derive(Drop)]
+#[derive(Clone, Copy)]
 pub enum Move {
     Drops,
     Skips,
@@ -27,7 +27,7 @@ pub enum Move {
 }
 
 // What a step comes to: the run after it, a reading's length beside that run, or a refusal.
-#[derive(Drop)]
+#[derive(Clone, Copy)]
 pub enum Turn {
     Moved(Run),
     Finds(Run, u32),
