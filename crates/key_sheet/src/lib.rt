@@ -35,7 +35,7 @@ const OUTPUT_LETTERS: usize = 127;
 const LIST_BYTES: usize = MOST_READINGS * (2 + OUTPUT_LETTERS);
 
 // What the calls for a key come to: readings in so many bytes of the list, and whether the run ended; or a refusal.
-#[derive(Drop)]
+#[derive(Clone, Copy)]
 enum Gathered {
     Readings(usize, bool),
     Refused(Refusal),

@@ -1,5 +1,5 @@
 -- The sheet of a key that shows the ways to cut a word.
-use Prim.Native.Nat.{ℕ, ◌+◌, ◌*◌, ◌≤◌}
+use Prim.Native.Nat.{ℕ, ◌*◌, ◌≤◌}
 use native.Mathlib.Omega.{arith}
 use mathlib.Core.Path.{◌≡◌, refl, sym, ap, ap₂, subst, ◌∙◌}
 use mathlib.Core.Logic.{◌↔◌}
@@ -20,7 +20,7 @@ use Rattle.sheet.specs.Calls.{sheet_holds}
 use Rattle.sheet.proofs.Headlines as sheets
 use Rattle.lexicon.specs.Words.{Word}
 use Rattle.lexicon.specs.Words as words
-use Rattle.key_sheet.specs.Key.{Key, key}
+use Rattle.key_sheet.specs.Key.{Key}
 use Rattle.key_sheet.specs.Calls.{answer_for, sheet_for}
 use Rattle.key_ways.specs.Shows.{KeyShows}
 use Rattle.key_ways.proofs.Ways.{Reads, reads, reads-length, reads-letters}

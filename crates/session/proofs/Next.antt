@@ -13,7 +13,6 @@ use Rattle.table_format.specs.Line.{line_text}
 use Rattle.machine.specs.declared.Run.{Run}
 use Rattle.machine.specs.declared.Answer.{Answer}
 use Rattle.machine.specs.declared.Answer.TheVariants.{Found, Paused, Ended, Refused}
-use Rattle.machine.specs.Call.{call}
 use Rattle.machine.specs.Reading.{Outcome, outcome}
 use Rattle.session_query.specs.Query.{upper_in, lower_in}
 use Rattle.session_replies.specs.Lines.{reading_line, limit_line, refusal_line, stored_line, LineStored}

@@ -24,7 +24,7 @@ pub const STACK_FRAMES: usize = 4096;
 pub const STACK_CELLS: usize = STACK_FRAMES * machine::FRAME_WIDTH;
 
 // A line's length, and the state to go on with where another line follows.
-#[derive(Drop)]
+#[derive(Clone, Copy)]
 pub enum LineResult {
     More { length: usize, state: SessionState },
     Last { length: usize },

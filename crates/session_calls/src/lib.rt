@@ -13,7 +13,7 @@ pub const CALL_STEPS: u32 = 1000;
 pub const MOST_CALLS: u32 = 65536;
 
 // What calls for a reading come to: a reading of so many letters with the calls left, the end, a refusal, or no call left.
-#[derive(Drop)]
+#[derive(Clone, Copy)]
 pub enum CallResult {
     Reading { length: u32, run: Run, calls: u32 },
     Ended,

@@ -88,6 +88,10 @@ opened-by : (input : List ℕ) → length input ≤ most_input → opened input 
 unfolding opened
 opened-by input h = ap (λ (b : Bool). cond b (unopened (Input CountLimit)) (opened_table (parsed (table_text input)) (lines_of (query_text input)))) (le-ltb most_input (length input) h)
 
+-- a table that is turned down turns the input down, whatever the query
+pub opened_turned_down : (input : List ℕ) (c : InputCause) → length input ≤ most_input → parsed (table_text input) ≡ turned_down c → opened input ≡ unopened (Input c)
+opened_turned_down input c h e = opened-by input h ∙ ap (λ (p : Parsed). opened_table p (lines_of (query_text input))) e
+
 -- a table that is read has no more cells than the largest
 pub cells-most : (text : List ℕ) (t : Table) → parsed text ≡ accepted t → length (cells_of t) ≤ most_cells
 cells-most text t e =

@@ -21,14 +21,14 @@ pub const MOST_INPUT: usize = 65536;
 const CEILING: u32 = machine::MOST_CEILING;
 
 // What an opening answers: the state to begin with, or a refusal.
-#[derive(Drop)]
+#[derive(Clone, Copy)]
 pub enum Opening {
     Ready(SessionState),
     Refused(Refusal),
 }
 
 // Where a session stands between two lines: its run, the readings told and the calls left.
-#[derive(Drop)]
+#[derive(Clone, Copy)]
 pub struct SessionState {
     pub run: Run,
     pub count: u16,

@@ -11,14 +11,14 @@ use refusal::InputCause;
 pub const QUERY_BYTES: usize = 514;
 
 // What a text asks: nothing, for a cause, or a query.
-#[derive(Drop)]
+#[derive(Clone, Copy)]
 pub enum Asking {
     Fault(InputCause),
     Query,
 }
 
 // What a text asks, with the query's bytes from the front of an array that holds every query; the others are 0.
-#[derive(Drop)]
+#[derive(Clone, Copy)]
 pub struct Question {
     pub asking: Asking,
     pub bytes: [u8; QUERY_BYTES],
