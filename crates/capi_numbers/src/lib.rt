@@ -24,7 +24,7 @@ pub const REFUSED: u32 = 4;
 // An answer in numbers. Kind: 0 done, 1 found, 2 paused, 3 ended, 4 refused. Number: document 01's of the refusal, else 0.
 // A field that has no meaning for an answer is 0.
 #[repr(C)]
-#[derive(Drop)]
+#[derive(Clone, Copy)]
 pub struct Reply {
     pub kind: u32,
     pub number: u32,
