@@ -9,7 +9,7 @@ use machine::{Called, FRAME_WIDTH, Run};
 const LENT_CELLS: usize = (machine::MOST_FRAMES as usize + 1) * machine::FRAME_WIDTH;
 
 // Where calls left a run, and their steps in all.
-#[derive(Drop)]
+#[derive(Clone, Copy)]
 struct Tally {
     run: Run,
     steps: u32,
@@ -27,16 +27,15 @@ fn letter(n: u32) -> u8 {
 fn word(list: &[u32], at: usize, letters: &mut [u8]) -> usize
     ensures { result ≤ 80 }
 {
-    let mut i = 0;
-    while i < letters.len() {
+    for i in 0..letters.len() {
         letters[i] = letter(numbers::at(list, at, i + 1));
-        i += 1;
     }
     numbers::amount(list, at, 0, 80)
 }
 
 // A call, told.
 fn made(
+    rt: &impl Print,
     sign: u8,
     run: Run,
     table: &[u16],
@@ -48,12 +47,13 @@ fn made(
 ) -> Called {
     let called = engine_advance::advance(table, upper, lower, run, stack, allowance, output);
     let answer = called.answer;
-    answers::tell(sign, answer, output);
+    answers::tell(rt, sign, answer, output);
     called
 }
 
 // The same with an allowance, so many frames of the stack and an output of so many letters, which are in the list from a place on.
 fn call(
+    rt: &impl Print,
     sign: u8,
     list: &[u32],
     at: usize,
@@ -68,6 +68,7 @@ fn call(
     let room = numbers::amount(list, at, 2, 100);
     let mut output = [answers::LETTER_MARK; 100];
     made(
+        rt,
         sign,
         run,
         table,
@@ -81,6 +82,7 @@ fn call(
 
 // Calls one after the other, as long as the list has frames for one.
 fn calls(
+    rt: &impl Print,
     sign: u8,
     list: &[u32],
     from: usize,
@@ -93,30 +95,27 @@ fn calls(
     let mut run = first;
     let mut steps: u32 = 0;
     let mut k = from;
-    let mut left: u32 = if sign == b'!' { 1 } else { 100 };
-    while left > 0 {
+    let most: u32 = if sign == b'!' { 1 } else { 100 };
+    for _ in 0..most {
         if numbers::at(list, k, 1) == numbers::NONE {
             break;
         }
-        let called = call(sign, list, k, run, table, upper, lower, stack);
+        let called = call(rt, sign, list, k, run, table, upper, lower, stack);
         run = called.run;
         let answer = called.answer;
         let told = answers::counted(answer);
         steps = numbers::plus(steps, told.steps);
         k = numbers::skip(k, 3);
-        left -= 1;
     }
     Tally { run, steps }
 }
 
 // Whether a stack holds the numbers of a list from a place on.
 fn is_filled(stack: &[u32], list: &[u32], from: usize) -> bool {
-    let mut i = 0;
-    while i < stack.len() {
+    for i in 0..stack.len() {
         if stack[i] != numbers::at(list, from, i) {
             return false;
         }
-        i += 1;
     }
     true
 }
@@ -139,13 +138,21 @@ fn is_kept(first: Run, last: Run, stack: &[u32], list: &[u32], from: usize) -> b
 }
 
 // The end of a case: its steps in all; of one call that made no step, whether it kept what it was lent.
-fn finish(sign: u8, list: &[u32], from: usize, first: Run, last: Tally, stack: &[u32]) {
+fn finish(
+    rt: &impl Print,
+    sign: u8,
+    list: &[u32],
+    from: usize,
+    first: Run,
+    last: Tally,
+    stack: &[u32],
+) {
     if sign != b'!' {
-        show::number(b" ", last.steps as u64);
-        show::say(b" steps");
+        show::number(rt, b" ", last.steps as u64);
+        show::say(rt, b" steps");
     } else if last.steps == 0 {
         let run = last.run;
-        show::touched(is_kept(first, run, stack, list, from));
+        show::touched(rt, is_kept(first, run, stack, list, from));
     }
 }
 
@@ -164,6 +171,7 @@ fn begun(sign: u8, list: &[u32], rest: usize, first: Run) -> Run {
 
 // The calls after a start, on a stack that begins with the numbers of the line from a place on.
 fn follow(
+    rt: &impl Print,
     sign: u8,
     line: &[u8],
     list: &[u32],
@@ -176,12 +184,13 @@ fn follow(
     let from = numbers::skip(rest, 5);
     let mut stack = [numbers::NONE; LENT_CELLS];
     numbers::read(line, from, &mut stack);
-    let last = calls(sign, list, rest, first, table, upper, lower, &mut stack);
-    finish(sign, list, from, first, last, &stack);
+    let last = calls(rt, sign, list, rest, first, table, upper, lower, &mut stack);
+    finish(rt, sign, list, from, first, last, &stack);
 }
 
 // A start, which is told, or the calls after it.
 fn search(
+    rt: &impl Print,
     sign: u8,
     line: &[u8],
     list: &[u32],
@@ -193,22 +202,23 @@ fn search(
     let task = numbers::at(list, 1, 0);
     let begin = engine_start::start(table, task, upper, lower, machine::MOST_CEILING);
     if sign == b'?' {
-        answers::started(begin);
+        answers::started(rt, begin);
     } else {
         let run = begin.run;
         let first = begun(sign, list, rest, run);
-        follow(sign, line, list, rest, first, table, upper, lower);
+        follow(rt, sign, line, list, rest, first, table, upper, lower);
     }
 }
 
 // CELLS TASK, UPPER, LOWER: the query of a case, on so many cells of the table.
-pub fn query(sign: u8, line: &[u8], list: &[u32], cells: &[u16]) {
+pub fn query(rt: &impl Print, sign: u8, line: &[u8], list: &[u32], cells: &[u16]) {
     let size = numbers::amount(list, 0, 0, cells.len());
     let mut upper = [0u8; 80];
     let up = word(list, 2, &mut upper);
     let mut lower = [0u8; 80];
     let low = word(list, 3 + up, &mut lower);
     search(
+        rt,
         sign,
         line,
         list,

@@ -20,16 +20,14 @@ fn plain(c: u8) -> u8 {
 
 // Replaces each sign of a script: a slash stands for a line feed of a table's text, and so on.
 pub fn make_plain(text: &mut [u8]) {
-    let mut i = 0;
-    while i < text.len() {
-        text[i] = plain(text[i]);
-        i += 1;
+    for c in text.iter_mut() {
+        *c = plain(*c);
     }
 }
 
 // Where the reading of numbers stands: the next sign's place, the value of the digits just read and whether there are any; and of the
 // group, where it begins, how often it is read and how often it was.
-#[derive(Drop)]
+#[derive(Clone, Copy)]
 struct Scan {
     at: usize,
     value: u32,
@@ -139,15 +137,13 @@ fn put(list: &mut [u32], from: usize, count: usize, s: Scan, c: u8) -> usize {
 pub fn read(text: &[u8], from: usize, list: &mut [u32]) {
     let mut scan = grouped(0, 0, 0);
     let mut count = 0;
-    let mut left: u32 = 100000;
-    while left > 0 {
+    for _ in 0..100000 {
         let c = byte(text, scan.at);
         count = put(list, from, count, scan, c);
         if c == b'|' {
             return;
         }
         scan = step(scan, c);
-        left -= 1;
     }
 }
 

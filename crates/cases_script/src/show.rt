@@ -1,56 +1,53 @@
-// What a line of the output is made of. What follows the name begins with a blank or a comma.
-pub fn say(text: &[u8]) {
-    io::write_all(1, text);
+// What a line of the output is made of. What follows the name begins with a blank or a comma. A write that fails is passed over.
+
+pub fn say(rt: &impl Print, text: &[u8]) {
+    let _ = rt.write_all(text);
 }
 
-pub fn number(before: &[u8], n: u64) {
-    say(before);
-    io::print_decimal(1, n);
+pub fn number(rt: &impl Print, before: &[u8], n: u64) {
+    say(rt, before);
+    let _ = rt.print(n);
 }
 
 // A call that left the rest of what it was lent as it was, or did not.
-pub fn touched(kept: bool) {
+pub fn touched(rt: &impl Print, kept: bool) {
     if !kept {
-        say(b", touched");
+        say(rt, b", touched");
     }
 }
 
-pub fn refused(refusal: refusal::Refusal) {
-    number(b" refused ", refusal::number(refusal) as u64);
+pub fn refused(rt: &impl Print, refusal: refusal::Refusal) {
+    number(rt, b" refused ", refusal::number(refusal) as u64);
 }
 
-fn cell(x: u16) {
-    number(b" ", x as u64);
+fn cell(rt: &impl Print, x: u16) {
+    number(rt, b" ", x as u64);
 }
 
 // The cells from one place of a list to another.
-pub fn cells(list: &[u16], from: usize, to: usize) {
-    let mut at = from;
-    while at < to {
+pub fn cells(rt: &impl Print, list: &[u16], from: usize, to: usize) {
+    for at in from..to {
         if at < list.len() {
-            cell(list[at]);
+            cell(rt, list[at]);
         }
-        at += 1;
     }
 }
 
 // A letter as its sign, with a for 1 and a plus after z, or as two digits after a blank.
-fn letter(x: u8, plain: bool) {
+fn letter(rt: &impl Print, x: u8, plain: bool) {
     if plain {
         let sign = if x <= 26 { 96 + x } else { b'+' };
-        say(&[sign]);
+        say(rt, &[sign]);
     } else {
         let digits = hexadecimal::encode(x);
-        say(&[b' ', digits.high, digits.low]);
+        say(rt, &[b' ', digits.high, digits.low]);
     }
 }
 
 // The letters of a reading.
-pub fn letters(list: &[u8], plain: bool) {
-    let mut i = 0;
-    while i < list.len() {
-        letter(list[i], plain);
-        i += 1;
+pub fn letters(rt: &impl Print, list: &[u8], plain: bool) {
+    for x in list {
+        letter(rt, *x, plain);
     }
 }
 
@@ -63,5 +60,5 @@ pub fn is_marked(text: &[u8], from: usize, mark: u8) -> bool {
     if text[from] != mark {
         return false;
     }
-    check::same(&text[from + 1..], &text[from..end - 1])
+    text[from + 1..] == text[from..end - 1]
 }

@@ -1,7 +1,6 @@
 // The cases that call the crate `table`, on the cells of one table.
 #![tactic(auto)]
 
-use bytes::scan;
 use cases_script::{numbers, show};
 use destination::Answer;
 use table::{reader, writer};
@@ -23,13 +22,13 @@ fn done(answer: Answer) -> usize {
 }
 
 // How many cells or bytes were written, or the refusal's number.
-fn tell(answer: Answer, unit: &[u8]) {
+fn tell(rt: &impl Print, answer: Answer, unit: &[u8]) {
     match answer {
         Answer::Done(n) => {
-            show::number(b" ", n as u64);
-            show::say(unit);
+            show::number(rt, b" ", n as u64);
+            show::say(rt, unit);
         }
-        Answer::Refused(refusal) => show::refused(refusal),
+        Answer::Refused(refusal) => show::refused(rt, refusal),
     }
 }
 
@@ -39,21 +38,17 @@ fn cell(n: u32) -> u16 {
 
 // Fills the cells with the numbers of a list from a place on, and with the mark after its end.
 fn fill(cells: &mut [u16], list: &[u32], from: usize) {
-    let mut i = 0;
-    while i < cells.len() {
+    for i in 0..cells.len() {
         cells[i] = cell(numbers::at(list, from, i));
-        i += 1;
     }
 }
 
 // Whether the cells hold the mark from a place on.
 fn is_marked(cells: &[u16], from: usize) -> bool {
-    let mut i = from;
-    while i < cells.len() {
+    for i in from..cells.len() {
         if cells[i] != CELL_MARK {
             return false;
         }
-        i += 1;
     }
     true
 }
@@ -63,38 +58,37 @@ fn has_text(cells: &[u16], text: &[u8]) -> bool {
     let mut again = [BYTE_MARK; TEXT_BYTES];
     let count = done(writer::write(cells, &mut again));
     if count <= TEXT_BYTES {
-        return check::same(&again[0..count], text);
+        return &again[0..count] == text;
     }
     false
 }
 
 // A text, read into cells that are filled with the mark.
-fn read_into(text: &[u8], cells: &mut [u16]) {
+fn read_into(rt: &impl Print, text: &[u8], cells: &mut [u16]) {
     let answer = reader::read(text, cells);
-    tell(answer, b" cells");
+    tell(rt, answer, b" cells");
     let count = done(answer);
     if count > 0 {
         if has_text(cells, text) {
-            show::say(b", same text");
+            show::say(rt, b", same text");
         } else {
-            show::say(b", other text");
+            show::say(rt, b", other text");
         }
     }
-    show::touched(is_marked(cells, count));
+    show::touched(rt, is_marked(cells, count));
 }
 
 // `<` CELLS | TEXT: reads the text into so many cells.
-fn read(line: &[u8], list: &[u32], cells: &mut [u16]) {
+fn read(rt: &impl Print, line: &[u8], list: &[u32], cells: &mut [u16]) {
     fill(cells, list, 1);
-    let bar = scan::find(line, 0, line.len(), b'|');
-    if bar < line.len() {
+    if let Some(bar) = line.iter().position(|c| *c == b'|') {
         let size = numbers::amount(list, 0, 0, cells.len());
-        read_into(&line[bar + 1..], &mut cells[0..size]);
+        read_into(rt, &line[bar + 1..], &mut cells[0..size]);
     }
 }
 
 // `"`: the table's own text is read, and its last line told.
-fn again(list: &[u32], cells: &mut [u16]) {
+fn again(rt: &impl Print, list: &[u32], cells: &mut [u16]) {
     let mut text = [BYTE_MARK; TEXT_BYTES];
     let size = done(writer::write(cells, &mut text));
     fill(cells, list, 0);
@@ -102,40 +96,40 @@ fn again(list: &[u32], cells: &mut [u16]) {
         return;
     }
     if size <= TEXT_BYTES {
-        read_into(&text[0..size], cells);
-        show::say(b", ");
-        show::say(&text[size - 7..size - 1]);
+        read_into(rt, &text[0..size], cells);
+        show::say(rt, b", ");
+        show::say(rt, &text[size - 7..size - 1]);
     }
 }
 
-fn write_into(cells: &[u16], text: &mut [u8]) {
+fn write_into(rt: &impl Print, cells: &[u16], text: &mut [u8]) {
     let checked = table_check::check(cells);
     if checked.ok {
-        show::say(b" check passes, write");
+        show::say(rt, b" check passes, write");
     } else {
-        show::say(b" check fails, write");
+        show::say(rt, b" check fails, write");
     }
     let answer = writer::write(cells, text);
-    tell(answer, b" bytes");
-    show::touched(show::is_marked(text, done(answer), BYTE_MARK));
+    tell(rt, answer, b" bytes");
+    show::touched(rt, show::is_marked(text, done(answer), BYTE_MARK));
 }
 
 // `>` CELLS BYTES, TABLE: checks the first cells of a table, and writes them into so many bytes.
-fn load(list: &[u32], cells: &mut [u16]) {
+fn load(rt: &impl Print, list: &[u32], cells: &mut [u16]) {
     fill(cells, list, 2);
     let size = numbers::amount(list, 0, 0, cells.len());
     let room = numbers::amount(list, 0, 1, TEXT_BYTES);
     let mut text = [BYTE_MARK; TEXT_BYTES];
-    write_into(&cells[0..size], &mut text[0..room]);
+    write_into(rt, &cells[0..size], &mut text[0..room]);
 }
 
 // `@` CELLS FROM TO: the index of first arcs that the check of so many cells tells, from one state to another.
-fn index(list: &[u32], cells: &[u16]) {
+fn index(rt: &impl Print, list: &[u32], cells: &[u16]) {
     let size = numbers::amount(list, 0, 0, cells.len());
     let checked = table_check::check(&cells[0..size]);
     let first = checked.first;
     let from = numbers::amount(list, 0, 1, 257);
-    show::cells(&first, from, numbers::amount(list, 0, 2, 257));
+    show::cells(rt, &first, from, numbers::amount(list, 0, 2, 257));
 }
 
 // Whether a sign is that of a case here.
@@ -148,12 +142,12 @@ pub fn has(sign: u8) -> bool {
 
 // What a case does by its sign, with its line from the colon on and the numbers of it, on the cells of the table. `=` COUNT tells the
 // first cells.
-pub fn act(sign: u8, line: &[u8], list: &[u32], cells: &mut [u16]) {
+pub fn act(rt: &impl Print, sign: u8, line: &[u8], list: &[u32], cells: &mut [u16]) {
     match sign {
-        b'<' => read(line, list, cells),
-        b'>' => load(list, cells),
-        b'"' => again(list, cells),
-        b'@' => index(list, cells),
-        _ => show::cells(cells, 0, numbers::amount(list, 0, 0, cells.len())),
+        b'<' => read(rt, line, list, cells),
+        b'>' => load(rt, list, cells),
+        b'"' => again(rt, list, cells),
+        b'@' => index(rt, list, cells),
+        _ => show::cells(rt, cells, 0, numbers::amount(list, 0, 0, cells.len())),
     }
 }

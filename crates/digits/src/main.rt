@@ -1,49 +1,43 @@
 // Puts each of the 256 bytes to `hexadecimal::value`, and prints a line for each that can be held against an ASCII chart: the byte's number, its
-// character where it has one that shows, and the value of the digit, or a dash where it is none.
+// character where it has one that shows, and the value of the digit, or a dash where it is none. A write that fails is passed over.
 #![tactic(auto)]
 
 use hexadecimal::Decoded;
 
-fn say(text: &[u8]) {
-    io::write_all(1, text);
+fn say(rt: &impl Print, text: &[u8]) {
+    let _ = rt.write_all(text);
 }
 
 // A number in three columns.
-fn number(n: u8) {
-    if n < 100 {
-        say(b" ");
-    }
-    if n < 10 {
-        say(b" ");
-    }
-    io::print_decimal(1, n as u64);
+fn number(rt: &impl Print, n: u8) {
+    let _ = print!(rt; "{n:3}");
 }
 
 // The character of a byte in five columns, blank where none shows.
-fn character(c: u8) {
+fn character(rt: &impl Print, c: u8) {
     match c {
-        32..=126 => say(&[b' ', b'\'', c, b'\'', b' ']),
-        _ => say(b"     "),
+        32..=126 => say(rt, &[b' ', b'\'', c, b'\'', b' ']),
+        _ => say(rt, b"     "),
     }
 }
 
 // What a byte says as a digit, in three columns.
-fn value(c: u8) {
+fn value(rt: &impl Print, c: u8) {
     match hexadecimal::value(c) {
-        Decoded::Value(v) => number(v),
-        Decoded::Invalid => say(b"  -"),
+        Decoded::Value(v) => number(rt, v),
+        Decoded::Invalid => say(rt, b"  -"),
     }
 }
 
-fn line(c: u8) {
-    number(c);
-    character(c);
-    value(c);
-    say(b"\n");
+fn line(rt: &impl Print, c: u8) {
+    number(rt, c);
+    character(rt, c);
+    value(rt, c);
+    say(rt, b"\n");
 }
 
-fn main() {
-    for c in 0..256u16 {
-        line(c as u8);
+fn main(rt: HostRuntime) {
+    for c in 0..=u8::MAX {
+        line(&rt, c);
     }
 }

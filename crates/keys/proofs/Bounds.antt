@@ -1,15 +1,12 @@
 -- What is told of a text, a line, a list or a sheet is within its bytes.
-use Prim.Native.Nat.{ℕ, ◌+◌, ◌*◌, ◌≤◌}
-use native.Mathlib.Omega.{arith}
-use mathlib.Core.Path.{◌≡◌, sym, subst, ◌∙◌}
-use mathlib.Core.List.{List}
-use lib.ListN.{length, take}
-use lib.Seq.{length-take-le}
+use Rattle.std.proofs.Common.{◌≡◌, ℕ, ◌+◌, ◌*◌, ◌≤◌, List, arith, length, take, sym, subst, ◌∙◌, length-take-le}
 use Rattle.destination.specs.declared.Answer.{Answer}
 use Rattle.destination.specs.declared.Answer.TheVariants.{Done}
 use Rattle.destination.specs.Stored.{stored_answer}
 use Rattle.destination.specs.Told.{stored_told}
 use Rattle.destination.proofs.Stored.{stored-done}
+use Rattle.key_sheet.specs.Calls.{key_answer}
+use Rattle.key_sheet.proofs.Headlines.{answer-one, key-done}
 use Rattle.input.specs.declared.Got.{Got}
 use Rattle.input.specs.declared.Got.TheVariants.{Bytes}
 use Rattle.input.specs.Read.{Within}
@@ -24,8 +21,6 @@ use Rattle.wordlist.specs.declared.BadLine.{BadLine}
 use Rattle.wordlist.specs.declared.Gathered.{Gathered}
 use Rattle.wordlist.specs.declared.Gathered.TheVariants.{Words, BadWord, TooMany}
 use Rattle.wordlist.specs.Gathered.{Fate, GatheredIs}
-use Rattle.key_sheet.specs.Calls.{key_answer}
-use Rattle.key_sheet.proofs.Headlines.{answer-one, key-done}
 
 -- What was read.
 

@@ -14,6 +14,10 @@ ghost use Rattle.std.specs.Prelude.{◌≡◌, length};
 ghost use Rattle.input.specs.Read.{Within};
 
 use input::Got;
+use std::env::{Env, FillError};
+use std::fmt::Display;
+use std::rt::Files;
+use std::{fs, io};
 use table_format::MOST_CELLS;
 
 // The most bytes of the list's file, and of the exam's words.
@@ -27,64 +31,88 @@ fn text_room() -> [u8; MOST_INPUT + 1]
 }
 
 // The list's file, read into the room for it.
-fn read_file(path: &[u8], room: &mut [u8]) -> Got
+fn read_file<R: Files>(rt: &R, path: &str, room: &mut [u8]) -> Got
     ensures { Within result (length room.new) }
 {
-    let fd = os::open_read(path);
-    if fd < 0 {
-        return Got::Failed;
+    match fs::open(rt, path) {
+        Ok(mut file) => input::read_all(&mut file, room),
+        Err(error) => Got::Failed(error),
     }
-    let got = input::read_all(fd, room);
-    if let Got::Bytes(_) = got {
-        libc::close(fd);
+}
+
+// That the list cannot be read, and why.
+fn tell_unread(rt: &impl Eprint, path: &str, why: impl Display + Drop) {
+    let _ = eprintln!(rt; "keys: the list cannot be read: {path}: {why}");
+}
+
+// The words for an error of the system, without the number that stands behind them.
+fn words(text: &str) -> &str {
+    match text.split_once(" (os error ") {
+        Some((words, _)) => words,
+        None => text,
     }
-    got
+}
+
+// That the list cannot be read, in the system's words. Where there is no memory for them, their number stays.
+fn tell_failure<R: Alloc + Eprint>(rt: &R, path: &str, error: io::Error) {
+    match error.to_string(rt.alloc()) {
+        Ok(text) => tell_unread(rt, path, words(text.as_str())),
+        Err(_) => tell_unread(rt, path, error),
+    }
 }
 
 // The table of the list in a file. Whether there is one; what is wrong is told.
-fn read_list(path: &[u8], table: &mut [u16; MOST_CELLS]) -> bool {
+fn read_list(rt: &HostRuntime, path: &str, table: &mut [u16; MOST_CELLS]) -> bool {
     let mut text = text_room();
-    let got = read_file(path, &mut text);
-    let Got::Bytes(count) = got else {
-        io::write_all(2, b"keys: the list cannot be read: ");
-        os::fail(path);
-        return false;
-    };
-    list::load(path, &text[..count], table)
+    match read_file(rt, path, &mut text) {
+        Got::Bytes(count) => list::load(&rt.stderr(), path.as_bytes(), &text[..count], table),
+        Got::Failed(error) => {
+            tell_failure(rt, path, error);
+            false
+        }
+    }
 }
 
 // The keys of the words on standard input. What is wrong is told.
-fn print_all(table: &[u16; MOST_CELLS]) {
+fn print_all(rt: &HostRuntime, table: &[u16; MOST_CELLS]) {
     let mut text = text_room();
-    let got = input::read_all(0, &mut text);
+    let got = input::read_all(&mut rt.stdin(), &mut text);
     let Got::Bytes(count) = got else {
-        io::write_all(2, b"keys: standard input cannot be read\n");
+        let _ = rt.eprintln("keys: standard input cannot be read");
         return;
     };
     if MOST_INPUT < count {
-        io::write_all(2, b"keys: standard input has over 65,536 bytes\n");
+        let _ = rt.eprintln("keys: standard input has over 65,536 bytes");
         return;
     }
-    print::keys(table, &text[..count]);
+    print::keys(&rt.stdout(), &rt.stderr(), table, &text[..count]);
 }
 
-fn main() {
-    let mut path = io::buffer();
-    let length = os::arg(1, &mut path);
-    let is_whole = os::errno() == 0;
-    if os::arg_count() != 2 {
-        io::write_all(
-            2,
-            b"keys: one file is to be named, the list's: keys LIST < WORDS\n",
-        );
+// Whether the program was given so many arguments or more, its own name among them.
+fn has_argument(rt: &impl Env, at: usize) -> bool {
+    match rt.arg(at, &mut [0]) {
+        Ok(_) => true,
+        Err(FillError::TooLong) => true,
+        Err(FillError::NotPresent) => false,
+    }
+}
+
+fn main(rt: HostRuntime) {
+    if !has_argument(&rt, 1) || has_argument(&rt, 2) {
+        let _ = rt.eprintln("keys: one file is to be named, the list's: keys LIST < WORDS");
         return;
     }
-    if !is_whole {
-        io::write_all(2, b"keys: the list cannot be read: its name is too long\n");
+    let mut path = [0u8; 4096];
+    let Ok(length) = rt.arg(1, &mut path) else {
+        let _ = rt.eprintln("keys: the list cannot be read: its name is too long");
         return;
-    }
+    };
+    let Ok(path) = str::from_utf8(&path[..length]) else {
+        let _ = rt.eprintln("keys: the list cannot be read: its name is not UTF-8");
+        return;
+    };
     let mut table = [0u16; MOST_CELLS];
-    if read_list(&path[..length], &mut table) {
-        print_all(&table);
+    if read_list(&rt, path, &mut table) {
+        print_all(&rt, &table);
     }
 }

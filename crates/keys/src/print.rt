@@ -3,6 +3,7 @@ ghost use Rattle.std.specs.Prelude.{◌≡◌, ◌+◌, ◌*◌, ◌<◌, ◌≤
 ghost use Rattle.keys.specs.Printed.{sheet_lines, Few};
 
 use crate::tell;
+use crate::tell::say;
 use destination::Answer;
 use sheet_lines::LINE;
 use table_format::MOST_CELLS;
@@ -13,7 +14,7 @@ use wordlist_spelling::{Ending, WORD_LETTERS};
 pub const SHEET: usize = 2002 * LINE;
 
 // What printing a word's key comes to: so many readings, a word that is refused, or output that failed.
-#[derive(Drop)]
+#[derive(Clone, Copy)]
 pub enum Printed {
     Key(usize),
     Refused,
@@ -21,7 +22,7 @@ pub enum Printed {
 }
 
 // How many words were read, readings shown and words refused.
-#[derive(Drop)]
+#[derive(Clone, Copy)]
 pub struct Tally {
     pub words: usize,
     pub readings: usize,
@@ -59,7 +60,7 @@ fn text_room() -> [u8; 2 * SHEET]
 }
 
 // The key of a word, as it is shown, and an empty line. There is room, and no key over a list's table is refused.
-fn key(table: &[u16], word: &[u8]) -> Printed
+fn key(out: &impl Print, table: &[u16], word: &[u8]) -> Printed
     ensures { Few result }
 {
     let faces = alphabet::show::face_table();
@@ -74,32 +75,32 @@ fn key(table: &[u16], word: &[u8]) -> Printed
     let Answer::Done(bytes) = shown else {
         return Printed::Failed;
     };
-    if io::write_all(1, &text[..bytes]) && io::write_all(1, b"\n") {
+    if out.write_all(&text[..bytes]).is_ok() && out.write_all(b"\n").is_ok() {
         return Printed::Key(readings_on(lines));
     }
     Printed::Failed
 }
 
 // What is wrong with the word of a line, on standard error with the line's number, and in the place of its key.
-fn refuse(line: &[u8], number: usize) -> Printed
+fn refuse(out: &impl Print, err: &impl Print, line: &[u8], number: usize) -> Printed
     ensures { Few result }
 {
-    tell::number(2, b"keys: line ", number);
-    io::write_all(2, b": ");
-    tell::fault(2, line);
-    io::write_all(1, b"no key: ");
-    tell::fault(1, line);
-    if io::write_all(1, b"\n") {
+    tell::number(err, b"keys: line ", number);
+    say(err, b": ");
+    tell::fault(err, line);
+    say(out, b"no key: ");
+    tell::fault(out, line);
+    if out.write_all(b"\n").is_ok() {
         return Printed::Refused;
     }
     Printed::Failed
 }
 
 // The word of a line as it is given, and its key, or what is wrong with it.
-fn line(table: &[u16], line: &[u8], number: usize) -> Printed
+fn line(out: &impl Print, err: &impl Print, table: &[u16], line: &[u8], number: usize) -> Printed
     ensures { Few result }
 {
-    if !io::write_all(1, line) || !io::write_all(1, b"\n") {
+    if out.write_all(line).is_err() || out.write_all(b"\n").is_err() {
         return Printed::Failed;
     }
     let mut word = [0u8; WORD_LETTERS];
@@ -107,9 +108,9 @@ fn line(table: &[u16], line: &[u8], number: usize) -> Printed
     let ending = spelling.ending;
     let letters = spelling.letters;
     if let Ending::Whole = ending {
-        return key(table, &word[..letters]);
+        return key(out, table, &word[..letters]);
     }
-    refuse(line, number)
+    refuse(out, err, line, number)
 }
 
 // A tally with one word more.
@@ -140,15 +141,15 @@ fn counted(tally: Tally, printed: Printed) -> Tally
 }
 
 // The last line on standard error.
-fn sum_up(tally: Tally) {
-    tell::number(2, b"keys: words ", tally.words);
-    tell::number(2, b", readings ", tally.readings);
-    tell::number(2, b", refused ", tally.refused);
-    io::write_all(2, b"\n");
+fn sum_up(err: &impl Print, tally: Tally) {
+    tell::number(err, b"keys: words ", tally.words);
+    tell::number(err, b", readings ", tally.readings);
+    tell::number(err, b", refused ", tally.refused);
+    say(err, b"\n");
 }
 
 // The keys of a text's words, and the last line on standard error.
-pub fn keys(table: &[u16; MOST_CELLS], text: &[u8])
+pub fn keys(out: &impl Print, err: &impl Print, table: &[u16; MOST_CELLS], text: &[u8])
     requires { length text.now ≤ 65536 }
 {
     let mut tally = Tally {
@@ -170,14 +171,14 @@ pub fn keys(table: &[u16; MOST_CELLS], text: &[u8])
             break;
         };
         number += passed;
-        let printed = line(table, &text[from..end], number);
+        let printed = line(out, err, table, &text[from..end], number);
         if let Printed::Failed = printed {
-            io::write_all(2, b"keys: standard output cannot be written\n");
+            say(err, b"keys: standard output cannot be written\n");
             return;
         }
         tally = counted(tally, printed);
         number += 1;
         at = next;
     }
-    sum_up(tally);
+    sum_up(err, tally);
 }

@@ -15,16 +15,17 @@ use session_replies::{LINE_CHARACTERS, OUTPUT_LETTERS};
 use table_format::MOST_CELLS;
 
 // Whether a line was written.
-fn write_line(line: &[u8]) -> bool {
-    if io::write_all(1, line) {
+fn write_line<R: Print + Eprint>(rt: &R, line: &[u8]) -> bool {
+    if rt.write_all(line).is_ok() {
         return true;
     }
-    io::write_all(2, b"readings: standard output cannot be written\n");
+    let _ = rt.eprintln("readings: standard output cannot be written");
     false
 }
 
 // The lines of a session that is open, to the last.
-fn write_lines(
+fn write_lines<R: Print + Eprint>(
+    rt: &R,
     table: &[u16; MOST_CELLS],
     query: &[u8; session_query::QUERY_BYTES],
     first: SessionState,
@@ -42,22 +43,22 @@ fn write_lines(
                 length,
                 state: next,
             } => {
-                on = write_line(&text[..length]);
+                on = write_line(rt, &text[..length]);
                 state = next;
             }
             LineResult::Last { length } => {
-                write_line(&text[..length]);
+                write_line(rt, &text[..length]);
                 return;
             }
         }
     }
 }
 
-fn main() {
+fn main(rt: HostRuntime) {
     let mut text = [0u8; session_opening::MOST_INPUT + 1];
-    let got = input::read_all(0, &mut text);
+    let got = input::read_all(&mut rt.stdin(), &mut text);
     let Got::Bytes(count) = got else {
-        io::write_all(2, b"readings: standard input cannot be read\n");
+        let _ = rt.eprintln("readings: standard input cannot be read");
         return;
     };
     let mut table = [0u16; MOST_CELLS];
@@ -67,12 +68,20 @@ fn main() {
     match opening {
         Opening::Refused(refusal) => {
             let length = session::refused_line(refusal, &mut line);
-            write_line(&line[..length]);
+            write_line(&rt, &line[..length]);
         }
         Opening::Ready(state) => {
             let mut stack = session::first_stack();
             let mut output = session::first_output();
-            write_lines(&table, &query, state, &mut stack, &mut output, &mut line);
+            write_lines(
+                &rt,
+                &table,
+                &query,
+                state,
+                &mut stack,
+                &mut output,
+                &mut line,
+            );
         }
     }
 }

@@ -12,7 +12,7 @@ use sheet_lines::LINE;
 const SHEET: usize = 5 * LINE;
 
 // How many texts are taken for each.
-#[derive(Drop)]
+#[derive(Clone, Copy)]
 struct Tally {
     readings: u32,
     end: u32,
@@ -29,21 +29,21 @@ fn sheet_of(ended: bool) -> [u8; SHEET] {
     sheet
 }
 
-fn say(text: &[u8]) {
-    io::write_all(1, text);
+fn say(rt: &impl Print, text: &[u8]) {
+    let _ = rt.write_all(text);
 }
 
-fn number(before: &[u8], n: u64) {
-    say(before);
-    io::print_decimal(1, n);
+fn number(rt: &impl Print, before: &[u8], n: u64) {
+    say(rt, before);
+    let _ = rt.print(n);
 }
 
-fn tell(texts: &[u8], t: Tally) {
-    say(texts);
-    number(b": READINGS ", t.readings as u64);
-    number(b", END ", t.end as u64);
-    number(b", MORE ", t.more as u64);
-    say(b"\n");
+fn tell(rt: &impl Print, texts: &[u8], t: Tally) {
+    say(rt, texts);
+    number(rt, b": READINGS ", t.readings as u64);
+    number(rt, b", END ", t.end as u64);
+    number(rt, b", MORE ", t.more as u64);
+    say(rt, b"\n");
 }
 
 fn none() -> Tally {
@@ -56,7 +56,7 @@ fn none() -> Tally {
 
 // No count comes near the largest number, so none wraps.
 fn one_more(count: u32) -> u32 {
-    std::num::wrapping_add_u32(count, 1)
+    count.wrapping_add(1)
 }
 
 // A tally with one text more.
@@ -95,43 +95,42 @@ fn any_set(sheet: [u8; SHEET], from: usize, to: usize) -> Tally {
 }
 
 // Says of a text that closes with a word how many characters it has.
-fn tell_word(text: &[u8]) {
+fn tell_word(rt: &impl Print, text: &[u8]) {
     match last_word(text) {
-        LastWord::End => number(b"END after ", text.len() as u64),
-        LastWord::More => number(b"MORE after ", text.len() as u64),
+        LastWord::End => number(rt, b"END after ", text.len() as u64),
+        LastWord::More => number(rt, b"MORE after ", text.len() as u64),
         LastWord::Neither => return,
     }
-    say(b" characters\n");
+    say(rt, b" characters\n");
 }
 
-fn told(t: Tally, text: &[u8]) -> Tally {
-    tell_word(text);
+fn told(rt: &impl Print, t: Tally, text: &[u8]) -> Tally {
+    tell_word(rt, text);
     counted(t, text)
 }
 
 // Each beginning, from no characters to all.
-fn beginnings(sheet: &[u8]) -> Tally {
+fn beginnings(rt: &impl Print, sheet: &[u8]) -> Tally {
     let mut t = none();
-    let mut end = 0;
-    while end <= sheet.len() {
-        t = told(t, &sheet[..end]);
-        end += 1;
+    for end in 0..=sheet.len() {
+        t = told(rt, t, &sheet[..end]);
     }
     t
 }
 
-fn examine(sheet: [u8; SHEET]) {
-    say(&sheet);
-    tell(b"as it is", counted(none(), &sheet));
-    tell(b"opening line, a byte set", any_set(sheet, 0, LINE));
+fn examine(rt: &impl Print, sheet: [u8; SHEET]) {
+    say(rt, &sheet);
+    tell(rt, b"as it is", counted(none(), &sheet));
+    tell(rt, b"opening line, a byte set", any_set(sheet, 0, LINE));
     tell(
+        rt,
         b"last line, a byte set",
         any_set(sheet, SHEET - LINE, SHEET),
     );
-    tell(b"beginnings", beginnings(&sheet));
+    tell(rt, b"beginnings", beginnings(rt, &sheet));
 }
 
-fn main() {
-    examine(sheet_of(true));
-    examine(sheet_of(false));
+fn main(rt: HostRuntime) {
+    examine(&rt, sheet_of(true));
+    examine(&rt, sheet_of(false));
 }

@@ -1,0 +1,2 @@
+-- Laws on known bytes behind the functions' proofs.
+mod Turns

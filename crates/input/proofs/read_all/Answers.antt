@@ -1,0 +1,8 @@
+-- A turn's bytes are put behind those before it.
+use Rattle.std.proofs.Common.{rules}
+use Rattle.input.proofs.Turns.{Consumes-more}
+use Rattle.input.proofs.read_all.Goals as goal
+
+pub loop-at-preserved : goal.loop-at-preserved
+loop-at-preserved g c =
+    (search rules, Consumes-more _ _ _ _ _ _ _ _ c.loop-at.invariant.0 c.in-Bytes.ensures.within c.loop-at.invariant.1 c.in-Bytes.ensures.bytes.0)
