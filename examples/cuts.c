@@ -2,7 +2,7 @@
  *
  * From the repository's root:
  *
- *     rt staticlib capi
+ *     scripts/library.sh
  *     gcc -Iinclude examples/cuts.c target/staticlib/libcapi.a -o target/cuts && target/cuts
  *
  * It prints what examples/cuts.out holds.

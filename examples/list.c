@@ -2,7 +2,7 @@
  *
  * From the repository's root:
  *
- *     rt staticlib capi
+ *     scripts/library.sh
  *     gcc -Iinclude examples/list.c target/staticlib/libcapi.a -o target/list && target/list
  */
 #include "readings.h"

@@ -2,7 +2,7 @@
  *
  * From the repository's root:
  *
- *     rt staticlib capi
+ *     scripts/library.sh
  *     gcc -Iinclude examples/sheet.c target/staticlib/libcapi.a -o target/sheet && target/sheet
  *
  * It prints what examples/sheet.out holds.

@@ -10,7 +10,7 @@ fn main() {
     println!("cargo:rerun-if-changed={}", archive.display());
     if !archive.exists() {
         eprintln!(
-            "target/staticlib/libcapi.a is missing: make it with `rt staticlib capi` at the root of the repository"
+            "target/staticlib/libcapi.a is missing: make it with `scripts/library.sh` at the root of the repository"
         );
         exit(1);
     }

@@ -10,9 +10,8 @@ crates() {
         {
             sub(/#.*/, "")
             colon = index($0, ":")
-            name = substr($0, 1, colon - 1)
-            gsub(/[ \t]/, "", name)
-            if (colon) needs[name] = substr($0, colon + 1)
+            split(substr($0, 1, colon - 1), words, " ") # the name, and what kind of library it is
+            if (colon) needs[words[1]] = substr($0, colon + 1)
         }
         END {
             met[1] = program
@@ -40,9 +39,9 @@ follow() {
     while IFS= read -r line; do
         case $line in
         'ended '*) status=${line#ended } && continue ;;
-        'rt: '*' proved ('*)
-            count=$((count + 1)) crate=${line#rt: }
-            told="$name: crate $count of $((total)): ${crate%% *}"
+        'crate '*': modules '*)
+            count=$((count + 1)) crate=${line#crate }
+            told="$name: crate $count of $((total)): ${crate%%:*}"
             if [ -t 2 ]; then printf '\r%-60s' "$told" >&2; else echo "$told" >&2; fi
             ;;
         esac
@@ -52,18 +51,18 @@ follow() {
     return "$status"
 }
 
-# Proves and builds the program. It counts as made when the check began, so that an edit during the check is seen the next time.
+# Proves and builds the program, which `rt run` does, and then runs it on nothing. It counts as made when the check began, so that an edit
+# during the check is seen the next time.
 build() {
     command -v rt >/dev/null || { echo "$name: the command rt of the Rattle toolchain is not found; the program is proved and built with it" >&2; return 2; }
     echo "$name: $1, so it is proved and built now; this can take some minutes" >&2
-    cd "$here" && mkdir -p target && touch "target/$name.began" || return 2
-    if ! { rt check "$name" 2>&1 </dev/null; echo "ended $?"; } | follow; then
-        echo "$name: the program was not proved, not built, or its run was not as it must be; $log has what the prover said" >&2
+    cd "$here" && mkdir -p target/bin && touch "target/$name.began" || return 2
+    if ! { (cd "crates/$name" && rt run 2>&1 >/dev/null </dev/null); echo "ended $?"; } | follow; then
+        echo "$name: the program was not proved or not built, or its run failed; $log has what the prover said" >&2
         [ ! -e "$program" ] || touch -t 200001010000 "$program" # older than its sources, so that the next use tries again
         return 2
     fi
-    [ -x "$program" ] || { echo "$name: nothing has changed and the program is missing; remove target/ and try again" >&2; return 2; }
-    touch -r "target/$name.began" "$program"
+    cp "crates/$name/out/$name" "$program.new" && touch -r "target/$name.began" "$program.new" && mv -f "$program.new" "$program"
 }
 
 # Leaves the program as its sources have it, or ends with status 2.

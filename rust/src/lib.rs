@@ -1,7 +1,7 @@
 //! Every reading of a word over a finite transducer, one at a time: one for each accepting path and none left out, in the order of a
 //! depth-first walk that takes initial states and arcs as they are listed.
 //!
-//! The engine is proved to meet its contracts and is called through its C interface, the archive that `rt staticlib capi` makes.
+//! The engine is proved to meet its contracts and is called through its C interface, the archive that `scripts/library.sh` makes.
 //!
 //! ```
 //! use readings::{Answer, Refusal, Table};

@@ -1,5 +1,5 @@
 //! The program `keys` against one that is written from its text alone, and what a user of the script `./keys` sees. The script must find
-//! its program newer than the sources, as `rt check keys` leaves it; or else it proves and builds it first.
+//! its program newer than the sources, as `./keys` leaves it; or else it proves and builds it first.
 mod common;
 
 use common::{built, from_root, run};

@@ -17,7 +17,7 @@ pub fn built(name: &str) -> Command {
     let path = from_root("target/bin").join(name);
     assert!(
         path.exists(),
-        "target/bin/{name} is missing: make it with `rt check {name}` at the root of the repository"
+        "target/bin/{name} is missing: make it with `./{name}` at the root of the repository"
     );
     Command::new(path)
 }
