@@ -1,14 +1,13 @@
 -- The values of a function in a row, by which a rule is computed at each number below one; the first place of a number in a list.
 use Prim.Native.Nat.{ℕ, zero, suc, ◌+◌, ◌-◌, ◌<◌, ◌≤◌}
 use native.Mathlib.Omega.{arith}
-use native.Mathlib.Numerals.{add-one}
 use mathlib.Core.Path.{◌≡◌, refl, sym, ap, subst, ◌∙◌}
 use mathlib.Core.Bool.{Bool, true, false, cond}
 use mathlib.Core.List.{List, [], ◌∷◌}
 use lib.Dec.{eqb}
-use lib.ListN.{length, get_or, drop, drop_of_length-le}
-use lib.Seq.{drop-cons}
+use lib.ListN.{length, get_or}
 use borrow.Author.Tests.{eqb-true, eq-eqb, ne_eqb}
+use Rattle.std.specs.Prelude.{Option, Some, None, MatchOption}
 use Rattle.alphabet.specs.Letters.{place_in}
 
 -- the values at the numbers below one
@@ -41,26 +40,25 @@ module _ (x : ℕ) where
       go true e k more = eqb-true _ _ e
       go false e k more = more (omega arith)
 
-  -- along the places of a list: none of those before k has the number
-  abbrev pub Past : List ℕ → ℕ → Type 0
-  Past l k = (k ≤ length l) × (place_in l x ≡ k + place_in (drop k l) x)
+  -- the first place of a number: all before differ
+  pub place_first : (l : List ℕ) (k : ℕ) → k < length l → get_or l k 0 ≡ x → ((i : ℕ) → i < k → get_or l i 0 ≡ x → ⊥) → k ≡ place_in l x
+  place_first [] k h e n = absurd (omega arith)
+  place_first (y ∷ ys) zero h e n = sym (ap (λ (b : Bool). cond b 0 (suc (place_in ys x))) (eq-eqb _ _ e))
+  place_first (y ∷ ys) (suc k) h e n =
+      ap suc (place_first ys k (omega arith) e (λ i below. n (suc i) (omega arith)))
+      ∙ sym (ap (λ (b : Bool). cond b 0 (suc (place_in ys x))) (ne_eqb _ _ (n 0 (omega arith))))
 
-  module _ (l : List ℕ) (k : ℕ) (P : Past l k) where
-    next : k < length l → place_in (drop k l) x ≡ cond (eqb (get_or l k 0) x) 0 (suc (place_in (drop (suc k) l) x))
-    next h = ap (λ (r : List ℕ). place_in r x) (drop-cons l k 0 h)
+  pub place_none : (l : List ℕ) → ((i : ℕ) → i < length l → get_or l i 0 ≡ x → ⊥) → length l ≤ place_in l x
+  place_none [] n = omega arith
+  place_none (y ∷ ys) n =
+      omega (arith, place_none ys (λ i below. n (suc i) (omega arith)), ap (λ (b : Bool). cond b 0 (suc (place_in ys x))) (ne_eqb _ _ (n 0 (omega arith))))
 
-    pub place_here : k < length l → get_or l k 0 ≡ x → place_in l x ≡ k
-    place_here h e =
-        let none : place_in (drop k l) x ≡ 0 = next h ∙ ap (λ (b : Bool). cond b 0 (suc (place_in (drop (suc k) l) x))) (eq-eqb _ _ e) in
-        omega (arith, P.1)
+  -- what a search tells
+  abbrev pub FirstIs : List ℕ → Option ℕ → Type 0
+  FirstIs l r =
+      MatchOption r ((i : ℕ) → i < length l → get_or l i 0 ≡ x → ⊥)
+      (λ k. (k < length l) × (get_or l k 0 ≡ x) × ((i : ℕ) → i < k → get_or l i 0 ≡ x → ⊥))
 
-    pub place-on : k < length l → (get_or l k 0 ≡ x → ⊥) → Past l (k + 1)
-    place-on h d =
-        let one : place_in (drop k l) x ≡ suc (place_in (drop (suc k) l) x) = next h ∙ ap (λ (b : Bool). cond b 0 (suc (place_in (drop (suc k) l) x))) (ne_eqb _ _ d) in
-        let same : place_in (drop (k + 1) l) x ≡ place_in (drop (suc k) l) x = ap (λ (n : ℕ). place_in (drop n l) x) (add-one k) in
-        (omega arith, omega (arith, P.1))
-
-    pub place_none : length l ≤ k → place_in l x ≡ k
-    place_none h =
-        let none : place_in (drop k l) x ≡ 0 = ap (λ (r : List ℕ). place_in r x) (drop_of_length-le l h) in
-        omega (arith, P.1)
+  pub place_found : (l : List ℕ) (r : Option ℕ) → FirstIs l r → MatchOption r (length l ≤ place_in l x) (λ k. (k < length l) × (k ≡ place_in l x))
+  place_found l None F = place_none l F
+  place_found l (Some k) F = (F.0, place_first l k F.0 F.1 F.2)

@@ -2,14 +2,16 @@
 use Prim.Native.Nat.{ℕ, ◌+◌, ◌-◌, ◌/◌, ◌%◌, ◌<◌, ◌≤◌}
 use native.Mathlib.Omega.{arith}
 use native.Mathlib.Numerals.{add-one}
-use mathlib.Core.Path.{◌≡◌, refl, sym, ap, ◌∙◌}
+use mathlib.Core.Path.{◌≡◌, refl, sym, ap, subst, ◌∙◌}
 use mathlib.Core.Logic.{◌⊎◌, inl, inr, ⊎_elim}
 use mathlib.Core.Bool.{Bool, true, false, cond, ◌&&◌}
 use mathlib.Core.List.{List, [], ◌∷◌, ◌++◌}
-use lib.Dec.{leb, ltb}
-use lib.ListN.{length, get_or, drop, set, length-append, drop_of_length-le}
-use lib.Seq.{drop-cons, sets}
-use borrow.Author.Tests.{leb-true, ltb-true, lt-ltb, le-ltb, eq-eqb, ne_eqb}
+use lib.Dec.{leb, ltb, eqb}
+use lib.ListN.{length, get_or, drop, length-append, drop_of_length-le}
+use lib.Seq.{drop-cons}
+use borrow.Author.Tests.{leb-true, ltb-true, lt-ltb, le-ltb, eq-eqb, ne_eqb, eqb-true, eqb-false}
+use Rattle.std.specs.Prelude.{Option, Some, None, MatchOption}
+use Rattle.std.specs.Char.{encode_utf8}
 use Rattle.utf8.specs.Utf8.{is_scalar, encoded}
 use Rattle.faces.specs.Faces.{face_count, face_of}
 use Rattle.table_format.proofs.Tests.{and_left, and_right, or_left}
@@ -158,19 +160,33 @@ first-tells c d s t h k e = ⊎_elim (λ p. ⊎_elim (one-one p) (one-two p) (ma
         let r : 128 + code_shown c % 64 ≡ 128 + code_shown d % 64 = cc in
         (mark_tells c d M N (omega arith), cc)
 
--- what a row of all the values tells at a character's place
-pub code_at : (row : List ℕ) → values code_shown 128 ≡ row → (i c : ℕ) → i ≡ c → i < 128 → (get_or row i 0 ≡ code_shown c) × (get_or row i 0 < 2048)
-code_at row all i c e h =
-    let is : get_or row i 0 ≡ code_shown c = ap (λ (l : List ℕ). get_or l i 0) (sym all) ∙ value_at code_shown 0 128 i h ∙ ap code_shown e in
-    (is, omega (arith, code-most c))
+-- the letter whose mark a character is
+abbrev pub letter_shown : ℕ → Option ℕ
+letter_shown c = cond (eqb (code_shown c) 0) None (Some (code_shown c))
 
--- two bytes stored
-pub two-stored : (d : List ℕ) (at c code : ℕ) → code ≡ code_shown c → 0 < code
-    → set (set d at (192 + code / 64)) (at + 1) (128 + code % 64) ≡ sets d at (shown_as c)
-two-stored d at c code e h =
-    ap (λ (i : ℕ). set (set d at (192 + code / 64)) i (128 + code % 64)) (add-one at)
-    ∙ ap (λ (x : ℕ). sets d at (two x)) e
-    ∙ ap (sets d at) (sym (shown-two c (omega arith)))
+abbrev pub ShownIs : ℕ → Option ℕ → Type 0
+ShownIs c r = MatchOption r (code_shown c ≡ 0) (λ letter. (letter ≡ code_shown c) × (128 ≤ letter) × (letter < 2048))
+
+letter_shown_is : (c : ℕ) → ShownIs c (letter_shown c)
+letter_shown_is c = go (eqb (code_shown c) 0) refl
+  where
+    go : (b : Bool) → eqb (code_shown c) 0 ≡ b → ShownIs c (cond b None (Some (code_shown c)))
+    go true e = eqb-true _ _ e
+    go false e = ⊎_elim (λ z. absurd (eqb-false (code_shown c) 0 e z)) (λ M. (refl, (mark_two c M).0, (mark_two c M).1)) (mark_cases c)
+
+-- what a row of all the values tells at a character's place
+pub shown_at : (row : List (Option ℕ)) → values letter_shown 128 ≡ row → (i c : ℕ) → i ≡ c → i < 128 → (r : Option ℕ) → r ≡ get_or row i r → ShownIs c r
+shown_at row all i c s h r e =
+    let is : letter_shown i ≡ r = sym (value_at letter_shown r 128 i h) ∙ ap (λ (l : List (Option ℕ)). get_or l i r) all ∙ sym e in
+    subst (λ (d : ℕ). ShownIs d r) s (subst (ShownIs i) is (letter_shown_is i))
+
+-- a letter's bytes
+pub encoded-is : (c : ℕ) → 128 ≤ c → c < 2048 → encode_utf8 c ≡ encoded c
+unfolding encoded encode_utf8
+encoded-is c h k = rw (le-ltb c 128 h, lt-ltb c 2048 k)
+
+pub size-shown : (c letter : ℕ) → letter ≡ code_shown c → 128 ≤ letter → letter < 2048 → encode_utf8 letter ≡ shown_as c
+size-shown c letter e h k = encoded-is letter h k ∙ ap encoded e ∙ sym (shown-code c (omega arith))
 
 -- Text, along its characters.
 

@@ -23,8 +23,8 @@ fn start_run(answer: StartAnswer, begun: Run, before: Run) -> Run
 fn start_reply(s: Started) -> StartReply
     ensures { (reply_told result.answer ≡ start_told_by s) × (result.cycle ≡ s.cycle) }
 {
-    let answer = s.answer;
-    let numbers = start_numbers(answer, s.length);
+    let numbers = start_numbers(s.answer, s.length);
+    // Named first: a field that is an array gets no proof where it goes into a literal straight.
     let cycle = s.cycle;
     StartReply {
         answer: numbers,
@@ -37,8 +37,7 @@ fn begin(table: &[u16], task: u32, ceiling: u32, upper: &[u8], lower: &[u8], run
     ensures { ReplyIs (started table.now task upper.now lower.now ceiling) run result.reply result.run }
 {
     let s = start(table, task, upper, lower, ceiling);
-    let answer = s.answer;
-    let left = start_run(answer, s.run, run);
+    let left = start_run(s.answer, s.run, run);
     let reply = start_reply(s);
     Begun { reply, run: left }
 }

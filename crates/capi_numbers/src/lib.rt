@@ -1,16 +1,16 @@
 // Answers as structs of numbers, for C.
 #![tactic(auto)]
 
-ghost use Rattle.std.specs.Prelude.{◌≡◌, ℕ, ◌<◌, ◌^◌};
-ghost use Rattle.destination.specs.declared.Answer.TheVariants.{Done};
+ghost use Rattle.std.specs.Prelude.{◌≡◌, ℕ, ◌<◌, ◌^◌, Ok};
 ghost use Rattle.refusal.specs.Told.{refused_told, answered};
 ghost use Rattle.machine.specs.Answer.{told, start_told};
 ghost use Rattle.destination.specs.Told.{stored_told};
 ghost use Rattle.capi_numbers.specs.Numbers.{reply_told};
 
+use machine::{Answer, StartAnswer};
 use refusal::Refusal;
 
-// The kinds of answers.
+// The kinds of answers, as numbers: the C interface has them so.
 pub const DONE: u32 = 0;
 
 pub const FOUND: u32 = 1;
@@ -36,10 +36,9 @@ pub struct Reply {
 pub fn refused(refusal: Refusal, steps: u32, length: u32) -> Reply
     ensures { reply_told result ≡ refused_told refusal steps length }
 {
-    let number = refusal::number(refusal) as u32;
     Reply {
         kind: REFUSED,
-        number,
+        number: u32::from(refusal.number()),
         steps,
         length,
     }
@@ -58,34 +57,34 @@ pub fn answered(kind: u32, steps: u32, length: u32) -> Reply
 }
 
 // Of the call for a reading.
-pub fn answer_numbers(answer: machine::Answer) -> Reply
+pub fn answer_numbers(answer: Answer) -> Reply
     ensures { reply_told result ≡ told answer }
 {
     match answer {
-        machine::Answer::Found { steps, length } => answered(FOUND, steps, length),
-        machine::Answer::Paused { steps } => answered(PAUSED, steps, 0),
-        machine::Answer::Ended { steps } => answered(ENDED, steps, 0),
-        machine::Answer::Refused { steps, refusal } => refused(refusal, steps, 0),
+        Answer::Found { steps, length } => answered(FOUND, steps, length),
+        Answer::Paused { steps } => answered(PAUSED, steps, 0),
+        Answer::Ended { steps } => answered(ENDED, steps, 0),
+        Answer::Refused { steps, refusal } => refused(refusal, steps, 0),
     }
 }
 
 // Of the calls with a destination, whose counts fit.
-pub fn stored_numbers(answer: destination::Answer) -> Reply
-    requires { (count : ℕ) → answer ≡ Done count → count < 2 ^ 32 }
+pub fn stored_numbers(answer: Result<usize, Refusal>) -> Reply
+    requires { (count : ℕ) → answer ≡ Ok count → count < 2 ^ 32 }
     ensures { reply_told result ≡ stored_told answer }
 {
     match answer {
-        destination::Answer::Done(count) => answered(DONE, 0, count as u32),
-        destination::Answer::Refused(refusal) => refused(refusal, 0, 0),
+        Ok(count) => answered(DONE, 0, count as u32),
+        Err(refusal) => refused(refusal, 0, 0),
     }
 }
 
 // Of the start, with the length of the cycle that it tells.
-pub fn start_numbers(answer: machine::StartAnswer, length: u32) -> Reply
+pub fn start_numbers(answer: StartAnswer, length: u32) -> Reply
     ensures { reply_told result ≡ start_told answer length }
 {
     match answer {
-        machine::StartAnswer::Ready => answered(DONE, 0, 0),
-        machine::StartAnswer::Refused(refusal) => refused(refusal, 0, length),
+        StartAnswer::Ready => answered(DONE, 0, 0),
+        StartAnswer::Refused(refusal) => refused(refusal, 0, length),
     }
 }

@@ -5,34 +5,30 @@ use machine::{Answer, Run, StartAnswer, Started};
 // What an output is filled with: no letter is this.
 pub const LETTER_MARK: u8 = 255;
 
-// What an answer tells: its steps, and how many letters were written.
-#[derive(Clone, Copy)]
-pub struct Counts {
-    pub steps: u32,
-    pub length: usize,
+// The steps of an answer.
+pub fn steps_of(answer: Answer) -> u32 {
+    match answer {
+        Answer::Found { steps, .. } => steps,
+        Answer::Paused { steps } => steps,
+        Answer::Ended { steps } => steps,
+        Answer::Refused { steps, .. } => steps,
+    }
 }
 
-pub fn counted(answer: Answer) -> Counts {
+// How many letters it wrote.
+fn length_of(answer: Answer) -> usize {
     match answer {
-        Answer::Found { steps, length } => Counts {
-            steps,
-            length: length as usize,
-        },
-        Answer::Paused { steps } => Counts { steps, length: 0 },
-        Answer::Ended { steps } => Counts { steps, length: 0 },
-        Answer::Refused { steps, refusal: _ } => Counts { steps, length: 0 },
+        Answer::Found { length, .. } => length as usize,
+        _ => 0,
     }
 }
 
 fn name(rt: &impl Print, answer: Answer) {
     match answer {
-        Answer::Found {
-            steps: _,
-            length: _,
-        } => show::say(rt, b" Found"),
-        Answer::Paused { steps: _ } => show::say(rt, b" Paused"),
-        Answer::Ended { steps: _ } => show::say(rt, b" Ended"),
-        Answer::Refused { steps: _, refusal } => show::refused(rt, refusal),
+        Answer::Found { .. } => show::say(rt, b" Found"),
+        Answer::Paused { .. } => show::say(rt, b" Paused"),
+        Answer::Ended { .. } => show::say(rt, b" Ended"),
+        Answer::Refused { refusal, .. } => show::refused(rt, refusal),
     }
 }
 
@@ -46,41 +42,32 @@ fn spell(rt: &impl Print, sign: u8, letters: &[u8]) {
 
 // An answer, with the output as the call left it.
 pub fn tell(rt: &impl Print, sign: u8, answer: Answer, output: &[u8]) {
-    let told = counted(answer);
-    let length = told.length;
+    let length = length_of(answer);
     name(rt, answer);
-    if 0 < length {
-        if length <= output.len() {
-            spell(rt, sign, &output[0..length]);
-        }
+    if 0 < length && length <= output.len() {
+        spell(rt, sign, &output[..length]);
     }
-    show::number(rt, b" after ", told.steps as u64);
-    show::touched(rt, show::is_marked(output, length, LETTER_MARK));
+    let steps = steps_of(answer);
+    let _ = print!(rt; " after {steps}");
+    show::touched(rt, show::is_marked(output, length, &LETTER_MARK));
     if sign != b'!' {
         show::say(rt, b",");
     }
 }
 
 fn ready(rt: &impl Print, run: Run) {
-    show::number(rt, b" ready, run ", run.task as u64);
-    show::number(rt, b" ", run.started as u64);
-    show::number(rt, b" ", run.depth as u64);
+    let _ = print!(rt; " ready, run {} {} {}", run.task, run.started, run.depth);
 }
 
 // What a start answered: the run, or the refusal and with 12 the states of the cycle.
 pub fn started(rt: &impl Print, started: Started) {
-    let answer = started.answer;
-    match answer {
-        StartAnswer::Ready => {
-            let run = started.run;
-            ready(rt, run);
-        }
+    match started.answer {
+        StartAnswer::Ready => ready(rt, started.run),
         StartAnswer::Refused(refusal) => {
             show::refused(rt, refusal);
             if started.length > 0 {
                 show::say(rt, b", cycle");
-                let states = started.cycle;
-                show::cells(rt, &states, 0, started.length as usize);
+                show::cells(rt, &started.cycle, 0, started.length as usize);
             }
         }
     }

@@ -5,20 +5,28 @@
 mod answers;
 mod searches;
 
-use cases_script::{numbers, show};
-use input::Got;
+use cases_script::numbers::Numbers;
+use cases_script::{Case, numbers, show};
 use std::io;
 
 // Cells that hold every table, and some more; numbers of a case.
 const TABLE_CELLS: usize = 5824;
 
-// What a case does by its sign, with its line from the colon on and the numbers of it, on the cells of the table.
-fn act(rt: &impl Print, sign: u8, line: &[u8], list: &[u32], cells: &mut [u16]) {
-    if cases_tables::has(sign) {
-        cases_tables::act(rt, sign, line, list, cells);
-    } else {
-        searches::query(rt, sign, line, list, cells);
+// What a case does by its sign, on the cells of the table.
+fn act(rt: &impl Print, case: Case, cells: &mut [u16]) {
+    match case.sign {
+        b'<' => cases_tables::read(rt, case, cells),
+        b'>' => cases_tables::load(rt, case, cells),
+        b'"' => cases_tables::again(rt, case, cells),
+        b'@' => cases_tables::index(rt, case, cells),
+        b'=' => cases_tables::first(rt, case, cells),
+        _ => searches::query(rt, case, cells),
     }
+}
+
+fn case_of<'a>(sign: u8, line: &'a [u8], numbers: &'a [u32]) -> Case<'a> {
+    let list = Numbers(numbers);
+    Case { sign, line, list }
 }
 
 // The case of a line: its sign, its name up to the colon, and its numbers. A line without a colon is no case.
@@ -27,7 +35,7 @@ fn perform(rt: &impl Print, line: &[u8], cells: &mut [u16]) {
         show::say(rt, &line[1..colon + 1]);
         let mut list = [numbers::NONE; TABLE_CELLS];
         numbers::read(&line[colon..], 0, &mut list);
-        act(rt, line[0], &line[colon..], &list, cells);
+        act(rt, case_of(line[0], &line[colon..], &list), cells);
         show::say(rt, b"\n");
     }
 }
@@ -46,12 +54,8 @@ fn run(rt: &impl Print, script: &mut [u8]) {
 }
 
 fn main(rt: HostRuntime) -> io::Result<()> {
-    let mut script = [0u8; 65536];
-    match input::read_all(&mut rt.stdin(), &mut script) {
-        Got::Bytes(size) => {
-            run(&rt, &mut script[..size]);
-            Ok(())
-        }
-        Got::Failed(error) => Err(error),
-    }
+    let mut script = [0; 65536];
+    let size = input::read_all(&mut rt.stdin(), &mut script)?;
+    run(&rt, &mut script[..size]);
+    Ok(())
 }

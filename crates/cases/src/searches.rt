@@ -1,12 +1,24 @@
 // The cases that start a search and call for readings, on the cells of one table.
-ghost use Rattle.std.specs.Prelude.{◌≤◌};
+ghost use Rattle.std.specs.Prelude.{◌≤◌, length};
 
 use crate::answers;
-use cases_script::{numbers, show};
+use cases_script::numbers::Numbers;
+use cases_script::{Case, numbers, show};
 use machine::{Called, FRAME_WIDTH, Run};
 
 // Cells of a stack of 33,025 frames.
 const LENT_CELLS: usize = (machine::MOST_FRAMES as usize + 1) * machine::FRAME_WIDTH;
+
+// The letters of a word, at most so many.
+const WORD_LETTERS: usize = 80;
+
+// What a search is on: the cells of a table and the two words.
+#[derive(Clone, Copy)]
+struct Asked<'a> {
+    table: &'a [u16],
+    upper: &'a [u8],
+    lower: &'a [u8],
+}
 
 // Where calls left a run, and their steps in all.
 #[derive(Clone, Copy)]
@@ -15,22 +27,15 @@ struct Tally {
     steps: u32,
 }
 
-fn letter(n: u32) -> u8 {
-    if n < 256 {
-        n as u8
-    } else {
-        answers::LETTER_MARK
-    }
-}
-
-// A word of the list, of at most 80 letters: its count of letters, and the letters.
-fn word(list: &[u32], at: usize, letters: &mut [u8]) -> usize
-    ensures { result ≤ 80 }
+// A word of a list: its count of letters, and the letters.
+fn word<'a>(list: Numbers, letters: &'a mut [u8; WORD_LETTERS]) -> &'a [u8]
+    ensures { length result.now ≤ 80 }
 {
-    for i in 0..letters.len() {
-        letters[i] = letter(numbers::at(list, at, i + 1));
+    let count = list.amount(0, WORD_LETTERS);
+    for (k, letter) in letters.iter_mut().enumerate() {
+        *letter = u8::try_from(list.after(1).at(k)).unwrap_or(answers::LETTER_MARK);
     }
-    numbers::amount(list, at, 0, 80)
+    &letters[..count]
 }
 
 // A call, told.
@@ -38,193 +43,131 @@ fn made(
     rt: &impl Print,
     sign: u8,
     run: Run,
-    table: &[u16],
-    upper: &[u8],
-    lower: &[u8],
+    on: Asked,
     stack: &mut [u32],
     allowance: u32,
     output: &mut [u8],
 ) -> Called {
-    let called = engine_advance::advance(table, upper, lower, run, stack, allowance, output);
-    let answer = called.answer;
-    answers::tell(rt, sign, answer, output);
-    called
-}
-
-// The same with an allowance, so many frames of the stack and an output of so many letters, which are in the list from a place on.
-fn call(
-    rt: &impl Print,
-    sign: u8,
-    list: &[u32],
-    at: usize,
-    run: Run,
-    table: &[u16],
-    upper: &[u8],
-    lower: &[u8],
-    stack: &mut [u32],
-) -> Called {
-    let allowance = numbers::at(list, at, 0);
-    let frames = numbers::amount(list, at, 1, stack.len() / FRAME_WIDTH);
-    let room = numbers::amount(list, at, 2, 100);
-    let mut output = [answers::LETTER_MARK; 100];
-    made(
-        rt,
-        sign,
-        run,
+    let Asked {
         table,
         upper,
         lower,
-        &mut stack[0..FRAME_WIDTH * frames],
-        allowance,
-        &mut output[0..room],
-    )
+    } = on;
+    let called = engine_advance::advance(table, upper, lower, run, stack, allowance, output);
+    answers::tell(rt, sign, called.answer, output);
+    called
+}
+
+// The same with an allowance, so many frames of the stack and an output of so many letters, which are the next numbers of a list.
+fn call(
+    rt: &impl Print,
+    sign: u8,
+    list: Numbers,
+    run: Run,
+    on: Asked,
+    stack: &mut [u32],
+) -> Called {
+    let allowance = list.at(0);
+    let frames = list.amount(1, stack.len() / FRAME_WIDTH);
+    let room = list.amount(2, 100);
+    let mut output = [answers::LETTER_MARK; 100];
+    let lent = &mut stack[..FRAME_WIDTH * frames];
+    made(rt, sign, run, on, lent, allowance, &mut output[..room])
 }
 
 // Calls one after the other, as long as the list has frames for one.
 fn calls(
     rt: &impl Print,
     sign: u8,
-    list: &[u32],
-    from: usize,
-    first: Run,
-    table: &[u16],
-    upper: &[u8],
-    lower: &[u8],
+    mut list: Numbers,
+    mut run: Run,
+    on: Asked,
     stack: &mut [u32],
 ) -> Tally {
-    let mut run = first;
     let mut steps: u32 = 0;
-    let mut k = from;
-    let most: u32 = if sign == b'!' { 1 } else { 100 };
+    let most = if sign == b'!' { 1 } else { 100 };
     for _ in 0..most {
-        if numbers::at(list, k, 1) == numbers::NONE {
+        if list.at(1) == numbers::NONE {
             break;
         }
-        let called = call(rt, sign, list, k, run, table, upper, lower, stack);
+        let called = call(rt, sign, list, run, on, stack);
         run = called.run;
-        let answer = called.answer;
-        let told = answers::counted(answer);
-        steps = numbers::plus(steps, told.steps);
-        k = numbers::skip(k, 3);
+        steps = steps.saturating_add(answers::steps_of(called.answer));
+        list = list.after(3);
     }
     Tally { run, steps }
 }
 
-// Whether a stack holds the numbers of a list from a place on.
-fn is_filled(stack: &[u32], list: &[u32], from: usize) -> bool {
-    for i in 0..stack.len() {
-        if stack[i] != numbers::at(list, from, i) {
-            return false;
-        }
-    }
-    true
-}
-
 // Whether a call left the run and the stack as they were.
-fn is_kept(first: Run, last: Run, stack: &[u32], list: &[u32], from: usize) -> bool {
-    if first.task != last.task {
-        return false;
-    }
-    if first.started != last.started {
-        return false;
-    }
-    if first.depth != last.depth {
-        return false;
-    }
-    if first.ceiling != last.ceiling {
-        return false;
-    }
-    is_filled(stack, list, from)
+fn is_kept(first: Run, last: Run, stack: &[u32], list: Numbers) -> bool {
+    first == last
+        && stack
+            .iter()
+            .enumerate()
+            .all(|(k, cell)| *cell == list.at(k))
 }
 
 // The end of a case: its steps in all; of one call that made no step, whether it kept what it was lent.
-fn finish(
-    rt: &impl Print,
-    sign: u8,
-    list: &[u32],
-    from: usize,
-    first: Run,
-    last: Tally,
-    stack: &[u32],
-) {
+fn finish(rt: &impl Print, sign: u8, list: Numbers, first: Run, last: Tally, stack: &[u32]) {
     if sign != b'!' {
-        show::number(rt, b" ", last.steps as u64);
-        show::say(rt, b" steps");
+        let _ = print!(rt; " {} steps", last.steps);
     } else if last.steps == 0 {
-        let run = last.run;
-        show::touched(rt, is_kept(first, run, stack, list, from));
+        show::touched(rt, is_kept(first, last.run, stack, list));
     }
 }
 
 // The run of a case: what the start left, or with `!` what the list has.
-fn begun(sign: u8, list: &[u32], rest: usize, first: Run) -> Run {
-    if sign != b'!' {
+fn begun(case: Case, rest: usize, first: Run) -> Run {
+    if case.sign != b'!' {
         return first;
     }
+    let list = case.list.after(rest);
     Run {
-        task: numbers::at(list, 1, 0),
-        started: numbers::at(list, rest, 3),
-        depth: numbers::at(list, rest, 4),
+        task: case.list.at(1),
+        started: list.at(3),
+        depth: list.at(4),
         ceiling: machine::MOST_CEILING,
     }
 }
 
 // The calls after a start, on a stack that begins with the numbers of the line from a place on.
-fn follow(
-    rt: &impl Print,
-    sign: u8,
-    line: &[u8],
-    list: &[u32],
-    rest: usize,
-    first: Run,
-    table: &[u16],
-    upper: &[u8],
-    lower: &[u8],
-) {
-    let from = numbers::skip(rest, 5);
+fn follow(rt: &impl Print, case: Case, rest: usize, first: Run, on: Asked) {
+    let sign = case.sign;
+    let from = rest.saturating_add(5);
     let mut stack = [numbers::NONE; LENT_CELLS];
-    numbers::read(line, from, &mut stack);
-    let last = calls(rt, sign, list, rest, first, table, upper, lower, &mut stack);
-    finish(rt, sign, list, from, first, last, &stack);
+    numbers::read(case.line, from, &mut stack);
+    let last = calls(rt, sign, case.list.after(rest), first, on, &mut stack);
+    finish(rt, sign, case.list.after(from), first, last, &stack);
 }
 
 // A start, which is told, or the calls after it.
-fn search(
-    rt: &impl Print,
-    sign: u8,
-    line: &[u8],
-    list: &[u32],
-    rest: usize,
-    table: &[u16],
-    upper: &[u8],
-    lower: &[u8],
-) {
-    let task = numbers::at(list, 1, 0);
+fn search(rt: &impl Print, case: Case, rest: usize, on: Asked) {
+    let Asked {
+        table,
+        upper,
+        lower,
+    } = on;
+    let task = case.list.at(1);
     let begin = engine_start::start(table, task, upper, lower, machine::MOST_CEILING);
-    if sign == b'?' {
+    if case.sign == b'?' {
         answers::started(rt, begin);
     } else {
-        let run = begin.run;
-        let first = begun(sign, list, rest, run);
-        follow(rt, sign, line, list, rest, first, table, upper, lower);
+        follow(rt, case, rest, begun(case, rest, begin.run), on);
     }
 }
 
 // CELLS TASK, UPPER, LOWER: the query of a case, on so many cells of the table.
-pub fn query(rt: &impl Print, sign: u8, line: &[u8], list: &[u32], cells: &[u16]) {
-    let size = numbers::amount(list, 0, 0, cells.len());
-    let mut upper = [0u8; 80];
-    let up = word(list, 2, &mut upper);
-    let mut lower = [0u8; 80];
-    let low = word(list, 3 + up, &mut lower);
-    search(
-        rt,
-        sign,
-        line,
-        list,
-        4 + up + low,
-        &cells[0..size],
-        &upper[0..up],
-        &lower[0..low],
-    );
+pub fn query(rt: &impl Print, case: Case, cells: &[u16]) {
+    let size = case.list.amount(0, cells.len());
+    let mut upper = [0; WORD_LETTERS];
+    let mut lower = [0; WORD_LETTERS];
+    let upper = word(case.list.after(2), &mut upper);
+    let lower = word(case.list.after(3 + upper.len()), &mut lower);
+    let rest = 4 + upper.len() + lower.len();
+    let on = Asked {
+        table: &cells[..size],
+        upper,
+        lower,
+    };
+    search(rt, case, rest, on);
 }

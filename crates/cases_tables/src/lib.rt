@@ -1,8 +1,9 @@
 // The cases that call the crate `table`, on the cells of one table.
 #![tactic(auto)]
 
-use cases_script::{numbers, show};
-use destination::Answer;
+use cases_script::numbers::Numbers;
+use cases_script::{Case, show};
+use refusal::Refusal;
 use table::{reader, writer};
 
 // What a destination is filled with: no table has such a cell, and no text such a byte.
@@ -13,141 +14,100 @@ const BYTE_MARK: u8 = b'.';
 // Bytes that hold every text, and some more.
 const TEXT_BYTES: usize = 21400;
 
-// How much a call wrote.
-fn done(answer: Answer) -> usize {
-    match answer {
-        Answer::Done(n) => n,
-        Answer::Refused(_) => 0,
-    }
-}
-
 // How many cells or bytes were written, or the refusal's number.
-fn tell(rt: &impl Print, answer: Answer, unit: &[u8]) {
+fn tell(rt: &impl Print, answer: Result<usize, Refusal>, unit: &str) {
     match answer {
-        Answer::Done(n) => {
-            show::number(rt, b" ", n as u64);
-            show::say(rt, unit);
+        Ok(n) => {
+            let _ = print!(rt; " {n} {unit}");
         }
-        Answer::Refused(refusal) => show::refused(rt, refusal),
+        Err(refusal) => show::refused(rt, refusal),
     }
 }
 
-fn cell(n: u32) -> u16 {
-    if n < 65536 { n as u16 } else { CELL_MARK }
-}
-
-// Fills the cells with the numbers of a list from a place on, and with the mark after its end.
-fn fill(cells: &mut [u16], list: &[u32], from: usize) {
-    for i in 0..cells.len() {
-        cells[i] = cell(numbers::at(list, from, i));
+// Fills the cells with numbers, and with the mark after their end and for those that no cell holds.
+fn fill(cells: &mut [u16], list: Numbers) {
+    for (k, cell) in cells.iter_mut().enumerate() {
+        *cell = u16::try_from(list.at(k)).unwrap_or(CELL_MARK);
     }
-}
-
-// Whether the cells hold the mark from a place on.
-fn is_marked(cells: &[u16], from: usize) -> bool {
-    for i in from..cells.len() {
-        if cells[i] != CELL_MARK {
-            return false;
-        }
-    }
-    true
 }
 
 // Whether a loaded table's text is this one.
 fn has_text(cells: &[u16], text: &[u8]) -> bool {
     let mut again = [BYTE_MARK; TEXT_BYTES];
-    let count = done(writer::write(cells, &mut again));
-    if count <= TEXT_BYTES {
-        return &again[0..count] == text;
-    }
-    false
+    let count = writer::write(cells, &mut again).unwrap_or(0);
+    again.get(..count).is_some_and(|own| own == text)
 }
 
 // A text, read into cells that are filled with the mark.
 fn read_into(rt: &impl Print, text: &[u8], cells: &mut [u16]) {
     let answer = reader::read(text, cells);
-    tell(rt, answer, b" cells");
-    let count = done(answer);
+    tell(rt, answer, "cells");
+    let count = answer.unwrap_or(0);
     if count > 0 {
-        if has_text(cells, text) {
-            show::say(rt, b", same text");
+        let same = if has_text(cells, text) {
+            "same"
         } else {
-            show::say(rt, b", other text");
-        }
+            "other"
+        };
+        let _ = print!(rt; ", {same} text");
     }
-    show::touched(rt, is_marked(cells, count));
+    show::touched(rt, show::is_marked(cells, count, &CELL_MARK));
 }
 
 // `<` CELLS | TEXT: reads the text into so many cells.
-fn read(rt: &impl Print, line: &[u8], list: &[u32], cells: &mut [u16]) {
-    fill(cells, list, 1);
-    if let Some(bar) = line.iter().position(|c| *c == b'|') {
-        let size = numbers::amount(list, 0, 0, cells.len());
-        read_into(rt, &line[bar + 1..], &mut cells[0..size]);
+pub fn read(rt: &impl Print, case: Case, cells: &mut [u16]) {
+    fill(cells, case.list.after(1));
+    if let Some(bar) = case.line.iter().position(|c| *c == b'|') {
+        let size = case.list.amount(0, cells.len());
+        read_into(rt, &case.line[bar + 1..], &mut cells[..size]);
     }
 }
 
 // `"`: the table's own text is read, and its last line told.
-fn again(rt: &impl Print, list: &[u32], cells: &mut [u16]) {
+pub fn again(rt: &impl Print, case: Case, cells: &mut [u16]) {
     let mut text = [BYTE_MARK; TEXT_BYTES];
-    let size = done(writer::write(cells, &mut text));
-    fill(cells, list, 0);
-    if size < 7 {
-        return;
-    }
-    if size <= TEXT_BYTES {
-        read_into(rt, &text[0..size], cells);
-        show::say(rt, b", ");
+    let size = writer::write(cells, &mut text).unwrap_or(0);
+    fill(cells, case.list);
+    if (7..=TEXT_BYTES).contains(&size) {
+        read_into(rt, &text[..size], cells);
+        let _ = print!(rt; ", ");
         show::say(rt, &text[size - 7..size - 1]);
     }
 }
 
 fn write_into(rt: &impl Print, cells: &[u16], text: &mut [u8]) {
-    let checked = table_check::check(cells);
-    if checked.ok {
-        show::say(rt, b" check passes, write");
+    let told = if table_check::check(cells).is_some() {
+        "passes"
     } else {
-        show::say(rt, b" check fails, write");
-    }
+        "fails"
+    };
+    let _ = print!(rt; " check {told}, write");
     let answer = writer::write(cells, text);
-    tell(rt, answer, b" bytes");
-    show::touched(rt, show::is_marked(text, done(answer), BYTE_MARK));
+    tell(rt, answer, "bytes");
+    show::touched(rt, show::is_marked(text, answer.unwrap_or(0), &BYTE_MARK));
 }
 
 // `>` CELLS BYTES, TABLE: checks the first cells of a table, and writes them into so many bytes.
-fn load(rt: &impl Print, list: &[u32], cells: &mut [u16]) {
-    fill(cells, list, 2);
-    let size = numbers::amount(list, 0, 0, cells.len());
-    let room = numbers::amount(list, 0, 1, TEXT_BYTES);
+pub fn load(rt: &impl Print, case: Case, cells: &mut [u16]) {
+    fill(cells, case.list.after(2));
+    let size = case.list.amount(0, cells.len());
+    let room = case.list.amount(1, TEXT_BYTES);
     let mut text = [BYTE_MARK; TEXT_BYTES];
-    write_into(rt, &cells[0..size], &mut text[0..room]);
+    write_into(rt, &cells[..size], &mut text[..room]);
 }
 
-// `@` CELLS FROM TO: the index of first arcs that the check of so many cells tells, from one state to another.
-fn index(rt: &impl Print, list: &[u32], cells: &[u16]) {
-    let size = numbers::amount(list, 0, 0, cells.len());
-    let checked = table_check::check(&cells[0..size]);
-    let first = checked.first;
-    let from = numbers::amount(list, 0, 1, 257);
-    show::cells(rt, &first, from, numbers::amount(list, 0, 2, 257));
+// `@` CELLS FROM TO: the index of first arcs that the check of so many cells tells, from one state to another; where it fails, zeros.
+pub fn index(rt: &impl Print, case: Case, cells: &[u16]) {
+    let size = case.list.amount(0, cells.len());
+    let first = match table_check::check(&cells[..size]) {
+        Some(checked) => checked.first,
+        None => [0; 257],
+    };
+    let from = case.list.amount(1, first.len());
+    show::cells(rt, &first, from, case.list.amount(2, first.len()));
 }
 
-// Whether a sign is that of a case here.
-pub fn has(sign: u8) -> bool {
-    match sign {
-        b'<' | b'>' | b'"' | b'=' | b'@' => true,
-        _ => false,
-    }
-}
-
-// What a case does by its sign, with its line from the colon on and the numbers of it, on the cells of the table. `=` COUNT tells the
-// first cells.
-pub fn act(rt: &impl Print, sign: u8, line: &[u8], list: &[u32], cells: &mut [u16]) {
-    match sign {
-        b'<' => read(rt, line, list, cells),
-        b'>' => load(rt, list, cells),
-        b'"' => again(rt, list, cells),
-        b'@' => index(rt, list, cells),
-        _ => show::cells(rt, cells, 0, numbers::amount(list, 0, 0, cells.len())),
-    }
+// `=` COUNT: the first cells.
+pub fn first(rt: &impl Print, case: Case, cells: &[u16]) {
+    show::cells(rt, cells, 0, case.list.amount(0, cells.len()));
 }

@@ -1,5 +1,4 @@
--- Laws of the copy to the front of a destination, of bytes stored in it, of what it takes, and of what the answer tells.
-pub mod Copying
+-- Laws of items stored in a destination, of what it takes, and of what the answer tells.
 pub mod Putting
 pub mod Stored
 pub mod Told

@@ -1,39 +1,31 @@
-// Refusals 20, 11, 10 and 39, which a start and a call look for in this order; and the sides that a task reads.
+// Refusals 11, 10 and 39, which a start and a call look for in this order after 20; and the sides that a task reads.
 #![tactic(auto)]
 
-ghost use Rattle.std.specs.Prelude.{◌≡◌, ◌||◌, List, ℕ};
+ghost use Rattle.std.specs.Prelude.{◌≡◌, ◌||◌, ◌&&◌, List, ℕ};
+ghost use Rattle.std.proofs.Math.Option.{some};
 ghost use Rattle.table_format.specs.Rules.{is_empty};
-ghost use Rattle.table_check.specs.Check.{checked};
+ghost use Rattle.table_format.specs.Loaded.{table_in, loaded};
 ghost use Rattle.machine.specs.Query.{word_holds};
 ghost use Rattle.machine.specs.Asked.{asked};
-ghost use Rattle.engine_admission.specs.Admission.{side_of, reads_at, admission_of};
+ghost use Rattle.engine_admission.specs.Admission.{side_of, reads_at, task_holds, admission_of, as_refusal};
 
-use refusal::{InputCause, Refusal, StateCause};
-
-// What these refusals leave: a search that may run, or the first of them.
-#[derive(Clone, Copy)]
-pub enum Admission {
-    Passes,
-    Refused(Refusal),
-}
+use refusal::InputCause;
 
 // A side of an arc.
-#[derive(Clone, Copy)]
+#[derive(Clone, Copy, PartialEq, Eq, Debug)]
 pub enum Side {
     Upper,
     Lower,
 }
 
 // Whether a task reads a side. A number that is no task's reads none.
+#[tactic(auto, unfolding(crate::specs::Admission::reads_at))]
 pub fn reads(task: u32, side: Side) -> bool
     ensures { result ≡ reads_at task (side_of side) }
 {
-    if task == 1 {
-        return true;
-    }
     match side {
-        Side::Upper => task == 2,
-        Side::Lower => task == 3,
+        Side::Upper => matches!(task, 1 | 2),
+        Side::Lower => matches!(task, 1 | 3),
     }
 }
 
@@ -45,16 +37,8 @@ fn word_holds(w: &[u8]) -> bool
         return false;
     }
     let mut hold = true;
-    let mut k = 0;
-    while k < w.len() {
-        let x = w[k];
-        if x < 1 {
-            hold = false;
-        }
-        if 63 < x {
-            hold = false;
-        }
-        k += 1;
+    for x in w {
+        hold &= (1..=63).contains(x);
     }
     hold
 }
@@ -63,39 +47,37 @@ fn word_holds(w: &[u8]) -> bool
 fn side_holds(read: bool, w: &[u8]) -> bool
     ensures { result ≡ (read || is_empty w.now) }
 {
-    if read {
-        return true;
-    }
-    w.len() == 0
+    read || w.is_empty()
 }
 
-// 20, 11, 10 and 39, where `ok` is what the table check says.
-pub fn asked(ok: bool, task: u32, upper: &[u8], lower: &[u8], ceiling: u32) -> Admission
-    ensures { (cells : List ℕ) → ok ≡ (checked cells).ok → result ≡ admission_of (asked cells task upper.now lower.now ceiling) }
+// 11, of the task and both sides.
+fn task_holds(task: u32, upper: &[u8], lower: &[u8]) -> bool
+    ensures { result ≡ task_holds task upper.now lower.now }
 {
-    if !ok {
-        return Admission::Refused(Refusal::State(StateCause::LoadedTable));
+    (1..=3).contains(&task)
+        && side_holds(reads(task, Side::Upper), upper)
+        && side_holds(reads(task, Side::Lower), lower)
+}
+
+// 10, of both words.
+fn words_hold(upper: &[u8], lower: &[u8]) -> bool
+    ensures { result ≡ (word_holds upper.now && word_holds lower.now) }
+{
+    word_holds(upper) && word_holds(lower)
+}
+
+// 11, 10 and 39, of what is asked of a table that keeps the rules.
+pub fn admitted(task: u32, upper: &[u8], lower: &[u8], ceiling: u32) -> Result<(), InputCause>
+    ensures { (cells : List ℕ) → loaded cells ≡ some (table_in cells) → as_refusal result ≡ admission_of (asked cells task upper.now lower.now ceiling) }
+{
+    if !task_holds(task, upper, lower) {
+        return Err(InputCause::TaskFault);
     }
-    if task < 1 {
-        return Admission::Refused(Refusal::Input(InputCause::TaskFault));
-    }
-    if 3 < task {
-        return Admission::Refused(Refusal::Input(InputCause::TaskFault));
-    }
-    if !side_holds(reads(task, Side::Upper), upper) {
-        return Admission::Refused(Refusal::Input(InputCause::TaskFault));
-    }
-    if !side_holds(reads(task, Side::Lower), lower) {
-        return Admission::Refused(Refusal::Input(InputCause::TaskFault));
-    }
-    if !word_holds(upper) {
-        return Admission::Refused(Refusal::Input(InputCause::WordFault));
-    }
-    if !word_holds(lower) {
-        return Admission::Refused(Refusal::Input(InputCause::WordFault));
+    if !words_hold(upper, lower) {
+        return Err(InputCause::WordFault);
     }
     if machine::MOST_CEILING < ceiling {
-        return Admission::Refused(Refusal::Input(InputCause::CeilingLimit));
+        return Err(InputCause::CeilingLimit);
     }
-    Admission::Passes
+    Ok(())
 }

@@ -1,12 +1,11 @@
 -- A call that 20, 11, 10 and 39 let pass: the parts of the loaded table and the flags of the task are the machine's.
-use Prim.Native.Nat.{ℕ, zero, suc, ◌-◌, ◌≤◌, ◌<◌}
+use Prim.Native.Nat.{ℕ, zero, suc, ◌≤◌, ◌<◌}
 use native.Mathlib.Omega.{arith}
 use mathlib.Core.Path.{◌≡◌, refl, sym, ap, ap₂, subst, ◌∙◌}
 use mathlib.Core.Bool.{Bool, true, false, ◌&&◌, ◌||◌}
-use mathlib.Core.Option.{Option}
 use mathlib.Core.List.{List, [], ◌∷◌}
 use lib.Dec.{leb}
-use lib.ListN.{length, get_or, take, drop}
+use lib.ListN.{length, get_or}
 use borrow.Author.Tests.{leb-true}
 use Rattle.table_check.specs.declared.Layout.{Layout}
 use Rattle.refusal.specs.declared.Refusal.{Refusal}
@@ -15,9 +14,14 @@ use Rattle.refusal.specs.declared.StateCause.TheVariants.{Place}
 use Rattle.table_format.specs.Table.{Table}
 use Rattle.table_format.specs.Classes.{first_class}
 use Rattle.table_format.specs.Rules.{keeps_rules}
-use Rattle.table_format.specs.Loaded.{counts_in, table_in}
-use Rattle.table_check.specs.Check.{LaidOut, layout_of, checked_as, checked}
-use Rattle.table_check.proofs.Parts.{initials_part_lem, terminals_part_lem, arcs_part_lem, index-part, laid_out}
+use Rattle.table_format.specs.Cells.{arcs_as}
+use Rattle.table_format.specs.Index.{first_index}
+use Rattle.table_format.specs.Loaded.{counts_in, extent, table_in}
+use Rattle.std.specs.Prelude.{Some}
+use Rattle.table_check.specs.declared.Checked.{Checked}
+use Rattle.table_check.specs.Check.{LaidOut, layout_of, checked}
+use Rattle.table_check.proofs.Passing.{indexed}
+use Rattle.table_check.proofs.Parts.{laid_out}
 use Rattle.table_check.proofs.Holding.{Holding, holding}
 use Rattle.machine.specs.declared.Run.{Run}
 use Rattle.machine.specs.declared.Called.{Called}
@@ -70,13 +74,20 @@ small w e = letters w (and_right (leb (length w) 64) (letters_within w) e)
         let k : x ≤ 63 = leb-true x 63 (and_right (leb 1 x) (leb x 63) (and_left (leb 1 x && leb x 63) (letters_within xs) h)) in omega arith
     letters (x ∷ xs) h (suc i) = letters xs (and_right (leb 1 x && leb x 63) (letters_within xs) h) i
 
+-- where the parts of a table that was admitted are
+pub laid_whole : (cells upper lower first : List ℕ) (run : Run) → Admitted cells run.task upper lower run.ceiling first → (l : Layout) → l ≡ layout_of (counts_in cells) → LaidOut cells l
+laid_whole cells upper lower first run P l E =
+    let w : extent (counts_in cells) ≤ length cells = (holding cells P.loads).whole in
+    laid_out cells l E (omega (arith, ap (λ (x : Layout). x.end) E))
+
 module _ (cells upper lower first : List ℕ) (run : Run) (P : Admitted cells run.task upper lower run.ceiling first) (l : Layout) (E : l ≡ layout_of (counts_in cells))
-    (classes : List (List ℕ)) (K : classes ≡ (table_in cells).classes) (u v : Bool) (U : u ≡ reads_at run.task upper_side) (Z : v ≡ reads_at run.task lower_side) where
+    (classes : List (List ℕ)) (K : classes ≡ (table_in cells).classes) (initials terminals arcs : List ℕ) (I : initials ≡ (table_in cells).initials) (T : terminals ≡ (table_in cells).terminals)
+    (A : arcs_as arcs ≡ (table_in cells).arcs) (u v : Bool) (U : u ≡ reads_at run.task upper_side) (Z : v ≡ reads_at run.task lower_side) where
   H : Holding cells
   H = holding cells P.loads
 
   L : LaidOut cells l
-  L = laid_out cells l E (omega (arith, ap (λ (x : Layout). x.end) E, H.whole))
+  L = laid_whole cells upper lower first run P l E
 
   up : u ≡ reads P.asks upper_side
   up = U ∙ reads_of run.task P.asks P.task-is upper_side
@@ -87,31 +98,12 @@ module _ (cells upper lower first : List ℕ) (run : Run) (P : Admitted cells ru
   abbrev setup : Setup
   setup = record { states = l.states; up = u; low = v; ceiling = run.ceiling }
 
-  abbrev initials : List ℕ
-  initials = take (l.terminals - l.initials) (drop l.initials cells)
-
-  abbrev terminals : List ℕ
-  terminals = take (l.arcs - l.terminals) (drop l.terminals cells)
-
-  abbrev arcs : List ℕ
-  arcs = take (l.end - l.arcs) (drop l.arcs cells)
-
   abbrev query : Query
   query = record { task = P.asks; upper_word = upper; lower_word = lower; ceiling = run.ceiling }
 
-  -- where the parts are
-  pub record Within : Type 0 where
-    pub initials-first : l.initials ≤ l.terminals
-    pub terminals-first : l.terminals ≤ l.arcs
-    pub arcs-first : l.arcs ≤ l.end
-    pub whole : l.end ≤ length cells
-
-  pub within : Within
-  within = record { initials-first = omega (arith, L.initials-is, L.terminals-is); terminals-first = omega (arith, L.terminals-is, L.arcs-is); arcs-first = omega (arith, L.arcs-is, L.end_is); whole = omega (arith, L.end_is, L.whole) }
-
   table_is : table_by setup classes initials terminals arcs ≡ table_in cells
   unfolding table_in
-  table_is = λ i. record { states = L.states-is i; classes = K i; initials = (ap (λ (k : ℕ). take (l.terminals - k) (drop k cells)) L.initials-is ∙ initials_part_lem cells l L) i; terminals = terminals_part_lem cells l L i; arcs = arcs_part_lem cells l L i }
+  table_is = λ i. record { states = L.states-is i; classes = K i; initials = I i; terminals = T i; arcs = A i }
 
   query-is : query_by setup upper lower ≡ query
   query-is =
@@ -120,11 +112,15 @@ module _ (cells upper lower first : List ℕ) (run : Run) (P : Admitted cells ru
   facts : AskedFacts cells (table_in cells) query run.task upper lower run.ceiling
   facts = asked-facts cells run.task upper lower run.ceiling (table_in cells) query P.runs-is
 
+  index-is : first ≡ first_index l.states (arcs_as arcs)
+  unfolding first_index table_in
+  index-is = P.index ∙ sym (ap₂ first_index L.states-is A)
+
   pub prepared : Prepared setup classes first initials terminals arcs upper lower
   prepared =
       record {
         keeps = subst (λ (t : Table). keeps_rules t ≡ true) (sym table_is) H.keeps;
-        index = P.index ∙ sym (index-part cells l L);
+        index = index-is;
         reads-some = ap₂ ◌||◌ up low ∙ some_flag P.asks;
         words_small = record { upper-small = small upper (and_left (word_holds upper) (word_holds lower) facts.words_hold_lem); lower-small = small lower (and_right (word_holds upper) (word_holds lower) facts.words_hold_lem) };
         ceiling-small = leb-true run.ceiling most_ceiling facts.ceiling_holds_lem;
@@ -159,7 +155,6 @@ module _ (cells upper lower first : List ℕ) (run : Run) (P : Admitted cells ru
     search_outcome e r c o S = call-outcome stack n buffer r c o (place_searched setup classes initials terminals arcs upper lower run stack n buffer e r c o S)
 
 -- what the table check and the query tell
-pub admitted_by : (cells : List ℕ) (task : ℕ) (upper lower : List ℕ) (ceiling : ℕ) (first : List ℕ) → Asks cells task upper lower ceiling → first ≡ (checked cells).first → Admitted cells task upper lower ceiling first
-unfolding checked
-admitted_by cells task upper lower ceiling first Q e =
-    record { asks = Q.asks; task-is = Q.task-is; loads = Q.loads; runs-is = Q.runs-is; index = e ∙ ap (λ (o : Option Table). (checked_as (layout_of (counts_in cells)) o).first) Q.loads }
+pub admitted_by : (cells : List ℕ) (task : ℕ) (upper lower : List ℕ) (ceiling : ℕ) (r : Checked) → Asks cells task upper lower ceiling → Some r ≡ checked cells → Admitted cells task upper lower ceiling r.first
+admitted_by cells task upper lower ceiling r Q e =
+    record { asks = Q.asks; task-is = Q.task-is; loads = Q.loads; runs-is = Q.runs-is; index = indexed cells r e }

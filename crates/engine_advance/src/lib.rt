@@ -8,68 +8,49 @@ ghost use Rattle.machine.specs.Answer.{told};
 ghost use Rattle.machine.specs.Reading.{outcome, OutcomeIs};
 ghost use Rattle.engine_advance.specs.Admitted.{Admitted};
 
-use engine_admission::{Admission, Side};
-use engine_frames::Setup;
+use engine_admission::Side;
+use engine_frames::{Setting, Setup};
 use machine::{Called, Run};
-use refusal::{Refusal, StateCause};
-use table_check::Layout;
+use refusal::StateCause;
+use table_check::Checked;
 
 // 21, then the steps, where 20, 11, 10 and 39 are not given.
 fn resume(
     table: &[u16],
-    at: Layout,
-    classes: [[u8; 16]; 8],
-    first: &[u16],
+    checked: &Checked,
+    upper: &[u8],
+    lower: &[u8],
     run: Run,
     stack: &mut [u32],
     allowance: u32,
-    upper: &[u8],
-    lower: &[u8],
     output: &mut [u8],
 ) -> Called
-    requires admitted { Admitted table.now run.task upper.now lower.now run.ceiling first.now }
-    requires at_value { (at ≡ layout_of (counts_in table.now)) × (classes ≡ (table_in table.now).classes) }
+    requires admitted { Admitted table.now run.task upper.now lower.now run.ceiling checked.now.first }
+    requires layout { checked.now.layout ≡ layout_of (counts_in table.now) }
     ensures { OutcomeIs (outcome table.now upper.now lower.now run stack.old allowance output.old)
         (told result.answer) result.run stack.new output.new }
 {
-    let initials = at.initials;
-    let terminals = at.terminals;
-    let arcs = at.arcs;
-    let end = at.end;
-    let task = run.task;
-    let setup = Setup {
-        states: at.states,
-        up: engine_admission::reads(task, Side::Upper),
-        low: engine_admission::reads(task, Side::Lower),
-        ceiling: run.ceiling,
+    let at = checked.layout;
+    let classes = table_classes::rows(table);
+    let setting = Setting {
+        setup: Setup {
+            states: at.states,
+            up: engine_admission::reads(run.task, Side::Upper),
+            low: engine_admission::reads(run.task, Side::Lower),
+            ceiling: run.ceiling,
+        },
+        classes: &classes,
+        first: &checked.first,
+        initials: at.initials(table),
+        terminals: at.terminals(table),
+        arcs: at.arcs(table),
+        upper,
+        lower,
     };
-    if !engine_place::place_holds(
-        setup,
-        &classes,
-        first,
-        &table[initials..terminals],
-        &table[arcs..end],
-        upper,
-        lower,
-        run,
-        stack,
-    ) {
-        return engine_search::refused(0, Refusal::State(StateCause::Place), run);
+    if !engine_place::place_holds(setting, run, stack) {
+        return engine_search::refused(0, StateCause::Place.into(), run);
     }
-    engine_search::take_steps(
-        setup,
-        &classes,
-        first,
-        &table[initials..terminals],
-        &table[terminals..arcs],
-        &table[arcs..end],
-        allowance,
-        run,
-        stack,
-        upper,
-        lower,
-        output,
-    )
+    engine_search::take_steps(setting, allowance, run, stack, output)
 }
 
 // The call for a reading: 20, 11, 10, 39, 21, then steps until the end, a reading, the allowance or a refusal.
@@ -85,26 +66,11 @@ pub fn advance(
     ensures { OutcomeIs (outcome table.now upper.now lower.now run stack.old allowance output.old)
         (told result.answer) result.run stack.new output.new }
 {
-    let checked = table_check::check(table);
-    let task = run.task;
-    let asking = engine_admission::asked(checked.ok, task, upper, lower, run.ceiling);
-    match asking {
-        Admission::Refused(refusal) => engine_search::refused(0, refusal, run),
-        Admission::Passes => {
-            let at = checked.layout;
-            let classes = table_classes::rows(table);
-            resume(
-                table,
-                at,
-                classes,
-                &checked.first,
-                run,
-                stack,
-                allowance,
-                upper,
-                lower,
-                output,
-            )
-        }
+    let Some(checked) = table_check::check(table) else {
+        return engine_search::refused(0, StateCause::LoadedTable.into(), run);
+    };
+    if let Err(cause) = engine_admission::admitted(run.task, upper, lower, run.ceiling) {
+        return engine_search::refused(0, cause.into(), run);
     }
+    resume(table, &checked, upper, lower, run, stack, allowance, output)
 }

@@ -2,41 +2,17 @@
 use Prim.Native.Nat.{ℕ, zero, suc, pred, ◌+◌, ◌-◌, ◌<◌, ◌≤◌}
 use native.Mathlib.Omega.{arith}
 use mathlib.Core.Path.{◌≡◌, refl, sym, ap, ap₂, subst, ◌∙◌}
-use mathlib.Core.Bool.{Bool, true, false, cond, ◌&&◌}
 use mathlib.Core.List.{List, [], ◌∷◌, ◌++◌, append_assoc, append-nil}
 use lib.ListN.{length, get_or, set, drop, length-append, length-drop}
-use lib.Dec.{ltb}
 use lib.Seq.{drop-cons, set_at}
-use borrow.Author.Tests.{lt-ltb, le-ltb}
 use Rattle.table_format.specs.declared.Arc as Held
-use Rattle.table_format.specs.Table.{Arc}
-use Rattle.table_format.specs.Classes.{first_class}
 use Rattle.table_format.specs.Cells.{arc_held, arc_of, arc_said}
-use Rattle.machine.specs.Query.{lower_side, upper_side, letter}
-use Rattle.machine.specs.Transducer.{Passed, next_letter}
 use Rattle.machine.specs.Stack.{look_at}
 use Rattle.engine_frames.specs.declared.Setup.{Setup}
 use Rattle.engine_frames.specs.declared.Frame.{Frame}
 use Rattle.engine_frames.specs.Frames.{frame_of}
-use Rattle.engine_frames.specs.Sides.{passed_of}
-use Rattle.engine_frames.specs.Output.{letter_in, side_by, written_letter, letter_at, letters_up_to, letters_by}
-use Rattle.engine_frames.proofs.Narrowing.{when_true, when_false}
-
--- The letter of the side that is written.
-
-module _ (s : Setup) (a : Arc) (x : ℕ) where
-  pub lower-written : s.up ≡ true → x ≡ a.lower → x ≡ letter (side_by s) a
-  lower-written u e = e ∙ ap (λ (b : Bool). letter (cond b lower_side upper_side) a) (sym u)
-
-  pub upper-written : s.up ≡ false → x ≡ a.upper → x ≡ letter (side_by s) a
-  upper-written u e = e ∙ ap (λ (b : Bool). letter (cond b lower_side upper_side) a) (sym u)
-
-  module _ (upper lower : List ℕ) (d : Passed) (e : x ≡ letter (side_by s) a) where
-    pub own-written : x < first_class → x ≡ written_letter s upper lower a d
-    own-written h = e ∙ when_true _ _ (ap (λ (y : ℕ). ltb y first_class) (sym e) ∙ lt-ltb x first_class h)
-
-    pub next-written : first_class ≤ x → next_letter s.up upper lower d ≡ written_letter s upper lower a d
-    next-written h = when_false _ _ (ap (λ (y : ℕ). ltb y first_class) (sym e) ∙ le-ltb x first_class h)
+use Rattle.engine_frames.specs.Sides.{passed_in}
+use Rattle.engine_frames.specs.Output.{letter_in, written_letter, letter_at, letters_up_to}
 
 -- what the buffer holds after n letters
 abbrev pub Filled : List ℕ → List ℕ → ℕ → List ℕ → Type 0
@@ -83,10 +59,6 @@ module _ (s : Setup) (arcs upper lower stack buffer : List ℕ) where
       more : up_to (i + 1) ≡ up_to i ++ (suc x ∷ [])
       more = one_more_lem i ∙ ap (λ (y : ℕ). up_to i ++ letter_in y) e
 
-  pub filled-all : (i n k : ℕ) (out : List ℕ) → i ≡ n → Filled (up_to i) buffer k out → out ≡ up_to n ++ drop (length (up_to n)) buffer
-  filled-all i n k out e F =
-      F.1 ∙ ap (λ (m : ℕ). up_to i ++ drop m buffer) F.0 ∙ ap (λ (j : ℕ). up_to j ++ drop (length (up_to j)) buffer) e
-
   pub filled-length : (i n k : ℕ) (out : List ℕ) → i ≤ n → length (up_to n) ≤ length buffer → Filled (up_to i) buffer k out → length out ≡ length buffer
   filled-length i n k out h m F =
       ap length F.1 ∙ length-append (up_to i) (drop k buffer) ∙ omega (arith, F.0, length-drop k buffer, up_to-grows i n h)
@@ -98,24 +70,10 @@ module _ (s : Setup) (arcs upper lower stack buffer : List ℕ) where
       omega (arith, F.0, up_to-grows (i + 1) n (omega arith), ap length (one_more_lem i ∙ ap (λ (y : ℕ). up_to i ++ letter_in y) e), length-append (up_to i) (suc x ∷ []))
 
   -- the letter of the frame and the arc that were looked at
-  pub letter_of_lem : (i x : ℕ) (f : Frame) (r : Held.Arc) → f ≡ frame_of (look_at stack i) → r ≡ arc_held (arc_of arcs (f.next - 1)) → x ≡ written_letter s upper lower (arc_said r) (passed_of f.up f.low)
+  pub letter_of_lem : (i x : ℕ) (f : Frame) (r : Held.Arc) → f ≡ frame_of (look_at stack i) → r ≡ arc_held (arc_of arcs (f.next - 1)) → x ≡ written_letter s upper lower (arc_said r) (passed_in f.passed)
       → letter_at s arcs upper lower stack i ≡ x
   letter_of_lem i x f r E A h =
-      ap (λ (g : Frame). written_letter s upper lower (arc_of arcs (pred g.next)) (passed_of g.up g.low)) (sym E)
-      ∙ ap (λ (m : ℕ). written_letter s upper lower (arc_of arcs m) (passed_of f.up f.low)) (let z : pred f.next ≡ f.next - 1 = omega arith in z)
-      ∙ ap (λ (y : Held.Arc). written_letter s upper lower (arc_said y) (passed_of f.up f.low)) (sym A)
+      ap (λ (g : Frame). written_letter s upper lower (arc_of arcs (pred g.next)) (passed_in g.passed)) (sym E)
+      ∙ ap (λ (m : ℕ). written_letter s upper lower (arc_of arcs m) (passed_in f.passed)) (let z : pred f.next ≡ f.next - 1 = omega arith in z)
+      ∙ ap (λ (y : Held.Arc). written_letter s upper lower (arc_said y) (passed_in f.passed)) (sym A)
       ∙ sym h
-
--- The output by the flags.
-
-pub letters-some : (s : Setup) (arcs upper lower stack : List ℕ) (d : ℕ) → (length (letters_by s arcs upper lower stack d) ≡ 0 → ⊥)
-    → letters_by s arcs upper lower stack d ≡ letters_up_to s arcs upper lower stack d
-letters-some s arcs upper lower stack d h = go (s.up && s.low) h
-  where
-    go : (b : Bool) → (length (cond b [] (letters_up_to s arcs upper lower stack d)) ≡ 0 → ⊥) → cond b [] (letters_up_to s arcs upper lower stack d) ≡ letters_up_to s arcs upper lower stack d
-    go true h = absurd (h refl)
-    go false h = refl
-
-pub none-stored : (l buffer : List ℕ) → length l ≡ 0 → buffer ≡ l ++ drop (length l) buffer
-none-stored [] buffer e = refl
-none-stored (x ∷ l) buffer e = absurd (omega arith)

@@ -7,34 +7,13 @@ use mathlib.Core.Option.{Option, none, some}
 use mathlib.Core.List.{List}
 use lib.Dec.{eqb}
 use lib.ListN.{get_or}
-use borrow.Author.Tests.{eq-eqb, ne_eqb}
+use borrow.Author.Tests.{eq-eqb}
 use Rattle.table_format.specs.Table.{Arc}
 use Rattle.table_format.specs.Classes.{is_plain, row_of, with_letter}
 use Rattle.machine.specs.Machine.{bind, somewhen}
 use Rattle.machine.specs.Transducer.{side_follow, Passed, both, next_letter, in_row, class_arc}
 use Rattle.engine_frames.specs.declared.Setup.{Setup}
 use Rattle.engine_frames.specs.Sides.{passed_of, follow_by, follow_in, class_fits}
-
-pub when_true : {A : Type 0} {b : Bool} (x y : A) → b ≡ true → x ≡ cond b x y
-when_true x y e = ap (λ (b : Bool). cond b x y) (sym e)
-
-pub when_false : {A : Type 0} {b : Bool} (x y : A) → b ≡ false → y ≡ cond b x y
-when_false x y e = ap (λ (b : Bool). cond b x y) (sym e)
-
--- Whether an arc of a class fits, test by test.
-
-module _ (up low : Bool) (x y : ℕ) (i j : Bool) where
-  pub letters-differ : up ≡ true → low ≡ true → (y ≡ x → ⊥) → false ≡ cond up (cond low (eqb y x) true && i) j
-  letters-differ u l d = rw (u, l, ne_eqb y x d)
-
-  pub letters_agree : up ≡ true → low ≡ true → y ≡ x → i ≡ cond up (cond low (eqb y x) true && i) j
-  letters_agree u l e = rw (u, l, eq-eqb y x e)
-
-  pub upper_alone_lem : up ≡ true → low ≡ false → i ≡ cond up (cond low (eqb y x) true && i) j
-  upper_alone_lem u l = rw (u, l)
-
-  pub lower_alone_lem : up ≡ false → j ≡ cond up (cond low (eqb y x) true && i) j
-  lower_alone_lem u = rw u
 
 -- What an arc of a class comes to.
 

@@ -1,5 +1,7 @@
 -- What the code of the side rules answers, in the terms of Transducer, where a flag says whether a side is read.
 use Rattle.std.specs.Prelude.{ℕ, ◌+◌, Bool, true, cond, ◌&&◌, List, eqb, leb}
+use Rattle.std.specs.Prelude as Code
+use Rattle.std.specs.Prelude.{Some, None}
 use Rattle.std.proofs.Math.Option.{Option, none, some}
 use Rattle.table_format.specs.Table.{Arc}
 use Rattle.table_format.specs.Classes.{row_of}
@@ -7,24 +9,25 @@ use Rattle.machine.specs.Query.{Side, upper_side, lower_side}
 use Rattle.machine.specs.Machine.{bind, somewhen}
 use Rattle.machine.specs.Transducer.{side_follow, side_done, side_written, Passed, both, next_letter, in_row, plain_by}
 use Rattle.engine_frames.specs.declared.Setup.{Setup}
-use Rattle.engine_frames.specs.declared.Count.{Count}
-use Rattle.engine_frames.specs.declared.Count.TheVariants.{Passes, Stops}
-use Rattle.engine_frames.specs.declared.Fit.{Fit}
-use Rattle.engine_frames.specs.declared.Fit.TheVariants.{Fits, Fails}
+use Rattle.engine_frames.specs.declared.Passed as Counts
 
 -- a side's count, or the sum, after an arc, if the arc fits there
-abbrev pub count_of : Option ℕ → Count
-count_of none = Stops
-count_of (some n) = Passes n
+abbrev pub count_of : Option ℕ → Code.Option ℕ
+count_of none = None
+count_of (some n) = Some n
 
 -- both counts after an arc, if it fits
-abbrev pub fit_of : Option Passed → Fit
-fit_of none = Fails
-fit_of (some d) = Fits d.up d.low
+abbrev pub fit_of : Option Passed → Code.Option Counts.Passed
+fit_of none = None
+fit_of (some d) = Some (record { up = d.up; low = d.low })
 
 -- what was passed on each side
 abbrev pub passed_of : ℕ → ℕ → Passed
 passed_of u l = record { up = u; low = l }
+
+-- as the code holds it
+abbrev pub passed_in : Counts.Passed → Passed
+passed_in p = passed_of p.up p.low
 
 -- of two things, the upper and the lower side's, that of a side
 abbrev pub by_side : {A : Type 0} → A → A → Side → A

@@ -4,7 +4,7 @@ ghost use Rattle.machine.specs.Step.{tried_of};
 ghost use Rattle.machine.specs.Stack.{frames_in, look_at, put_at};
 ghost use Rattle.engine_frames.specs.Frames.{frame_of, frame_as};
 
-use crate::Frame;
+use crate::{Frame, Passed};
 use machine::FRAME_WIDTH;
 
 // How many frames a stack has.
@@ -23,8 +23,10 @@ pub fn look(stack: &[u32], i: usize) -> Frame
     Frame {
         state: stack[at],
         next: stack[at + 1],
-        up: stack[at + 2],
-        low: stack[at + 3],
+        passed: Passed {
+            up: stack[at + 2],
+            low: stack[at + 3],
+        },
         sum: stack[at + 4],
     }
 }
@@ -37,8 +39,8 @@ pub fn put(stack: &mut [u32], i: usize, f: Frame)
     let at = i * FRAME_WIDTH;
     stack[at] = f.state;
     stack[at + 1] = f.next;
-    stack[at + 2] = f.up;
-    stack[at + 3] = f.low;
+    stack[at + 2] = f.passed.up;
+    stack[at + 3] = f.passed.low;
     stack[at + 4] = f.sum;
 }
 
@@ -49,5 +51,5 @@ pub fn count_tried(stack: &mut [u32], i: usize)
     ensures { stack.new ≡ put_at stack.old i (tried_of (look_at stack.old i)) }
 {
     let at = i * FRAME_WIDTH + 1;
-    stack[at] = stack[at] + 1;
+    stack[at] += 1;
 }

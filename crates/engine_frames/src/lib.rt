@@ -14,26 +14,31 @@ pub struct Setup {
     pub ceiling: u32,
 }
 
-// A frame: its state, its next arc, the letters passed on each side, and the sum of the penalties on its path.
+// A frame: its state, its next arc, the letters passed, and the sum of the penalties on its path.
 #[derive(Clone, Copy)]
 pub struct Frame {
     pub state: u32,
     pub next: u32,
-    pub up: u32,
-    pub low: u32,
+    pub passed: Passed,
     pub sum: u32,
 }
 
-// What an arc makes of one side's count, or of the sum, if it fits there.
+// How many letters were passed on each side.
 #[derive(Clone, Copy)]
-pub enum Count {
-    Passes(u32),
-    Stops,
+pub struct Passed {
+    pub up: u32,
+    pub low: u32,
 }
 
-// What an arc makes of both counts, if it fits.
+// What a search goes by: its setup, the classes, the first-arc index and the lists of its table, and the words.
 #[derive(Clone, Copy)]
-pub enum Fit {
-    Fits(u32, u32),
-    Fails,
+pub struct Setting<'a> {
+    pub setup: Setup,
+    pub classes: &'a [[u8; 16]; 8],
+    pub first: &'a [u16],
+    pub initials: &'a [u16],
+    pub terminals: &'a [u16],
+    pub arcs: &'a [u16],
+    pub upper: &'a [u8],
+    pub lower: &'a [u8],
 }

@@ -1,78 +1,60 @@
 // What an arc makes of a side, and of both; and whether a frame's path accepts. The side is a parameter.
 ghost use Rattle.std.specs.Prelude.{◌≡◌, true, ◌&&◌, ◌||◌, ◌-◌, ◌<◌, ◌≤◌, get_or};
+ghost use Rattle.table_format.specs.Rules.{any};
 ghost use Rattle.table_format.specs.Classes.{first_class, row_of};
 ghost use Rattle.table_format.specs.Cells.{arc_said};
 ghost use Rattle.machine.specs.Query.{most_ceiling};
 ghost use Rattle.machine.specs.Transducer.{member, side_follow, side_done, in_row};
-ghost use Rattle.engine_frames.specs.Sides.{count_of, fit_of, passed_of, follow_by, class_fits, summed, done_by, written_of};
+ghost use Rattle.engine_frames.specs.Sides.{count_of, fit_of, passed_in, follow_by, class_fits, summed, done_by, written_of};
 
-use crate::{Count, Fit, Setup};
+use crate::{Passed, Setting, Setup};
 use table_format::{Arc, FIRST_CLASS};
 
-// A letter on a side that is read (or written) after n letters.
-pub fn follow_side(read: bool, word: &[u8], letter: u16, n: u32) -> Count
+// A letter on a side that is read (or written) after n letters: the count after it, if it fits.
+pub fn follow_side(read: bool, word: &[u8], letter: u16, n: u32) -> Option<u32>
     requires { n < 4294967295 }
     ensures { result ≡ count_of (side_follow read word.now letter n) }
 {
     if letter == 0 {
-        return Count::Passes(n);
+        Some(n)
+    } else if !read || u16::from(letter_after(word, n)) == letter {
+        Some(n + 1)
+    } else {
+        None
     }
-    if !read {
-        return Count::Passes(n + 1);
-    }
-    let at = n as usize;
-    if at < word.len() {
-        if word[at] as u16 == letter {
-            return Count::Passes(n + 1);
-        }
-    }
-    Count::Stops
 }
 
-// An arc by the rules of the sides, after so many letters on each.
-pub fn follow(setup: Setup, arc: Arc, upper: &[u8], lower: &[u8], up: u32, low: u32) -> Fit
-    requires { (up < 4294967295) × (low < 4294967295) }
-    ensures { result ≡ fit_of (follow_by setup upper.now lower.now (arc_said arc) (passed_of up low)) }
+// An arc by the rules of the sides, after what was passed. By its parts, as `class_fits`.
+pub fn follow(setup: Setup, arc: Arc, upper: &[u8], lower: &[u8], passed: Passed) -> Option<Passed>
+    requires { (passed.up < 4294967295) × (passed.low < 4294967295) }
+    ensures { result ≡ fit_of (follow_by setup upper.now lower.now (arc_said arc) (passed_in passed)) }
 {
-    let Count::Passes(u) = follow_side(setup.up, upper, arc.upper, up) else {
-        return Fit::Fails;
-    };
-    let Count::Passes(l) = follow_side(setup.low, lower, arc.lower, low) else {
-        return Fit::Fails;
-    };
-    Fit::Fits(u, l)
+    let up = follow_side(setup.up, upper, arc.upper, passed.up)?;
+    let low = follow_side(setup.low, lower, arc.lower, passed.low)?;
+    Some(Passed { up, low })
 }
 
 // The letter of a word after n letters, 0 at its end.
 pub fn letter_after(word: &[u8], n: u32) -> u8
     ensures { result ≡ get_or word.now n 0 }
 {
-    let at = n as usize;
-    if at < word.len() { word[at] } else { 0 }
+    word.get(n as usize).copied().unwrap_or(0)
 }
 
 // The class that a letter of an arc means.
 fn class_of(letter: u16) -> usize
     ensures { result ≡ letter - first_class }
 {
-    if letter < FIRST_CLASS {
-        0
-    } else {
-        widen::cell_as_index(letter - FIRST_CLASS)
-    }
+    usize::from(letter.saturating_sub(FIRST_CLASS))
 }
 
-// A letter is in a row. The loop goes through the whole row, so that all are compared at once.
-fn is_listed(row: &[u8], x: u8) -> bool
-    ensures { result ≡ member x row.now }
+// Whether a list has an item. The loop goes through the whole list, so that several items are compared at once.
+pub fn is_member<T: Copy + PartialEq>(list: &[T], x: T) -> bool
+    ensures { result ≡ any (λ y. T.eq y x) list.now }
 {
     let mut found = false;
-    let mut k = 0;
-    while k < row.len() {
-        if row[k] == x {
-            found = true;
-        }
-        k += 1;
+    for y in list {
+        found |= *y == x;
     }
     found
 }
@@ -81,14 +63,8 @@ fn is_listed(row: &[u8], x: u8) -> bool
 fn in_class(classes: &[[u8; 16]], letter: u16, x: u8) -> bool
     ensures { result ≡ in_row x (row_of classes.now letter) }
 {
-    if x == 0 {
-        return false;
-    }
     let class = class_of(letter);
-    if classes.len() <= class {
-        return false;
-    }
-    is_listed(&classes[class], x)
+    x != 0 && class < classes.len() && is_member(&classes[class], x)
 }
 
 // Whether an arc of a class fits, where x is the upper word's next letter and y the lower word's: that of every word that is read is one letter
@@ -99,24 +75,19 @@ pub fn class_fits(setup: Setup, classes: &[[u8; 16]; 8], letter: u16, x: u8, y: 
     if !setup.up {
         return in_class(classes, letter, y);
     }
-    if setup.low {
-        if y != x {
-            return false;
-        }
-    }
-    in_class(classes, letter, x)
+    (!setup.low || y == x) && in_class(classes, letter, x)
 }
 
 // A sum with an arc's penalty added, if it stays within the ceiling.
-pub fn add(ceiling: u32, sum: u32, penalty: u16) -> Count
+pub fn add(ceiling: u32, sum: u32, penalty: u16) -> Option<u32>
     requires { sum ≤ most_ceiling }
     ensures { result ≡ count_of (summed ceiling sum penalty) }
 {
-    let lifted = sum + widen::cell_as_count(penalty);
+    let lifted = sum + u32::from(penalty);
     if lifted <= ceiling {
-        Count::Passes(lifted)
+        Some(lifted)
     } else {
-        Count::Stops
+        None
     }
 }
 
@@ -130,52 +101,33 @@ pub fn is_done(read: bool, word: &[u8], n: u32) -> bool
     n as usize == word.len()
 }
 
-// A state is in a list. The loop goes through the whole list, so that several are compared at once.
-pub fn is_member(list: &[u16], state: u16) -> bool
-    ensures { result ≡ member state list.now }
-{
-    let mut found = false;
-    let mut k = 0;
-    while k < list.len() {
-        if list[k] == state {
-            found = true;
+impl Setting<'_> {
+    // A frame's path accepts. The terminal states are searched only where every given word is read to its end.
+    pub fn accepts(self, state: u16, passed: Passed) -> bool
+        ensures { result ≡ (member state self.entry.terminals.now && done_by self.entry.setup self.entry.upper.now self.entry.lower.now (passed_in passed)) }
+    {
+        if !is_done(self.setup.up, self.upper, passed.up) {
+            return false;
         }
-        k += 1;
+        if !is_done(self.setup.low, self.lower, passed.low) {
+            return false;
+        }
+        is_member(self.terminals, state)
     }
-    found
 }
 
-// A frame's path accepts. The terminal states are searched only where every given word is read to its end.
-pub fn accepts(
-    setup: Setup,
-    terminals: &[u16],
-    upper: &[u8],
-    lower: &[u8],
-    state: u16,
-    up: u32,
-    low: u32,
-) -> bool
-    ensures { result ≡ (member state terminals.now && done_by setup upper.now lower.now (passed_of up low)) }
-{
-    if !is_done(setup.up, upper, up) {
-        return false;
+impl Setup {
+    // How many letters of the output were written: what was passed on the side that is not read.
+    pub fn written(self, passed: Passed) -> u32
+        requires { (self.up || self.low) ≡ true }
+        ensures { result ≡ written_of self (passed_in passed) }
+    {
+        if !self.up {
+            passed.up
+        } else if !self.low {
+            passed.low
+        } else {
+            0
+        }
     }
-    if !is_done(setup.low, lower, low) {
-        return false;
-    }
-    is_member(terminals, state)
-}
-
-// How many letters of the output were written: what was passed on the side that is not read.
-pub fn written(setup: Setup, up: u32, low: u32) -> u32
-    requires { (setup.up || setup.low) ≡ true }
-    ensures { result ≡ written_of setup (passed_of up low) }
-{
-    if !setup.up {
-        return up;
-    }
-    if !setup.low {
-        return low;
-    }
-    0
 }

@@ -1,4 +1,4 @@
--- Laws of letters that pass nothing, of a table's arcs as edges, and the graph of a table.
-pub mod Letters
+-- Laws of a table's arcs as edges, and the graph of a table.
 pub mod Edges
 pub mod OfTable
+pub mod Targets

@@ -1,5 +1,5 @@
 -- A table's arcs, in their cells, as a graph on its states; upper and lower tell whether a side is read.
-use Rattle.std.specs.Prelude.{ℕ, ◌+◌, ◌<◌, ◌≤◌, ◌≡◌, Bool, ◌&&◌, List, length, get_or}
+use Rattle.std.specs.Prelude.{ℕ, ◌+◌, ◌<◌, ◌≤◌, ◌≡◌, Bool, cond, ◌&&◌, List, length, get_or, Option, Some, None}
 use Rattle.table_format.specs.Table.{Arc}
 use Rattle.table_format.specs.Cells.{arc_count, arc_of, arcs_as}
 use Rattle.machine.specs.Idle.{side_idle, Leads}
@@ -16,6 +16,10 @@ pub record Graph (arcs first : List ℕ) (states : ℕ) : Type 0 where
 -- an arc is idle; where no side is read, every arc is
 abbrev pub idle_by : Bool → Bool → Arc → Bool
 idle_by upper lower a = side_idle upper a.upper && side_idle lower a.lower
+
+-- the target of an arc that is idle
+abbrev pub idle_target : Bool → Bool → Arc → Option ℕ
+idle_target upper lower a = cond (idle_by upper lower a) (Some a.target) None
 
 -- an idle arc leads from s to r
 abbrev pub IdleEdge : List ℕ → Bool → Bool → ℕ → ℕ → Type 0

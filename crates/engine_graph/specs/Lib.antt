@@ -1,2 +1,3 @@
 -- A table's arcs as a graph.
 pub mod Graph
+pub mod Edge

@@ -1,12 +1,13 @@
--- Laws of the search: states that are left, the lowest that is looped, the cycle through it, and the cells at first.
-use Prim.Native.Nat.{ℕ, zero, suc, ◌+◌, ◌<◌, ◌≤◌}
+-- Laws of the search: states that are left, the lowest that is looped, the cycle through it, and the states at first.
+use Prim.Native.Nat.{ℕ, ◌+◌, ◌<◌, ◌≤◌}
 use native.Mathlib.Omega.{arith}
-use mathlib.Core.Path.{◌≡◌, refl, sym, ◌∙◌}
+use mathlib.Core.Path.{◌≡◌, refl, sym, ap, subst, ◌∙◌}
 use mathlib.Core.Logic.{⊎_elim, ◌↔◌}
 use mathlib.Core.Bool.{Bool, true, false, true≢false}
-use mathlib.Core.List.{List, []}
-use lib.ListN.{length, get_or, take, replicate, length-replicate, get_or-replicate}
-use lib.Seq.{get_or-take, length-take-le}
+use mathlib.Core.List.{List}
+use lib.ListN.{take, replicate, get_or-replicate}
+use lib.Seq.{get_or-take}
+use Rattle.std.specs.Prelude.{Option, Some, None}
 use Rattle.table_format.specs.Cells.{arcs_as}
 use Rattle.graph.specs.Lists.{AllBelow}
 use Rattle.graph.specs.Walk.{Walk}
@@ -15,91 +16,77 @@ use Rattle.graph.proofs.Walk.{walk-below}
 use Rattle.graph.proofs.Shown as shown
 use Rattle.machine.specs.Idle.{leads_by, always, AnyArc}
 use Rattle.machine.proofs.Idle.{tells}
-use Rattle.engine_graph.specs.Graph.{Graph, idle_by, IdleEdge}
+use Rattle.engine_graph.specs.declared.IdleGraph.{IdleGraph}
+use Rattle.engine_graph.specs.Graph.{idle_by}
+use Rattle.engine_graph.specs.Edge.{EdgeIn}
 use Rattle.engine_graph.proofs.Edges.{among}
-use Rattle.engine_reach.specs.Reach.{Unmarked, ReachedBy, ReachedCells}
+use Rattle.engine_graph.proofs.Targets.{some-same, none-some, edges_among}
+use Rattle.engine_reach.specs.Reach.{ReachedBy, ReachedCells}
 use Rattle.engine_peel.specs.Peel.{Cyclic, Settled}
-use Rattle.engine_cycle.specs.Numbers.{cycle_through}
-use Rattle.engine_idle.specs.Found.{AllAlive, NoneLeft, LoopedAt, LowestLooped, shown_in}
-
--- NONE IS LEFT: those below s are not.
-
-pub left-none : (alive : List ℕ) (s : ℕ) → length alive ≤ s → ((i : ℕ) → i < s → get_or alive i 0 ≡ 1 → ⊥) → NoneLeft alive true
-left-none alive s h f = record { none_alive = λ e i k. f i (omega arith); one_alive = λ e. absurd (true≢false e) }
-
-pub left_one : (alive : List ℕ) (s : ℕ) → s < length alive → get_or alive s 0 ≡ 1 → NoneLeft alive false
-left_one alive s h a = record { none_alive = λ e. absurd (true≢false (sym e)); one_alive = λ e. (s, h, a) }
+use Rattle.engine_cycle.specs.Numbers.{cycle_cells, cycle_through}
+use Rattle.engine_idle.specs.Found.{NoneLeft, LoopedAt, LowestLooped, cycle_of, shown_in}
 
 -- THE LOWEST THAT IS LOOPED.
 
-module _ (arcs : List ℕ) (upper lower : Bool) (reached : List ℕ) where
-  pub looped-more : (s : ℕ) (b : Bool) → (b ≡ true) ↔ LoopedAt arcs upper lower reached s → b ≡ false → ((i : ℕ) → i < s → LoopedAt arcs upper lower reached i → ⊥) → (i : ℕ) → i < s + 1 → LoopedAt arcs upper lower reached i → ⊥
-  looped-more s b B e f = below_more (λ (i : ℕ). LoopedAt arcs upper lower reached i → ⊥) s f (λ L. true≢false (sym (B.1 L) ∙ e))
+module _ (g : IdleGraph) (reached : List Bool) where
+  pub looped-more : (s : ℕ) (b : Bool) → (b ≡ true) ↔ LoopedAt g reached s → b ≡ false → ((i : ℕ) → i < s → LoopedAt g reached i → ⊥) → (i : ℕ) → i < s + 1 → LoopedAt g reached i → ⊥
+  looped-more s b B e f = below_more (λ (i : ℕ). LoopedAt g reached i → ⊥) s f (λ L. true≢false (sym (B.1 L) ∙ e))
 
-  pub lowest-found : (s : ℕ) → s < length reached → LoopedAt arcs upper lower reached s → ((i : ℕ) → i < s → LoopedAt arcs upper lower reached i → ⊥) → LowestLooped arcs upper lower reached s
-  lowest-found s h L f = record { within = omega arith; looped = λ k. L; none_before = f }
+  pub lowest-found : (s : ℕ) → s < g.states → LoopedAt g reached s → ((i : ℕ) → i < s → LoopedAt g reached i → ⊥) → LowestLooped g reached (Some s)
+  lowest-found s h L f =
+      record {
+        looped = λ r e. subst (λ (x : ℕ). (x < g.states) × LoopedAt g reached x × ((i : ℕ) → i < x → LoopedAt g reached i → ⊥)) (some-same e) (h, L, f);
+        none_looped = λ e. absurd (none-some (sym e));
+      }
 
-  pub lowest-none : (s : ℕ) → length reached ≤ s → s ≤ length reached → ((i : ℕ) → i < s → LoopedAt arcs upper lower reached i → ⊥) → LowestLooped arcs upper lower reached s
-  lowest-none s h k f = record { within = k; looped = λ j. absurd (omega arith); none_before = f }
+  pub lowest-none : (s : ℕ) → g.states ≤ s → ((i : ℕ) → i < s → LoopedAt g reached i → ⊥) → LowestLooped g reached None
+  lowest-none s h f = record { looped = λ r e. absurd (none-some e); none_looped = λ e i k. f i (omega arith) }
 
 -- WHAT IS SHOWN, where all states live at first and the rounds leave some.
 
-module _ (arcs initials : List ℕ) (upper lower : Bool) (first before after : List ℕ) (G : Graph arcs first (length before)) (B : AllBelow (length before) initials) (A : AllAlive before) (S : Settled arcs upper lower before after) where
+module _ (g : IdleGraph) (initials : List ℕ) (after : List Bool) (B : AllBelow g.states initials) (S : Settled g (take g.states (replicate 256 true)) after) where
   -- a state on a cycle is a state
-  below : (s : ℕ) → Walk (IdleEdge arcs upper lower) s s → s < length before
-  below s w = walk-below (IdleEdge arcs upper lower) (length before) (among arcs (idle_by upper lower) first (length before) G) s s w
+  below : (s : ℕ) → Walk (EdgeIn g) s s → s < g.states
+  below s w = walk-below (EdgeIn g) g.states (edges_among g) s s w
 
   -- and is left
-  pub cycles_left : Cyclic arcs upper lower after
-  cycles_left = S.keeps (λ s w. A s (below s w))
+  pub cycles_left : Cyclic g after
+  cycles_left = S.keeps (λ s w. get_or-take g.states (replicate 256 true) s false (below s w) ∙ get_or-replicate 256 s true false (omega (arith, below s w, g.graph.few)))
 
-  tested : shown.Tested (AnyArc (arcs_as arcs)) (IdleEdge arcs upper lower) (leads_by (arcs_as arcs) always) (leads_by (arcs_as arcs) (idle_by upper lower)) (length before) initials
+  tested : shown.Tested (AnyArc (arcs_as g.arcs.now)) (EdgeIn g) (leads_by (arcs_as g.arcs.now) always) (leads_by (arcs_as g.arcs.now) (idle_by g.upper g.lower)) g.states initials
   tested =
       record {
-        reach_told = tells (arcs_as arcs) always;
-        cycle-told = tells (arcs_as arcs) (idle_by upper lower);
-        reach_among = among arcs always first (length before) G;
-        cycle-among = among arcs (idle_by upper lower) first (length before) G;
+        reach_told = tells (arcs_as g.arcs.now) always;
+        cycle-told = tells (arcs_as g.arcs.now) (idle_by g.upper g.lower);
+        reach_among = among g.arcs.now always g.first.now g.states g.graph;
+        cycle-among = edges_among g;
         starts-below = B;
       }
 
   -- none is left: there is no cycle
-  pub none_left : NoneLeft after true → shown_in arcs initials (length before) upper lower ≡ []
-  none_left N = shown.shown-none tested (λ s R w. N.none_alive refl s (omega (arith, below s w, S.same_length)) (cycles_left s w))
+  pub none_left : NoneLeft after true → None ≡ cycle_of (shown_in g initials)
+  none_left N =
+      ap cycle_of (sym (shown.shown-none tested (λ s R w. N.none_alive refl s (cycles_left s w))))
 
-  module _ (reached : List ℕ) (l : length reached ≡ length before) (M : ReachedCells arcs initials reached) (r : ℕ) (L : LowestLooped arcs upper lower reached r) where
-    looped-at : (s : ℕ) → ReachedBy arcs initials s → Walk (IdleEdge arcs upper lower) s s → LoopedAt arcs upper lower reached s
+  module _ (reached : List Bool) (M : ReachedCells g.arcs.now initials reached) (o : Option ℕ) (L : LowestLooped g reached o) where
+    looped-at : (s : ℕ) → ReachedBy g.arcs.now initials s → Walk (EdgeIn g) s s → LoopedAt g reached s
     looped-at s R w = (⊎_elim (λ y. y.0) (λ n. absurd (n.1 R)) (M s), w)
 
     -- no state is reached and on a cycle: none is shown
-    pub none-reached : length after ≤ r → shown_in arcs initials (length before) upper lower ≡ []
-    none-reached h = shown.shown-none tested (λ s R w. L.none_before s (omega (arith, below s w, S.same_length)) (looped-at s R w))
+    pub none-reached : o ≡ None → None ≡ cycle_of (shown_in g initials)
+    none-reached e = ap cycle_of (sym (shown.shown-none tested (λ s R w. L.none_looped e s (below s w) (looped-at s R w))))
 
     -- one is: the cycle through the lowest
-    module _ (h : r < length after) where
-      looped-here : LoopedAt arcs upper lower reached r
-      looped-here = L.looped (omega (arith, S.same_length))
+    module _ (r : ℕ) (e : o ≡ Some r) where
+      pub lowest-state : r < g.states
+      lowest-state = (L.looped r e).0
 
-      pub on_cycle_lem : Walk (IdleEdge arcs upper lower) r r
-      on_cycle_lem = looped-here.1
+      pub on_cycle_lem : Walk (EdgeIn g) r r
+      on_cycle_lem = (L.looped r e).1.1
 
-      pub one-reached : shown_in arcs initials (length before) upper lower ≡ cycle_through arcs upper lower (length before) r
+      pub one-reached : Some (cycle_cells (cycle_through g r)) ≡ cycle_of (shown_in g initials)
       one-reached =
-          shown.shown-through tested r here on_cycle_lem (λ s R w. ⊎_elim (λ k. k) (λ k. absurd (L.none_before s k (looped-at s R w))) (most? r s))
+          ap cycle_of (sym (shown.shown-through tested r here on_cycle_lem (λ s R w. ⊎_elim (λ k. k) (λ k. absurd ((L.looped r e).2 s k (looped-at s R w))) (most? r s))))
         where
-          here : ReachedBy arcs initials r
-          here = ⊎_elim (λ y. y.1) (λ n. absurd (let y = n.0 in let z = looped-here.0 in omega arith)) (M r)
-
--- THE CELLS AT FIRST, one a state.
-
-pub first-cells : (x states : ℕ) → states ≤ 256 → length (take states (replicate 256 x)) ≡ states
-first-cells x states h = length-take-le states (replicate 256 x) (omega (arith, length-replicate {A = ℕ} 256 x))
-
-pub all_alive_lem : (states : ℕ) → states ≤ 256 → AllAlive (take states (replicate 256 1))
-all_alive_lem states h s k = let l = first-cells 1 states h in get_or-take states (replicate 256 1) s 0 (omega arith) ∙ get_or-replicate 256 s 1 0 (omega arith)
-
-pub none-marked : (states n : ℕ) → Unmarked (take states (replicate n 0))
-none-marked zero n s = refl
-none-marked (suc k) zero s = refl
-none-marked (suc k) (suc n) zero = refl
-none-marked (suc k) (suc n) (suc s) = none-marked k n s
+          here : ReachedBy g.arcs.now initials r
+          here = ⊎_elim (λ y. y.1) (λ n. absurd (true≢false (sym (L.looped r e).1.0 ∙ n.0))) (M r)

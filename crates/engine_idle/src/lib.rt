@@ -3,141 +3,58 @@
 // (engine_cycle).
 #![tactic(auto)]
 
-ghost use Rattle.std.specs.Prelude.{◌≡◌, ◌↔◌, true, [], ◌<◌, length};
+ghost use Rattle.std.specs.Prelude.{◌≡◌, ◌↔◌, true, ◌<◌, length};
 ghost use Rattle.graph.specs.Lists.{AllBelow};
-ghost use Rattle.engine_graph.specs.Graph.{Graph};
-ghost use Rattle.engine_reach.specs.Reach.{Unmarked};
 ghost use Rattle.engine_peel.specs.Peel.{Cyclic};
-ghost use Rattle.engine_cycle.specs.Numbers.{cycle_cells};
-ghost use Rattle.engine_idle.specs.Found.{AllAlive, NoneLeft, LoopedAt, LowestLooped, shown_in};
+ghost use Rattle.engine_idle.specs.Found.{NoneLeft, LoopedAt, LowestLooped, cycle_of, shown_in};
 
 use engine_cycle::Cycle;
+use engine_graph::IdleGraph;
 
 // No state is left.
-fn none_left(alive: &[u8]) -> bool
+fn none_left(alive: &[bool]) -> bool
     ensures { NoneLeft alive.now result }
 {
-    let mut q = 0;
-    while q < alive.len() {
-        if alive[q] == 1 {
-            return false;
-        }
-        q += 1;
-    }
-    true
+    !alive.contains(&true)
 }
 
 // A state is reached and on an idle cycle. Every state on one is alive.
-fn looped(
-    arcs: &[u16],
-    first: &[u16],
-    s: usize,
-    upper: bool,
-    lower: bool,
-    alive: &[u8],
-    reached: &[u8],
-) -> bool
-    requires graph { Graph arcs.now first.now (length alive.now) }
-    requires s_in_bounds { s < length alive.now }
-    requires reached_len { length reached.now ≡ length alive.now }
-    requires cyclic { Cyclic arcs.now upper lower alive.now }
-    ensures { (result ≡ true) ↔ LoopedAt arcs.now upper lower reached.now s }
+fn looped(graph: &IdleGraph<'_>, s: usize, alive: &[bool], reached: &[bool; 256]) -> bool
+    requires states { length alive.now ≡ graph.now.states }
+    requires s_in_bounds { s < graph.now.states }
+    requires cyclic { Cyclic graph.now alive.now }
+    ensures { (result ≡ true) ↔ LoopedAt graph.now reached.now s }
 {
-    if alive[s] == 1 {
-        if reached[s] == 1 {
-            let mut cells = [0u8; 256];
-            return engine_reach::returns(arcs, first, s, upper, lower, &mut cells[..alive.len()]);
+    alive[s] && reached[s] && engine_reach::returns(graph, s)
+}
+
+// The lowest state that is reached and on an idle cycle.
+fn lowest(graph: &IdleGraph<'_>, alive: &[bool], reached: &[bool; 256]) -> Option<usize>
+    requires states { length alive.now ≡ graph.now.states }
+    requires cyclic { Cyclic graph.now alive.now }
+    ensures { LowestLooped graph.now reached.now result }
+{
+    for s in 0..graph.states {
+        if looped(graph, s, alive, reached) {
+            return Some(s);
         }
     }
-    false
+    None
 }
 
-// The lowest state that is reached and on an idle cycle, the count of states where none is.
-fn lowest(
-    arcs: &[u16],
-    first: &[u16],
-    upper: bool,
-    lower: bool,
-    alive: &[u8],
-    reached: &[u8],
-) -> usize
-    requires graph { Graph arcs.now first.now (length alive.now) }
-    requires reached_len { length reached.now ≡ length alive.now }
-    requires cyclic { Cyclic arcs.now upper lower alive.now }
-    ensures { LowestLooped arcs.now upper lower reached.now result }
-{
-    let mut s = 0;
-    while s < alive.len() {
-        if looped(arcs, first, s, upper, lower, alive, reached) {
-            return s;
-        }
-        s += 1;
-    }
-    s
-}
-
-// No cycle.
-fn none() -> Cycle
-    ensures { result ≡ cycle_cells [] }
-{
-    Cycle {
-        states: [0u16; 256],
-        length: 0,
-    }
-}
-
-// The idle cycle to be shown, or none. All states live at first, and none is marked. What is reached is marked only where the rounds leave a state,
+// The idle cycle to be shown; none where arcs reach none from the initial states. What is reached is marked only where the rounds leave a state,
 // which in most tables they do not.
-fn among(
-    arcs: &[u16],
-    first: &[u16],
-    initials: &[u16],
-    upper: bool,
-    lower: bool,
-    alive: &mut [u8],
-    reached: &mut [u8],
-) -> Cycle
-    requires graph { Graph arcs.now first.now (length alive.old) }
-    requires all_below { AllBelow (length alive.old) initials.now }
-    requires all_alive { AllAlive alive.old }
-    requires reached_len { (length reached.old ≡ length alive.old) × Unmarked reached.old }
-    ensures { result ≡ cycle_cells (shown_in arcs.now initials.now (length alive.old) upper lower) }
+pub fn find(graph: &IdleGraph<'_>, initials: &[u16]) -> Option<Cycle>
+    requires { AllBelow graph.now.states initials.now }
+    ensures { result ≡ cycle_of (shown_in graph.now initials.now) }
 {
-    engine_peel::settle(arcs, first, upper, lower, alive);
+    let mut alive = [true; 256];
+    let alive = &mut alive[..graph.states];
+    engine_peel::settle(graph, alive);
     if none_left(alive) {
-        return none();
+        return None;
     }
-    engine_reach::reach(arcs, first, initials, reached);
-    let s = lowest(arcs, first, upper, lower, alive, reached);
-    if s < alive.len() {
-        let mut numbers = [0u16; 256];
-        return engine_cycle::through(arcs, first, s, upper, lower, &mut numbers[..alive.len()]);
-    }
-    none()
-}
-
-// The idle cycle to be shown; none where arcs reach none from the initial states.
-pub fn find(
-    arcs: &[u16],
-    first: &[u16],
-    initials: &[u16],
-    states: usize,
-    upper: bool,
-    lower: bool,
-) -> Cycle
-    requires graph { Graph arcs.now first.now states }
-    requires all_below { AllBelow states initials.now }
-    ensures { result ≡ cycle_cells (shown_in arcs.now initials.now states upper lower) }
-{
-    let mut alive = [1u8; 256];
-    let mut reached = [0u8; 256];
-    among(
-        arcs,
-        first,
-        initials,
-        upper,
-        lower,
-        &mut alive[..states],
-        &mut reached[..states],
-    )
+    let reached = engine_reach::reach(graph, initials);
+    let s = lowest(graph, alive, &reached)?;
+    Some(engine_cycle::through(graph, s))
 }

@@ -2,11 +2,10 @@
 use Prim.Native.Nat.{ℕ, zero, suc, ◌+◌, ◌-◌, ◌<◌, ◌≤◌}
 use native.Mathlib.Omega.{arith}
 use mathlib.Core.Path.{◌≡◌, refl, sym, ap, subst, ◌∙◌}
-use mathlib.Core.Bool.{Bool, true, false, ◌&&◌, and-false}
+use mathlib.Core.Bool.{Bool, true}
 use mathlib.Core.List.{List}
-use lib.Dec.{leb}
 use lib.ListN.{length, get_or}
-use borrow.Author.Tests.{le-leb, lt-leb}
+use borrow.Author.Tests.{le-leb}
 use Rattle.table_format.proofs.Tests.{and_both, or_left}
 use Rattle.machine.specs.Stack.{room_in, look_at}
 use Rattle.engine_frames.specs.declared.Setup.{Setup}
@@ -15,7 +14,6 @@ use Rattle.engine_frames.specs.Frames.{frame_of}
 use Rattle.engine_step.specs.Setting.{Prepared}
 use Rattle.engine_place.specs.Place.{next_by, link_by, Linkable, linked_at, Standing, FirstUnlinked}
 use Rattle.engine_place.proofs.Placing.{chain, linkable, below-indexed, up-indexed, linked-all}
-use Rattle.engine_place.proofs.Links.{fails-first, fails-second}
 
 module _ {s : Setup} {first arcs upper lower c : List ℕ} {from : ℕ} (S : Standing s first arcs upper lower c from) (depth : ℕ) (room : depth ≤ room_in c) where
   -- the frames up to i, which are so linked
@@ -27,12 +25,6 @@ module _ {s : Setup} {first arcs upper lower c : List ℕ} {from : ℕ} (S : Sta
 
     some_below : 0 < i
     some_below = omega (arith, S.some_below)
-
-    stops : linked_at s first arcs upper lower c i ≡ false → FirstUnlinked s first arcs upper lower c from depth i
-    stops e = record { on = on; within = within; linked = linked; unlinked = λ h. e }
-
-    pub stops-at_end : depth ≤ i → FirstUnlinked s first arcs upper lower c from depth i
-    stops-at_end e = record { on = on; within = within; linked = linked; unlinked = λ h. absurd (omega arith) }
 
     -- the frame g below it, as the code looked at it
     module _ (g : Frame) (Eg : g ≡ frame_of (look_at c (i - 1))) where
@@ -57,22 +49,10 @@ module _ {s : Setup} {first arcs upper lower c : List ℕ} {from : ℕ} (S : Sta
             ap (λ (m : ℕ). link_by s m arcs upper lower g (frame_of (look_at c i))) En
             ∙ ap (λ (x : Frame). link_by s (get_or first x.state 0) arcs upper lower x (frame_of (look_at c i))) Eg
 
-        pub stops-at-link : by (frame_of (look_at c i)) ≡ false → FirstUnlinked s first arcs upper lower c from depth i
-        stops-at-link e = stops (ap (λ (b : Bool). b && next_by first (look_at c i).state (look_at c i).next) (sym link-was ∙ e))
-
         -- and the frame f at i
         module _ (f : Frame) (Ef : f ≡ frame_of (look_at c i)) where
           next-was : next_by first f.state f.next ≡ next_by first (look_at c i).state (look_at c i).next
           next-was = ap (λ (x : Frame). next_by first x.state x.next) Ef
-
-          stops-at-next : next_by first f.state f.next ≡ false → FirstUnlinked s first arcs upper lower c from depth i
-          stops-at-next e = stops (ap (λ (b : Bool). link && b) (sym next-was ∙ e) ∙ and-false link)
-
-          pub stops-before : f.next < get_or first f.state 0 → FirstUnlinked s first arcs upper lower c from depth i
-          stops-before h = stops-at-next (sym (fails-first (leb (get_or first f.state 0) f.next) _ (lt-leb (get_or first f.state 0) f.next h)))
-
-          pub stops-after : get_or first (f.state + 1) 0 < f.next → FirstUnlinked s first arcs upper lower c from depth i
-          stops-after h = stops-at-next (sym (fails-second (leb (get_or first f.state 0) f.next) _ (lt-leb f.next (get_or first (f.state + 1) 0) h)))
 
           module _ (e : by (frame_of (look_at c i)) ≡ true) where
             pub linked-indexed : f.state + 1 < length first

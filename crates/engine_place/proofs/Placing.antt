@@ -212,7 +212,7 @@ module _ {s : Setup} {classes : List (List ℕ)} {first initials terminals arcs 
       module _ (e : bottom_by initials n b ≡ true) where
         bottom-state : b.state < s.states
         bottom-state =
-            let z : b.state ≡ get_or initials (n - 1) 0 = eqb-true b.state (get_or initials (n - 1) 0) (and_left (eqb b.state (get_or initials (n - 1) 0)) ((eqb 0 b.up && eqb 0 b.low) && eqb 0 b.sum) e) in
+            let z : b.state ≡ get_or initials (n - 1) 0 = eqb-true b.state (get_or initials (n - 1) 0) (and_left (eqb b.state (get_or initials (n - 1) 0)) ((eqb 0 b.passed.up && eqb 0 b.passed.low) && eqb 0 b.sum) e) in
             subst (λ (k : ℕ). k < s.states) (sym z) ((rules R).initial_in _ (at_mem initials (n - 1) 0 (omega arith)))
 
         pub bottom-indexed : b.state + 1 < length first

@@ -9,9 +9,10 @@ use Rattle.machine.specs.Transducer.{passed}
 use Rattle.machine.specs.Frames.{frames_of, chain_holds}
 use Rattle.machine.specs.Stack.{most_frames, look_at, store}
 use Rattle.engine_frames.specs.declared.Setup.{Setup}
+use Rattle.engine_frames.specs.declared.Setting.{Setting}
 use Rattle.engine_frames.specs.declared.Frame.{Frame}
 use Rattle.engine_frames.specs.Frames.{frame_of}
-use Rattle.engine_frames.specs.Sides.{passed_of, follow_by, class_fits}
+use Rattle.engine_frames.specs.Sides.{passed_in, follow_by, class_fits}
 use Rattle.engine_step.specs.Setting.{machine_by, Prepared}
 
 -- a next arc inside its state's arcs
@@ -20,7 +21,7 @@ next_by first state next = leb (get_or first state 0) next && leb next (get_or f
 
 -- the last started state with nothing passed and no penalty
 abbrev pub bottom_by : List ℕ → ℕ → Frame → Bool
-bottom_by initials n f = eqb f.state (get_or initials (n - 1) 0) && ((eqb 0 f.up && eqb 0 f.low) && eqb 0 f.sum)
+bottom_by initials n f = eqb f.state (get_or initials (n - 1) 0) && ((eqb 0 f.passed.up && eqb 0 f.passed.low) && eqb 0 f.sum)
 
 -- the sum of f is that of g with an arc's penalty added
 abbrev pub sum_by : Arc → Frame → Frame → Bool
@@ -31,8 +32,8 @@ abbrev pub link_by : Setup → ℕ → List ℕ → List ℕ → List ℕ → Fr
 link_by s n arcs upper lower g f =
     ltb n g.next
     && (eqb f.state (arc_of arcs (g.next - 1)).target
-    && tested (follow_by s upper lower (arc_of arcs (g.next - 1)) (passed_of g.up g.low))
-    (λ d. (eqb d.up f.up && eqb d.low f.low) && sum_by (arc_of arcs (g.next - 1)) g f))
+    && tested (follow_by s upper lower (arc_of arcs (g.next - 1)) (passed_in g.passed))
+    (λ d. (eqb d.up f.passed.up && eqb d.low f.passed.low) && sum_by (arc_of arcs (g.next - 1)) g f))
 
 -- what it makes by its class
 abbrev pub class_link_by : Setup → List (List ℕ) → List ℕ → List ℕ → List ℕ → List ℕ → Frame → Frame → Bool
@@ -40,18 +41,22 @@ class_link_by s classes first arcs upper lower g f =
     let a = arc_of arcs (g.next - 1) in
     ltb (get_or first g.state 0) g.next
     && (leb first_class a.upper
-    && (class_fits s classes a.upper (get_or upper g.up 0) (get_or lower g.low 0)
-    && (eqb f.state a.target && ((eqb (g.up + 1) f.up && eqb (g.low + 1) f.low) && sum_by a g f))))
+    && (class_fits s classes a.upper (get_or upper g.passed.up 0) (get_or lower g.passed.low 0)
+    && (eqb f.state a.target && ((eqb (g.passed.up + 1) f.passed.up && eqb (g.passed.low + 1) f.passed.low) && sum_by a g f))))
 
 -- what a test of a link may rely on in the lower frame
 pub record Linkable (arcs : List ℕ) (g : Frame) : Type 0 where
   pub next-most : g.next ≤ arc_count arcs
-  pub counts-small : (side : Side) → passed (passed_of g.up g.low) side ≤ most_frames
+  pub counts-small : (side : Side) → passed (passed_in g.passed) side ≤ most_frames
 
 -- the frame at i is what the arc just tried below it makes by the rules of the sides, and its next arc is its state's
 abbrev pub linked_at : Setup → List ℕ → List ℕ → List ℕ → List ℕ → List ℕ → ℕ → Bool
 linked_at s first arcs upper lower stack i =
     link_by s (get_or first (look_at stack (i - 1)).state 0) arcs upper lower (frame_of (look_at stack (i - 1))) (frame_of (look_at stack i)) && next_by first (look_at stack i).state (look_at stack i).next
+
+-- what a search goes by is prepared, whatever the terminal states: a place has none to look at
+abbrev pub IsPreparedBut : Setting → Type 0
+IsPreparedBut s = (terminals : List ℕ) × Prepared s.setup s.classes.now s.first.now s.initials.now terminals s.arcs.now s.upper.now s.lower.now
 
 -- a number that no cell is above
 unfoldable pub bound_of : List ℕ → ℕ

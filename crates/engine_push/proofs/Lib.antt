@@ -1,3 +1,2 @@
--- Laws of a push: the cells after it, what it meets, and what it leaves.
+-- Laws of the cells after a push.
 pub mod Cells
-pub mod Pushes

@@ -1,2 +1,2 @@
--- Laws of the marking of reached states.
+-- Laws of what is reached.
 pub mod Marks

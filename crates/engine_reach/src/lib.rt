@@ -1,127 +1,102 @@
 // Reachability, by a breadth-first search: which states arcs lead to from the initial states, whatever the arcs' letters (`reach`), and whether
-// idle arcs lead from a state back to it (`returns`). A state's cell is 1 once it is met, and the states stand in the order in which they were met.
-// `visit` meets a state, `visit_all` the initial ones, `follow` those to which the arcs of a state lead, and `spread` follows the arcs of each state
-// that is met.
+// idle arcs lead from a state back to it (`returns`). `visit` meets a state, `follow` those to which the arcs of a state lead, and `spread` follows
+// the arcs of each state that is met.
 #![tactic(auto)]
 
-ghost use Rattle.std.specs.Prelude.{◌≡◌, ◌↔◌, true, ◌<◌, length};
-ghost use mathlib.Core.List.{Memᴰ};
+ghost use Rattle.std.specs.Prelude.{◌≡◌, ◌↔◌, ℕ, true, false, ◌<◌, get_or, replicate};
 ghost use Rattle.graph.specs.Lists.{AllBelow};
 ghost use Rattle.graph.specs.Walk.{Walk};
-ghost use Rattle.engine_graph.specs.Graph.{Graph, IdleEdge};
-ghost use Rattle.engine_reach.specs.Reach.{Unmarked, Met, Meets, Spread, ReachedCells};
+ghost use Rattle.engine_graph.specs.Edge.{EdgeIn};
+ghost use Rattle.engine_reach.specs.Reach.{Listed, Meets, MetWithin, Spread, ReachedCells};
 
-// Meets a state, unless it was met before; `count` states were. How many were met then.
-fn visit(state: u16, cells: &mut [u8], order: &mut [u16], count: usize) -> usize
-    requires state_in_bounds { state < length cells.old }
-    requires met { Met cells.old order.old count }
-    ensures { Meets (λ s. s ≡ state) cells.old order.old count cells.new order.new result }
-{
-    let at = widen::cell_as_index(state);
-    if cells[at] == 0 {
-        cells[at] = 1;
-        order[count] = state;
-        return count + 1;
-    }
-    count
+use engine_graph::IdleGraph;
+
+// The states that are met: whether each is, and all of them in the order in which they were.
+#[derive(Drop)]
+struct Visits {
+    met: [bool; 256],
+    order: [u16; 256],
+    count: usize,
+    ghost listed: { Listed met order count },
 }
 
-// Meets the initial states, where none was met before. How many were met then.
-fn visit_all(initials: &[u16], cells: &mut [u8], order: &mut [u16]) -> usize
-    requires all_below { AllBelow (length cells.old) initials.now }
-    requires met { Met cells.old order.old 0 }
-    ensures { Meets (λ s. Memᴰ s initials.now) cells.old order.old 0 cells.new order.new result }
-{
-    let mut count = 0;
-    let mut n = 0;
-    while n < initials.len() {
-        count = visit(initials[n], cells, order, count);
-        n += 1;
-    }
-    count
-}
-
-// Meets the states to which idle arcs lead from state `q`; where no side is read, every arc is idle. How many were met then.
-fn follow(
-    arcs: &[u16],
-    first: &[u16],
-    q: usize,
-    upper: bool,
-    lower: bool,
-    cells: &mut [u8],
-    order: &mut [u16],
-    before: usize,
-) -> usize
-    requires graph { Graph arcs.now first.now (length cells.old) }
-    requires q_in_bounds { q < length cells.old }
-    requires met { Met cells.old order.old before }
-    ensures { Meets (IdleEdge arcs.now upper lower q) cells.old order.old before cells.new order.new result }
-{
-    let of = engine_graph::arcs_of(first, q);
-    let mut n = of.from;
-    let mut count = before;
-    while n < of.end {
-        let at = n;
-        n += 1;
-        if engine_graph::idle(arcs, at, upper, lower) {
-            let arc = table_format::arc_at(arcs, at);
-            count = visit(arc.target, cells, order, count);
+impl Visits {
+    // None is met.
+    fn none() -> Visits
+        ensures { (result.met ≡ replicate 256 false) × (result.count ≡ 0) }
+    {
+        Visits {
+            met: [false; 256],
+            order: [0; 256],
+            count: 0,
         }
     }
-    count
-}
 
-// Follows the arcs of each state that is met, `met` of them at first, until all that they lead to are met.
-fn spread(
-    arcs: &[u16],
-    first: &[u16],
-    upper: bool,
-    lower: bool,
-    cells: &mut [u8],
-    order: &mut [u16],
-    met: usize,
-)
-    requires graph { Graph arcs.now first.now (length cells.old) }
-    requires met { Met cells.old order.old met }
-    ensures { Spread (IdleEdge arcs.now upper lower) cells.old cells.new }
-{
-    let mut count = met;
-    let mut done = 0;
-    while done < count {
-        let q = widen::cell_as_index(order[done]);
-        count = follow(arcs, first, q, upper, lower, cells, order, count);
-        done += 1;
+    // Meets a state, unless it was met before.
+    fn visit(&mut self, state: u16)
+        requires { state < 256 }
+        ensures { Meets (λ s. s ≡ state) self.old.met self.old.order self.old.count self.new.met self.new.order self.new.count }
+    {
+        let at = usize::from(state);
+        if !self.met[at] {
+            self.met[at] = true;
+            self.order[self.count] = state;
+            self.count += 1;
+        }
+    }
+
+    // Meets the states to which idle arcs lead from state `q`.
+    fn follow(&mut self, graph: &IdleGraph<'_>, q: usize)
+        requires { q < graph.now.states }
+        ensures { Meets (EdgeIn graph.now q) self.old.met self.old.order self.old.count self.new.met self.new.order self.new.count }
+    {
+        for n in graph.arcs_of(q) {
+            if let Some(target) = graph.idle_target(n) {
+                self.visit(target);
+            }
+        }
+    }
+
+    // Follows the arcs of each state that is met, until all that they lead to are met. By index: the list grows while the loop goes through it.
+    fn spread(&mut self, graph: &IdleGraph<'_>)
+        requires { MetWithin graph.now.states self.old.met }
+        ensures { Spread (EdgeIn graph.now) self.old.met self.new.met }
+    {
+        let mut done = 0;
+        while done < self.count {
+            self.follow(graph, usize::from(self.order[done]));
+            done += 1;
+        }
     }
 }
 
-// Cells of zeros, one a state, become 1 where the state is reached.
-pub fn reach(arcs: &[u16], first: &[u16], initials: &[u16], cells: &mut [u8])
-    requires graph { Graph arcs.now first.now (length cells.old) }
-    requires all_below { AllBelow (length cells.old) initials.now }
-    requires unmarked { Unmarked cells.old }
-    ensures { (length cells.new ≡ length cells.old) × ReachedCells arcs.now initials.now cells.new }
+// Which states arcs lead to from the initial ones, whatever the arcs' letters.
+pub fn reach(graph: &IdleGraph<'_>, initials: &[u16]) -> [bool; 256]
+    requires { AllBelow graph.now.states initials.now }
+    ensures { ReachedCells graph.now.arcs.now initials.now result }
 {
-    let mut order = [0u16; 256];
-    let count = visit_all(initials, cells, &mut order);
-    spread(arcs, first, false, false, cells, &mut order, count);
+    let any = IdleGraph {
+        arcs: graph.arcs,
+        first: graph.first,
+        states: graph.states,
+        upper: false,
+        lower: false,
+    };
+    let mut visits = Visits::none();
+    for state in initials {
+        visits.visit(*state);
+    }
+    visits.spread(&any);
+    visits.met
 }
 
-// Whether idle arcs lead from state `q` back to it. Cells of zeros are lent to work in, one a state.
-pub fn returns(
-    arcs: &[u16],
-    first: &[u16],
-    q: usize,
-    upper: bool,
-    lower: bool,
-    cells: &mut [u8],
-) -> bool
-    requires graph { Graph arcs.now first.now (length cells.old) }
-    requires q_in_bounds { q < length cells.old }
-    requires unmarked { Unmarked cells.old }
-    ensures { (result ≡ true) ↔ Walk (IdleEdge arcs.now upper lower) q q }
+// Whether idle arcs lead from state `q` back to it.
+pub fn returns(graph: &IdleGraph<'_>, q: usize) -> bool
+    requires { q < graph.now.states }
+    ensures { (result ≡ true) ↔ Walk (EdgeIn graph.now) q q }
 {
-    let mut order = [0u16; 256];
-    let count = follow(arcs, first, q, upper, lower, cells, &mut order, 0);
-    spread(arcs, first, upper, lower, cells, &mut order, count);
-    cells[q] == 1
+    let mut visits = Visits::none();
+    visits.follow(graph, q);
+    visits.spread(graph);
+    visits.met[q]
 }

@@ -1,12 +1,12 @@
 -- The loop of a call, turn by turn: what is known at its head, and what each way out answers.
 use Prim.Native.Nat.{ℕ, suc, ◌+◌, ◌-◌, ◌<◌, ◌≤◌}
 use native.Mathlib.Omega.{arith}
-use mathlib.Core.Path.{◌≡◌, refl, sym, ap, ap₂, subst, ◌∙◌}
+use mathlib.Core.Path.{◌≡◌, refl, sym, ap, subst, ◌∙◌}
 use mathlib.Core.Bool.{Bool, true, false, ◌&&◌}
 use mathlib.Core.List.{List, ◌++◌}
 use lib.Dec.{eqb, leb}
 use lib.ListN.{length, drop}
-use borrow.Author.Tests.{eqb-true, eqb-false, eq-eqb, ne_eqb, leb-true, leb-false}
+use borrow.Author.Tests.{eqb-true, eqb-false, eq-eqb, leb-true, leb-false}
 use Rattle.table_format.proofs.Tests.{and_left, and_right}
 use Rattle.table_format.specs.Table.{Table}
 use Rattle.refusal.specs.declared.StateCause.{StateCause}
@@ -26,15 +26,13 @@ use Rattle.machine.specs.Transducer.{machine}
 use Rattle.machine.specs.Stack.{room_in, store}
 use Rattle.machine.proofs.Held.{GoodStep, step-good, move_start_lem}
 use Rattle.machine.specs.Place.{Good}
-use Rattle.machine.proofs.Turn.{plus, plus_none, ended-turn, paused-turn, moved-turn, found_turn, refused-turn}
+use Rattle.machine.proofs.Turn.{plus, ended-turn, paused-turn, moved-turn, found_turn, refused-turn}
 use Rattle.machine.proofs.Stack.{store_laws}
 use Rattle.engine_step.specs.declared.Turn.{Turn}
-use Rattle.engine_step.specs.declared.Turn.TheVariants as Turned
 use Rattle.engine_step.specs.declared.Turn.TheVariants.{Moved, Finds}
 use Rattle.machine.specs.Reading.{held_of, moved_to}
 use Rattle.engine_step.specs.Stepping.{TurnIs}
-use Rattle.engine_search.specs.declared.Due.{Due}
-use Rattle.engine_search.specs.declared.Due.TheVariants.{Stop, Step}
+use Rattle.std.specs.Prelude.{Option, Some, None, Result, Ok, Err}
 use Rattle.engine_search.specs.Searching.{called_with, due_at, SearchIs}
 use Rattle.engine_step.proofs.Steps.{move-there}
 
@@ -43,12 +41,12 @@ use Rattle.engine_step.proofs.Steps.{move-there}
 held_ext : (h : Held (List ℕ)) (r : Run) (c : List ℕ) → h.started ≡ r.started → h.depth ≡ r.depth → h.cells ≡ c → h ≡ held_of r c
 held_ext h r c x y z = λ i. record { started = x i; depth = y i; cells = z i }
 
-module _ (run : Run) (c b : List ℕ) (r : Turn) (e o : List ℕ) where
+module _ (run : Run) (c b : List ℕ) (r : Result Turn StateCause) (e o : List ℕ) where
   -- a run that is the run moved on
   moved_on : (n d : ℕ) (v : Run) → moved_to run n d ≡ v → moved_to run v.started v.depth ≡ v
   moved_on n d v y = sym (ap (λ (j : Run). moved_to run j.started j.depth) y) ∙ y
 
-  pub turn_moved : (x : Stepped (List ℕ)) (v : Run) → TurnIs run x c b r e o → r ≡ Moved v → (x ≡ moves (held_of v e)) × (o ≡ b) × (moved_to run v.started v.depth ≡ v)
+  pub turn_moved : (x : Stepped (List ℕ)) (v : Run) → TurnIs run x c b r e o → r ≡ Ok (Moved v) → (x ≡ moves (held_of v e)) × (o ≡ b) × (moved_to run v.started v.depth ≡ v)
   turn_moved ends v T z = absurd T
   turn_moved (moves h) v T z =
       let y : moved_to run h.started h.depth ≡ v = cc T.0 in
@@ -57,7 +55,7 @@ module _ (run : Run) (c b : List ℕ) (r : Turn) (e o : List ℕ) where
   turn_moved (refuses (Input cause)) v T z = absurd T.0
   turn_moved (refuses (State cause)) v T z = absurd (let y : ◌≡◌ {A = ℕ} 0 1 = cc T.0 in omega arith)
 
-  pub turn-finds : (x : Stepped (List ℕ)) (v : Run) (n : ℕ) → TurnIs run x c b r e o → r ≡ Finds v n → (w : List ℕ) × (x ≡ finds (held_of v e) w) × (n ≡ length w) × (o ≡ w ++ drop (length w) b) × (moved_to run v.started v.depth ≡ v)
+  pub turn-finds : (x : Stepped (List ℕ)) (v : Run) (n : ℕ) → TurnIs run x c b r e o → r ≡ Ok (Finds v n) → (w : List ℕ) × (x ≡ finds (held_of v e) w) × (n ≡ length w) × (o ≡ w ++ drop (length w) b) × (moved_to run v.started v.depth ≡ v)
   turn-finds ends v n T z = absurd T
   turn-finds (moves h) v n T z = absurd (let y : ◌≡◌ {A = ℕ} 0 1 = cc T.0 in omega arith)
   turn-finds (finds h w) v n T z =
@@ -67,7 +65,7 @@ module _ (run : Run) (c b : List ℕ) (r : Turn) (e o : List ℕ) where
   turn-finds (refuses (Input cause)) v n T z = absurd T.0
   turn-finds (refuses (State cause)) v n T z = absurd (let y : ◌≡◌ {A = ℕ} 0 1 = cc T.0 in omega arith)
 
-  pub turn-refused : (x : Stepped (List ℕ)) (cause : StateCause) → TurnIs run x c b r e o → r ≡ Turned.Refused cause → (x ≡ refuses (State cause)) × (e ≡ c) × (o ≡ b)
+  pub turn-refused : (x : Stepped (List ℕ)) (cause : StateCause) → TurnIs run x c b r e o → r ≡ Err cause → (x ≡ refuses (State cause)) × (e ≡ c) × (o ≡ b)
   turn-refused ends cause T z = absurd T
   turn-refused (moves h) cause T z = absurd (let y : ◌≡◌ {A = ℕ} 0 1 = cc T.0 in omega arith)
   turn-refused (finds h w) cause T z = absurd (let y : ◌≡◌ {A = ℕ} 0 1 = cc T.0 in omega arith)
@@ -82,36 +80,17 @@ over-true d n m e = (eqb-true d 0 (and_left (eqb d 0) (leb m n) e), leb-true m n
 over_false : (d n m : ℕ) → (eqb d 0 && leb m n) ≡ false → d ≡ 0 → n < m
 over_false d n m e z = leb-false m n (ap (λ (v : Bool). v && leb m n) (sym (eq-eqb d 0 z)) ∙ e)
 
-pub over-not : (d n m : ℕ) → (d ≡ 0 → ⊥) → false ≡ (eqb d 0 && leb m n)
-over-not d n m h = go (eqb d 0) refl
-  where
-    go : (v : Bool) → eqb d 0 ≡ v → false ≡ (v && leb m n)
-    go true e = absurd (h (eqb-true d 0 e))
-    go false e = refl
-
-pub over_zero : (d n m : ℕ) → d ≡ 0 → leb m n ≡ (eqb d 0 && leb m n)
-over_zero d n m h = ap (λ (v : Bool). v && leb m n) (sym (eq-eqb d 0 h))
-
 -- What is due.
 
-pub due-ended : (over said : Bool) (k allowance : ℕ) → said ≡ over → said ≡ true → Stop (Ended k) ≡ due_at over (eqb k allowance) k
-due-ended over said k allowance e y = ap (λ (v : Bool). due_at v (eqb k allowance) k) (sym y ∙ e)
+-- an answer that is none
+pub none_left : (o : Option Answer) → ((a : Answer) → o ≡ Some a → ⊥) → o ≡ None
+none_left None h = refl
+none_left (Some a) h = absurd (h a refl)
 
-pub due-paused : (over said : Bool) (k allowance : ℕ) → said ≡ over → said ≡ false → k ≡ allowance → Stop (Paused k) ≡ due_at over (eqb k allowance) k
-due-paused over said k allowance e y z = ap₂ (λ (v w : Bool). due_at v w k) (sym y ∙ e) (sym (eq-eqb k allowance z))
-
-pub due_stepping : (over said : Bool) (k allowance : ℕ) → said ≡ over → said ≡ false → (k ≡ allowance → ⊥) → Step ≡ due_at over (eqb k allowance) k
-due_stepping over said k allowance e y z = ap₂ (λ (v w : Bool). due_at v w k) (sym y ∙ e) (sym (ne_eqb k allowance z))
-
-pub ruleset due-laws = (due-ended, due-paused, due_stepping)
-
-due-step : (over spent : Bool) (k : ℕ) → due_at over spent k ≡ Step → (over ≡ false) × (spent ≡ false)
+due-step : (over spent : Bool) (k : ℕ) → due_at over spent k ≡ None → (over ≡ false) × (spent ≡ false)
 due-step true spent k e = absurd (let y : ◌≡◌ {A = ℕ} 0 1 = cc e in omega arith)
 due-step false true k e = absurd (let y : ◌≡◌ {A = ℕ} 0 1 = cc e in omega arith)
 due-step false false k e = (refl, refl)
-
-pub due-left : (d n m k allowance : ℕ) (r : Due) → r ≡ due_at (eqb d 0 && leb m n) (eqb k allowance) k → r ≡ Step → d ≡ 0 → n < m
-due-left d n m k allowance r y e = over_false d n m (due-step (eqb d 0 && leb m n) (eqb k allowance) k (sym y ∙ e)).0
 
 module _ (t : Table) (q : Query) (run : Run) (b : List ℕ) (allowance : ℕ) (h₀ : Held (List ℕ)) where
   abbrev total : Replied (List ℕ)
@@ -130,18 +109,6 @@ module _ (t : Table) (q : Query) (run : Run) (b : List ℕ) (allowance : ℕ) (h
     pub good : Good (machine t q) store (room_in c) (held_of at c)
     pub told : plus k (advance (machine t q) store (length b) (allowance - k) (held_of at c)) ≡ total
 
-  pub going_first : (c o : List ℕ) (at : Run) → h₀ ≡ held_of at c → run_of at ≡ at → o ≡ b → Good (machine t q) store (room_in c) (held_of at c) → Going c c o at 0
-  going_first c o at e s u G =
-      record {
-        within = omega arith;
-        same_run = s;
-        same_length = refl;
-        untouched = u;
-        good = G;
-        told = plus_none (advance (machine t q) store (length b) (allowance - 0) (held_of at c))
-            ∙ ap₂ (λ (m : ℕ) (h : Held (List ℕ)). advance (machine t q) store (length b) m h) (let z : allowance - 0 ≡ allowance = omega arith in z) (sym e);
-      }
-
   -- the answer a after the run v is the one of a call that is told x
   search_by : (x : Replied (List ℕ)) (v : Run) (a : Answer) (r : Called) (e o : List ℕ) → x ≡ total → run_of v ≡ v → r ≡ called_with a v
       → SearchIs run b x (called_with a (run_of v)) e o → SearchIs run b total r e o
@@ -156,7 +123,7 @@ module _ (t : Table) (q : Query) (run : Run) (b : List ℕ) (allowance : ℕ) (h
     abbrev h : Held (List ℕ)
     h = held_of at c
 
-    abbrev due : Due
+    abbrev due : Option Answer
     due = due_at (eqb at.depth 0 && leb (length t.initials) at.started) (eqb k allowance) k
 
     over-answer : at.depth ≡ 0 → length t.initials ≤ at.started → (r : Called) → r ≡ called_with (Ended k) at → SearchIs run b total r c o
@@ -174,10 +141,10 @@ module _ (t : Table) (q : Query) (run : Run) (b : List ℕ) (allowance : ℕ) (h
         I.same_run y
         (ap (λ (j : ℕ). called_with (Paused j) (run_of at)) (let x : k ≡ k + 0 = omega arith in x), refl, I.untouched)
 
-    pub stop_answer : (d : Due) → d ≡ due → (a : Answer) → d ≡ Stop a → (r : Called) → r ≡ called_with a at → SearchIs run b total r c o
+    pub stop_answer : (d : Option Answer) → d ≡ due → (a : Answer) → d ≡ Some a → (r : Called) → r ≡ called_with a at → SearchIs run b total r c o
     stop_answer d m a e r y = go (eqb at.depth 0 && leb (length t.initials) at.started) (eqb k allowance) refl refl (sym m ∙ e)
       where
-        go : (over spent : Bool) → (eqb at.depth 0 && leb (length t.initials) at.started) ≡ over → eqb k allowance ≡ spent → due_at over spent k ≡ Stop a → SearchIs run b total r c o
+        go : (over spent : Bool) → (eqb at.depth 0 && leb (length t.initials) at.started) ≡ over → eqb k allowance ≡ spent → due_at over spent k ≡ Some a → SearchIs run b total r c o
         go true spent u v w =
             let z : a ≡ Ended k = cc w in
             let x = over-true at.depth at.started (length t.initials) u in
@@ -187,7 +154,7 @@ module _ (t : Table) (q : Query) (run : Run) (b : List ℕ) (allowance : ℕ) (h
             paused-answer (over_false at.depth at.started (length t.initials) u) (eqb-true k allowance v) r (y ∙ ap (λ (j : Answer). called_with j at) z)
         go false false u v w = absurd (let z : ◌≡◌ {A = ℕ} 0 1 = cc w in omega arith)
 
-    module _ (d : Due) (m : d ≡ due) (goes : d ≡ Step) (r : Turn) (e x : List ℕ) (T₀ : TurnIs at (step M store (length o) h) c o r e x) where
+    module _ (d : Option Answer) (m : d ≡ due) (goes : d ≡ None) (r : Result Turn StateCause) (e x : List ℕ) (T₀ : TurnIs at (step M store (length o) h) c o r e x) where
       other : k ≡ allowance → ⊥
       other = eqb-false k allowance (due-step (eqb at.depth 0 && leb (length t.initials) at.started) (eqb k allowance) k (sym m ∙ goes)).1
 
@@ -203,7 +170,7 @@ module _ (t : Table) (q : Query) (run : Run) (b : List ℕ) (allowance : ℕ) (h
       again : (m : Replied (List ℕ)) → advance M store (length b) (suc (allowance - (k + 1))) h ≡ m → plus k m ≡ total
       again m z = ap (plus k) (sym z ∙ ap (λ (j : ℕ). advance M store (length b) j h) (let y : suc (allowance - (k + 1)) ≡ allowance - k = omega (arith, more) in y)) ∙ I.told
 
-      pub going_more : length e ≡ length c → (v : Run) → r ≡ Moved v → Going c₀ e x v (k + 1)
+      pub going_more : length e ≡ length c → (v : Run) → r ≡ Ok (Moved v) → Going c₀ e x v (k + 1)
       going_more kept v z =
           let w = turn_moved at c b r e x (step M store (length b) h) v T z in
           let G : Good M store (room_in c) (held_of v e) = subst (GoodStep M store store_laws (room_in c) (length b)) w.0 (step-good M store store_laws (room_in c) (length b) h I.good) in
@@ -218,14 +185,14 @@ module _ (t : Table) (q : Query) (run : Run) (b : List ℕ) (allowance : ℕ) (h
                 ∙ again (advance M store (length b) (suc (allowance - (k + 1))) h) refl;
           }
 
-      pub found-answer : (v : Run) (j : ℕ) → r ≡ Finds v j → (d : Called) → d ≡ called_with (Found (k + 1) j) v → SearchIs run b total d e x
+      pub found-answer : (v : Run) (j : ℕ) → r ≡ Ok (Finds v j) → (d : Called) → d ≡ called_with (Found (k + 1) j) v → SearchIs run b total d e x
       found-answer v j z d y =
           let w = turn-finds at c b r e x (step M store (length b) h) v j T z in
           search_by (plus k (record { reply = R.found w.0; steps = 1; after = held_of v e })) v (Found (k + 1) j) d _ _
           (again _ (found_turn M store (length b) h (allowance - (k + 1)) (held_of v e) w.0 w.1)) (stays v w.4) y
           (ap (λ (m : ℕ). called_with (Found (k + 1) m) (run_of v)) w.2, refl, w.3)
 
-      pub refused-answer : (cause : StateCause) → r ≡ Turned.Refused cause → (d : Called) → d ≡ called_with (Refused k (State cause)) at → SearchIs run b total d e x
+      pub refused-answer : (cause : StateCause) → r ≡ Err cause → (d : Called) → d ≡ called_with (Refused k (State cause)) at → SearchIs run b total d e x
       refused-answer cause z d y =
           let w = turn-refused at c b r e x (step M store (length b) h) cause T z in
           search_by (plus k (still (R.refused (State cause)) h)) at (Refused k (State cause)) d _ _

@@ -1,23 +1,21 @@
 -- What the code of a call answers and leaves, by what the machine tells.
-use Rattle.std.specs.Prelude.{ℕ, ◌≡◌, Bool, true, false, List}
+use Rattle.std.specs.Prelude.{Option, Some, None, ℕ, ◌≡◌, Bool, true, false, List}
 use Rattle.machine.specs.declared.Run.{Run}
 use Rattle.machine.specs.declared.Answer.{Answer}
 use Rattle.machine.specs.declared.Answer.TheVariants.{Paused, Ended}
 use Rattle.machine.specs.declared.Called.{Called}
 use Rattle.machine.specs.Call.{Replied}
 use Rattle.machine.specs.Reading.{outcome_as}
-use Rattle.engine_search.specs.declared.Due.{Due}
-use Rattle.engine_search.specs.declared.Due.TheVariants.{Stop, Step}
 
 -- an answer and a run
 abbrev pub called_with : Answer → Run → Called
 called_with answer run = record { answer = answer; run = run }
 
 -- what is due after k steps, by whether the search is over and whether the allowance is spent
-abbrev pub due_at : Bool → Bool → ℕ → Due
-due_at true spent k = Stop (Ended k)
-due_at false true k = Stop (Paused k)
-due_at false false k = Step
+abbrev pub due_at : Bool → Bool → ℕ → Option Answer
+due_at true spent k = Some (Ended k)
+due_at false true k = Some (Paused k)
+due_at false false k = None
 
 -- the answer with the run, the cells e and the output o, where the run and the buffer were run and b
 abbrev pub SearchIs : Run → List ℕ → Replied (List ℕ) → Called → List ℕ → List ℕ → Type 0

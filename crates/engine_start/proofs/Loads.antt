@@ -3,7 +3,7 @@ use Prim.Native.Nat.{ℕ, ◌≤◌}
 use native.Mathlib.Omega.{arith}
 use mathlib.Core.Path.{◌≡◌, refl, ap}
 use mathlib.Core.Bool.{Bool, true, false, ◌&&◌, cond}
-use mathlib.Core.Option.{Option, none, some}
+use mathlib.Core.Option.{none, some}
 use mathlib.Core.List.{List}
 use lib.Dec.{leb}
 use lib.ListN.{length}
@@ -12,8 +12,7 @@ use Rattle.table_check.specs.declared.Layout.{Layout}
 use Rattle.table_format.specs.Table.{Table}
 use Rattle.table_format.specs.Rules.{keeps_rules}
 use Rattle.table_format.specs.Loaded.{counts_in, extent, table_in, loaded}
-use Rattle.table_format.specs.Index.{first_index}
-use Rattle.table_check.specs.Check.{layout_of, LaidOut, checked_as, checked}
+use Rattle.table_check.specs.Check.{layout_of, LaidOut}
 use Rattle.table_check.proofs.Parts.{laid_out}
 
 -- cells that hold a table hold it whole
@@ -27,7 +26,3 @@ loaded-whole cells t e = go (leb (extent (counts_in cells)) (length cells)) refl
 
 pub loaded-laid : (cells : List ℕ) (t : Table) (l : Layout) → loaded cells ≡ some t → l ≡ layout_of (counts_in cells) → LaidOut cells l
 loaded-laid cells t l e i = laid_out cells l i (let w = loaded-whole cells t e in omega (arith, ap (λ (x : Layout). x.end) i))
-
-pub loaded-index : (cells : List ℕ) (t : Table) → loaded cells ≡ some t → (checked cells).first ≡ first_index t.states t.arcs
-unfolding checked
-loaded-index cells t e = ap (λ (o : Option Table). (checked_as (layout_of (counts_in cells)) o).first) e

@@ -5,9 +5,10 @@ ghost use Rattle.std.specs.Prelude.{◌≡◌, []};
 ghost use Rattle.machine.specs.declared.StartAnswer.TheVariants.{Ready, Refused};
 ghost use Rattle.machine.specs.Start.{first_run, no_run, started_with, started, StartedIs};
 
-use engine_admission::{Admission, Side};
+use engine_admission::Side;
+use engine_graph::IdleGraph;
 use machine::{Run, StartAnswer, Started};
-use refusal::{InputCause, Refusal};
+use refusal::{InputCause, Refusal, StateCause};
 
 // A run of a task under a ceiling with nothing started; of no task, 0, where a start is refused.
 fn first_run(task: u32, ceiling: u32) -> Run
@@ -49,34 +50,30 @@ fn ready(task: u32, ceiling: u32) -> Started
 pub fn start(table: &[u16], task: u32, upper: &[u8], lower: &[u8], ceiling: u32) -> Started
     ensures { StartedIs (started table.now task upper.now lower.now ceiling) result }
 {
-    let checked = table_check::check(table);
-    let asking = engine_admission::asked(checked.ok, task, upper, lower, ceiling);
-    if let Admission::Refused(refusal) = asking {
-        return refused(refusal);
+    let Some(checked) = table_check::check(table) else {
+        return refused(Refusal::State(StateCause::LoadedTable));
+    };
+    if let Err(cause) = engine_admission::admitted(task, upper, lower, ceiling) {
+        return refused(Refusal::Input(cause));
     }
-    let first = checked.first;
     let at = checked.layout;
-    let states = at.states as usize;
-    let initials = at.initials;
-    let terminals = at.terminals;
-    let arcs = at.arcs;
-    let end = at.end;
-    let found = engine_idle::find(
-        &table[arcs..end],
-        &first,
-        &table[initials..terminals],
-        states,
-        engine_admission::reads(task, Side::Upper),
-        engine_admission::reads(task, Side::Lower),
-    );
-    if found.length == 0 {
-        return ready(task, ceiling);
-    }
-    let cycle = found.states;
-    Started {
-        answer: StartAnswer::Refused(Refusal::Input(InputCause::IdleCycle)),
-        run: first_run(0, 0),
-        cycle,
-        length: found.length,
+    let graph = IdleGraph {
+        arcs: at.arcs(table),
+        first: &checked.first,
+        states: usize::from(at.states),
+        upper: engine_admission::reads(task, Side::Upper),
+        lower: engine_admission::reads(task, Side::Lower),
+    };
+    match engine_idle::find(&graph, at.initials(table)) {
+        None => ready(task, ceiling),
+        Some(found) => {
+            let cycle = found.states;
+            Started {
+                answer: StartAnswer::Refused(Refusal::Input(InputCause::IdleCycle)),
+                run: first_run(0, 0),
+                cycle,
+                length: found.length,
+            }
+        }
     }
 }

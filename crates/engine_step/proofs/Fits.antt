@@ -1,22 +1,20 @@
 -- No letter of a word means a class, so that an arc of a class never fits by the rules of the sides.
-use Prim.Native.Nat.{ℕ, zero, suc, ◌+◌, ◌<◌, ◌≤◌}
+use Prim.Native.Nat.{ℕ, zero, suc, ◌<◌, ◌≤◌}
 use native.Mathlib.Omega.{arith}
-use mathlib.Core.Path.{◌≡◌, refl, sym, ap, ap₂, ◌∙◌}
-use mathlib.Core.Bool.{Bool, true, false, cond, ◌&&◌, ◌||◌, and_self}
+use mathlib.Core.Path.{◌≡◌, refl, sym, ap, ◌∙◌}
+use mathlib.Core.Bool.{Bool, true, false, ◌&&◌, ◌||◌, and_self}
 use mathlib.Core.Option.{Option, none, some}
 use mathlib.Core.List.{List}
 use lib.ListN.{get_or}
 use lib.Dec.{ltb}
-use borrow.Author.Tests.{ltb-false, lt-ltb, le-ltb, ne_eqb}
+use borrow.Author.Tests.{ltb-false, ne_eqb}
 use Rattle.table_format.specs.Table.{Arc}
 use Rattle.table_format.specs.Classes.{first_class, is_plain}
 use Rattle.machine.specs.Query.{Side, upper_side, lower_side, letter}
 use Rattle.machine.specs.Machine.{somewhen}
 use Rattle.machine.specs.Transducer.{side_follow, Passed, both}
 use Rattle.engine_frames.specs.declared.Setup.{Setup}
-use Rattle.engine_frames.specs.declared.Fit.TheVariants.{Fits, Fails}
-use Rattle.engine_frames.specs.Sides.{fit_of, passed_of, follow_by, follow_in, class_fits}
-use Rattle.engine_frames.proofs.Narrowing.{plain-followed, class_followed}
+use Rattle.engine_frames.specs.Sides.{follow_by}
 use Rattle.engine_step.specs.Setting.{SmallWords, Alike}
 
 -- an arc that has a class on both sides or on none is plain where either letter is
@@ -46,30 +44,3 @@ module _ (s : Setup) (classes : List (List ℕ)) (upper lower : List ℕ) (a : A
           ap (both (side_follow false upper a.upper d.up)) (side_stuck lower a.lower d.low (high lower_side) (W.lower-small d.low))
           ∙ both-none (side_follow false upper a.upper d.up)
       go false false r = absurd (let z : ◌≡◌ {A = ℕ} 0 1 = cc in omega arith)
-
-  -- an arc that fits by the rules of the sides is plain
-  pub sides_fit : (u l : ℕ) → Fits u l ≡ fit_of (follow_by s upper lower a d) → Fits u l ≡ fit_of (follow_in s classes upper lower a d)
-  sides_fit u l e = go (is_plain a) refl
-    where
-      go : (b : Bool) → is_plain a ≡ b → Fits u l ≡ fit_of (follow_in s classes upper lower a d)
-      go true p = e ∙ ap fit_of (sym (plain-followed s classes upper lower a d p))
-      go false p = absurd (let k : Fits u l ≡ Fails = e ∙ ap fit_of (class_stuck p) in let z : ◌≡◌ {A = ℕ} 0 1 = cc in omega arith)
-
-  -- a plain one that does not, fails
-  pub plain-fails : Fails ≡ fit_of (follow_by s upper lower a d) → a.upper < first_class → Fails ≡ fit_of (follow_in s classes upper lower a d)
-  plain-fails e h = e ∙ ap fit_of (sym (plain-followed s classes upper lower a d (plain-on a A upper_side ∙ lt-ltb a.upper first_class h)))
-
-  -- and one of a class fits where its class says so
-  module _ (h : first_class ≤ a.upper) (b : Bool) (x y : ℕ) (e : x ≡ get_or upper d.up 0) (f : y ≡ get_or lower d.low 0) (k : b ≡ class_fits s classes a.upper x y) where
-    by_class : fit_of (cond b (some (passed_of (suc d.up) (suc d.low))) none) ≡ fit_of (follow_in s classes upper lower a d)
-    by_class =
-        ap (λ (v : Bool). fit_of (cond v (some (passed_of (suc d.up) (suc d.low))) none)) (k ∙ ap₂ (class_fits s classes a.upper) e f)
-        ∙ ap fit_of (sym (class_followed s classes upper lower a d r (plain-on a A upper_side ∙ le-ltb a.upper first_class h)))
-
-    pub class_passes : b ≡ true → Fits (d.up + 1) (d.low + 1) ≡ fit_of (follow_in s classes upper lower a d)
-    class_passes t =
-        ap₂ Fits (let z : d.up + 1 ≡ suc d.up = omega arith in z) (let z : d.low + 1 ≡ suc d.low = omega arith in z)
-        ∙ ap (λ (v : Bool). fit_of (cond v (some (passed_of (suc d.up) (suc d.low))) none)) (sym t) ∙ by_class
-
-    pub class_fails : b ≡ false → Fails ≡ fit_of (follow_in s classes upper lower a d)
-    class_fails t = ap (λ (v : Bool). fit_of (cond v (some (passed_of (suc d.up) (suc d.low))) none)) (sym t) ∙ by_class

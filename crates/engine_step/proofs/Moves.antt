@@ -1,7 +1,7 @@
 -- The move that the code computes from the cells.
 use Prim.Native.Nat.{ℕ, zero, suc, pred, ◌+◌, ◌-◌, ◌<◌, ◌≤◌}
 use native.Mathlib.Omega.{arith}
-use mathlib.Core.Path.{◌≡◌, refl, sym, ap, ap₂, subst, ◌∙◌}
+use mathlib.Core.Path.{◌≡◌, refl, sym, ap, ap₂, ◌∙◌}
 use mathlib.Core.Bool.{Bool, true, false, ◌||◌}
 use mathlib.Core.Option.{Option, none, some}
 use mathlib.Core.List.{List, []}
@@ -12,7 +12,7 @@ use Rattle.table_format.specs.Table.{Arc, Table, no_arc}
 use Rattle.table_format.specs.Index.{below}
 use Rattle.table_format.specs.Cells.{arc_count, arc_held, arc_of, arcs_as, arc_said}
 use Rattle.table_format.proofs.Arcs.{get_d_arcs}
-use Rattle.machine.specs.Query.{Side, upper_side, lower_side, reads, most_ceiling}
+use Rattle.machine.specs.Query.{Side, upper_side, lower_side, reads}
 use Rattle.machine.specs.Machine.{Machine, bind, somewhen}
 use Rattle.machine.specs.Frames as F
 use Rattle.machine.specs.Frames.{untried}
@@ -22,17 +22,16 @@ use Rattle.machine.specs.Stack.{look_at, store}
 use Rattle.machine.proofs.Held.{move_start_lem, move_top_lem}
 use Rattle.machine.proofs.Range.{below-rises}
 use Rattle.engine_frames.specs.declared.Setup.{Setup}
-use Rattle.engine_frames.specs.declared.Count.TheVariants.{Passes, Stops}
-use Rattle.engine_frames.specs.declared.Fit.{Fit}
-use Rattle.engine_frames.specs.declared.Fit.TheVariants.{Fits, Fails}
+use Rattle.std.specs.Prelude as Code
+use Rattle.std.specs.Prelude.{Some, None}
+use Rattle.engine_frames.specs.declared.Passed as Counts
 use Rattle.engine_frames.specs.declared.Frame.{Frame}
 use Rattle.engine_frames.specs.Frames.{frame_of}
-use Rattle.engine_frames.specs.Sides.{count_of, fit_of, passed_of, setup_reads, by_side, follow_in, summed}
+use Rattle.engine_frames.specs.Sides.{fit_of, passed_in, setup_reads, by_side, follow_in, summed}
 use Rattle.engine_push.specs.declared.NewFrame.{NewFrame}
 use Rattle.engine_push.proofs.Cells.{pred_suc}
-use Rattle.engine_step.specs.declared.Move.{Move}
 use Rattle.engine_step.specs.declared.Move.TheVariants.{Drops, Skips, Pushes}
-use Rattle.engine_step.specs.Setting.{Alike, task_by, query_by, table_by, machine_by, held, InBounds, Top}
+use Rattle.engine_step.specs.Setting.{task_by, query_by, table_by, machine_by, held, InBounds, Top}
 use Rattle.engine_step.specs.Stepping.{push_if, push_along, move_as}
 
 -- The sides that a task by its flags reads.
@@ -56,42 +55,11 @@ follow-is s h t upper lower a d =
 
 -- a frame to push, by its numbers
 abbrev new_frame : ℕ → ℕ → ℕ → ℕ → ℕ → ℕ → NewFrame
-new_frame n d state up low sum = record { started = n; depth = d; state = state; up = up; low = low; sum = sum }
+new_frame n d state up low sum = record { started = n; depth = d; state = state; passed = record { up = up; low = low }; sum = sum }
 
 -- what an arc makes of what was passed and of a sum, where its penalty is p
 abbrev under : ℕ → ℕ → ℕ → Option Passed → Option (Passed × ℕ)
 under ceiling sum p o = bind o (λ e. somewhen (leb (sum + p) ceiling) (e, sum + p))
-
--- The push along an arc that fits by its letters, by the sum.
-
-module _ (n d ceiling : ℕ) (p : Passed) (arcs c : List ℕ) (i : ℕ) (g : Frame) (E : g ≡ frame_of (look_at c i)) (a : Held.Arc) (A : a ≡ arc_held (arc_of arcs g.next)) where
-  abbrev along : Arc
-  along = arc_of arcs (look_at c i).next
-
-  abbrev pushed : Option ℕ → Move
-  pushed = push_if n (suc d) along.target p
-
-  along-is : arc_said a ≡ along
-  along-is = ap arc_said A ∙ ap (λ (x : Frame). arc_of arcs x.next) E
-
-  sum_is : count_of (summed ceiling g.sum a.penalty) ≡ count_of (summed ceiling (look_at c i).datum.1 along.penalty)
-  sum_is = ap₂ (λ (x : Frame) (y : Arc). count_of (summed ceiling x.sum y.penalty)) E along-is
-
-  pub over-ceiling : Stops ≡ count_of (summed ceiling g.sum a.penalty) → Skips ≡ push_along n d ceiling along p (look_at c i).datum.1
-  over-ceiling e = go (summed ceiling (look_at c i).datum.1 along.penalty) (e ∙ sum_is)
-    where
-      go : (o : Option ℕ) → Stops ≡ count_of o → Skips ≡ pushed o
-      go none z = refl
-      go (some r) z = absurd (let y : ◌≡◌ {A = ℕ} 0 1 = cc in omega arith)
-
-  pub under-ceiling : (k r : ℕ) → k ≡ suc d → Passes r ≡ count_of (summed ceiling g.sum a.penalty)
-      → Pushes (new_frame n k a.target p.up p.low r) ≡ push_along n d ceiling along p (look_at c i).datum.1
-  under-ceiling k r h e =
-      ap₂ (λ (x : ℕ) (y : Arc). Pushes (new_frame n x y.target p.up p.low r)) h along-is ∙ go (summed ceiling (look_at c i).datum.1 along.penalty) (e ∙ sum_is)
-    where
-      go : (o : Option ℕ) → Passes r ≡ count_of o → Pushes (new_frame n (suc d) along.target p.up p.low r) ≡ pushed o
-      go none z = absurd (let y : ◌≡◌ {A = ℕ} 0 1 = cc in omega arith)
-      go (some x) z = let q : r ≡ x = cc in ap (λ (y : ℕ). Pushes (new_frame n (suc d) along.target p.up p.low y)) q
 
 -- The move.
 
@@ -139,10 +107,10 @@ module _ (s : Setup) (classes : List (List ℕ)) (initials arcs upper lower : Li
       tries = at_top (suc (pred (end - f.next))) (untried-is f ∙ (let z : end - f.next ≡ suc (pred (end - f.next)) = omega arith in z))
           ∙ ap (try_arc M f) (ap (λ (x : Arc). under s.ceiling f.datum.1 x.penalty (follow_at t (query_by s upper lower) x f.datum.0)) arc-is ∙ ap (under s.ceiling f.datum.1 a.penalty) (follow-is s r t upper lower a f.datum.0))
 
-      skips_is : Fails ≡ fit_of o → Skips ≡ move_as n d (move M store (held n d c))
+      skips_is : None ≡ fit_of o → Skips ≡ move_as n d (move M store (held n d c))
       skips_is z = go o z ∙ ap (move_as n d) (sym tries)
         where
-          go : (x : Option Passed) → Fails ≡ fit_of x → Skips ≡ move_as n d (try_arc M f (under s.ceiling f.datum.1 a.penalty x))
+          go : (x : Option Passed) → None ≡ fit_of x → Skips ≡ move_as n d (try_arc M f (under s.ceiling f.datum.1 a.penalty x))
           go none z = refl
           go (some v) z = absurd (let y : ◌≡◌ {A = ℕ} 0 1 = cc in omega arith)
 
@@ -150,19 +118,22 @@ module _ (s : Setup) (classes : List (List ℕ)) (initials arcs upper lower : Li
       abbrev sum : ℕ
       sum = f.datum.1 + a.penalty
 
-      pushes-is : (u l : ℕ) → Fits u l ≡ fit_of o → push_if n (suc d) a.target (passed_of u l) (summed s.ceiling f.datum.1 a.penalty) ≡ move_as n d (move M store (held n d c))
-      pushes-is u l z = go o z ∙ ap (move_as n d) (sym tries)
+      pushes-is : (e : Counts.Passed) → Some e ≡ fit_of o → push_if n (suc d) a.target (passed_in e) (summed s.ceiling f.datum.1 a.penalty) ≡ move_as n d (move M store (held n d c))
+      pushes-is e z = go o z ∙ ap (move_as n d) (sym tries)
         where
-          by-sum : (v : Passed) → u ≡ v.up → l ≡ v.low → (b : Bool) → push_if n (suc d) a.target (passed_of u l) (somewhen b sum) ≡ move_as n d (try_arc M f (somewhen b (v, sum)))
+          by-sum : (v : Passed) → e.up ≡ v.up → e.low ≡ v.low → (b : Bool) → push_if n (suc d) a.target (passed_in e) (somewhen b sum) ≡ move_as n d (try_arc M f (somewhen b (v, sum)))
           by-sum v p q false = refl
           by-sum v p q true =
-              ap (λ (x : Arc). Pushes (new_frame n (suc d) x.target u l sum)) (sym arc-is)
+              ap (λ (x : Arc). Pushes (new_frame n (suc d) x.target e.up e.low sum)) (sym arc-is)
               ∙ ap₂ (λ (x y : ℕ). Pushes (new_frame n (suc d) (get_or (arcs_as arcs) f.next no_arc).target x y sum)) p q
 
-          go : (x : Option Passed) → Fits u l ≡ fit_of x
-              → push_if n (suc d) a.target (passed_of u l) (summed s.ceiling f.datum.1 a.penalty) ≡ move_as n d (try_arc M f (under s.ceiling f.datum.1 a.penalty x))
+          same : (v : Passed) → Some e ≡ fit_of (some v) → e ≡ record { up = v.up; low = v.low }
+          same v z = cc
+
+          go : (x : Option Passed) → Some e ≡ fit_of x
+              → push_if n (suc d) a.target (passed_in e) (summed s.ceiling f.datum.1 a.penalty) ≡ move_as n d (try_arc M f (under s.ceiling f.datum.1 a.penalty x))
           go none z = absurd (let y : ◌≡◌ {A = ℕ} 0 1 = cc in omega arith)
-          go (some v) z = by-sum v (cc) (cc) (leb sum s.ceiling)
+          go (some v) z = by-sum v (ap (λ (k : Counts.Passed). k.up) (same v z)) (ap (λ (k : Counts.Passed). k.low) (same v z)) (leb sum s.ceiling)
 
   -- the same by the frame that the code looked at
   module _ (first : List ℕ) (d : ℕ) (T : Top first initials arcs n d c) (z : d ≡ 0 → ⊥) (g : Frame) (E : g ≡ frame_of (look_at c (d - 1))) where
@@ -181,17 +152,11 @@ module _ (s : Setup) (classes : List (List ℕ)) (initials arcs upper lower : Li
     end_is : get_or first (g.state + 1) 0 ≡ below (suc (look_at c (d - 1)).state) (arcs_as arcs)
     end_is = ap (λ (k : ℕ). get_or first (k + 1) 0) state-is ∙ bounds.to_is
 
-    pub state-indexed : g.state + 1 < length first
-    state-indexed = omega (arith, state-is, bounds.indexed)
-
     pub drops_by : get_or first (g.state + 1) 0 ≤ g.next → Drops ≡ move_as n d (move M store (held n d c))
     drops_by h = drops_is d (d - 1) top-is (omega (arith, next-is, end_is))
 
-    pub sum-small : (look_at c (d - 1)).datum.1 ≤ most_ceiling
-    sum-small = bounds.sum-small
-
-    pub count_small : (side : Side) → passed (passed_of g.up g.low) side < 4294967295
-    count_small side = omega (arith, ap (λ (x : Frame). passed (passed_of x.up x.low) side) E, bounds.counts-small side)
+    pub count_small : (side : Side) → passed (passed_in g.passed) side < 4294967295
+    count_small side = omega (arith, ap (λ (x : Frame). passed (passed_in x.passed) side) E, bounds.counts-small side)
 
     module _ (h : g.next < get_or first (g.state + 1) 0) where
       untried-arc : (look_at c (d - 1)).next < below (suc (look_at c (d - 1)).state) (arcs_as arcs)
@@ -200,26 +165,20 @@ module _ (s : Setup) (classes : List (List ℕ)) (initials arcs upper lower : Li
       pub next_in : (look_at c (d - 1)).next < arc_count arcs
       next_in = bounds.next_in untried-arc
 
-      pub arc_in_lem : g.next < arc_count arcs
-      arc_in_lem = omega (arith, next-is, bounds.next_in untried-arc)
-
       -- and by the arc
       module _ (r : (s.up || s.low) ≡ true) (a : Held.Arc) (A : a ≡ arc_held (arc_of arcs g.next)) where
-        abbrev fitted : Fit
-        fitted = fit_of (follow_in s classes upper lower (arc_said a) (passed_of g.up g.low))
+        abbrev fitted : Code.Option Counts.Passed
+        fitted = fit_of (follow_in s classes upper lower (arc_said a) (passed_in g.passed))
 
         arc-was : arc_said a ≡ arc_of arcs (look_at c (d - 1)).next
         arc-was = ap arc_said A ∙ ap (arc_of arcs) next-is
 
-        pub arc-alike : Alike (arc_said a)
-        arc-alike = subst Alike (sym arc-was) (bounds.next-alike (bounds.next_in untried-arc))
-
         fit_is : fitted ≡ fit_of (follow_in s classes upper lower (arc_of arcs (look_at c (d - 1)).next) (look_at c (d - 1)).datum.0)
-        fit_is = ap₂ (λ (x : Arc) (y : Passed). fit_of (follow_in s classes upper lower x y)) arc-was (ap (λ (x : Frame). passed_of x.up x.low) E)
+        fit_is = ap₂ (λ (x : Arc) (y : Passed). fit_of (follow_in s classes upper lower x y)) arc-was (ap (λ (x : Frame). passed_in x.passed) E)
 
-        pub skips_by : Fails ≡ fitted → Skips ≡ move_as n d (move M store (held n d c))
+        pub skips_by : None ≡ fitted → Skips ≡ move_as n d (move M store (held n d c))
         skips_by y = skips_is d (d - 1) top-is untried-arc (bounds.next_in untried-arc) r (y ∙ fit_is)
 
-        pub pushes-by : (u l : ℕ) → Fits u l ≡ fitted
-            → push_along n d s.ceiling (arc_of arcs (look_at c (d - 1)).next) (passed_of u l) (look_at c (d - 1)).datum.1 ≡ move_as n d (move M store (held n d c))
-        pushes-by u l y = pushes-is d (d - 1) top-is untried-arc (bounds.next_in untried-arc) r u l (y ∙ fit_is)
+        pub pushes-by : (e : Counts.Passed) → Some e ≡ fitted
+            → push_along n d s.ceiling (arc_of arcs (look_at c (d - 1)).next) (passed_in e) (look_at c (d - 1)).datum.1 ≡ move_as n d (move M store (held n d c))
+        pushes-by e y = pushes-is d (d - 1) top-is untried-arc (bounds.next_in untried-arc) r e (y ∙ fit_is)

@@ -26,7 +26,7 @@ use Rattle.machine.proofs.Stack.{store_laws}
 use Rattle.engine_step.specs.declared.Move.{Move}
 use Rattle.engine_step.specs.declared.Move.TheVariants.{Drops, Skips, Pushes}
 use Rattle.engine_push.specs.declared.NewFrame.{NewFrame}
-use Rattle.engine_push.specs.declared.Verdict.TheVariants.{Refused, Enters, Accepts}
+use Rattle.std.specs.Prelude.{Some, None, Ok, Err}
 use Rattle.engine_push.specs.Pushing.{verdict_of}
 use Rattle.engine_step.specs.Setting.{held}
 use Rattle.engine_step.specs.Stepping.{move_as, after_push}
@@ -127,27 +127,27 @@ module _ (t : Table) (q : Query) (e : Held (List ℕ)) (l w : ℕ) (a : Bool) wh
   offer : (b : Bool) → length word ≡ w → ltb l w ≡ b → ltb l (length word) ≡ b
   offer b k h = ap (ltb l) k ∙ h
 
-  pub refused-is : (b : Bool) → (b ≡ true → PathIs) → (cause : StateCause) → Refused cause ≡ verdict_of b a l w → pushed (machine t q) store b l e ≡ refuses (State cause)
+  pub refused-is : (b : Bool) → (b ≡ true → PathIs) → (cause : StateCause) → Err cause ≡ verdict_of b a l w → pushed (machine t q) store b l e ≡ refuses (State cause)
   refused-is false facts cause h = let k : StackFull ≡ cause = cc in ap (λ (x : StateCause). refuses (State x)) k
   refused-is true facts cause h = ap (λ (v : Bool). arrived (machine t q) store v l e) (facts refl).0 ∙ by_accept a h
     where
-      by_length : (v : Bool) → ltb l w ≡ v → Refused cause ≡ cond v (Refused OutputFull) (Accepts w) → offered (machine t q) store (ltb l (length word)) word e ≡ refuses (State cause)
+      by_length : (v : Bool) → ltb l w ≡ v → Err cause ≡ cond v (Err OutputFull) (Ok (Some w)) → offered (machine t q) store (ltb l (length word)) word e ≡ refuses (State cause)
       by_length true k h = ap (λ (v : Bool). offered (machine t q) store v word e) (offer true (facts refl).1 k) ∙ (let z : OutputFull ≡ cause = cc in ap (λ (x : StateCause). refuses (State x)) z)
       by_length false k h = absurd (let z : ◌≡◌ {A = ℕ} 0 1 = cc in omega arith)
 
-      by_accept : (v : Bool) → Refused cause ≡ verdict_of true v l w → arrived (machine t q) store v l e ≡ refuses (State cause)
+      by_accept : (v : Bool) → Err cause ≡ verdict_of true v l w → arrived (machine t q) store v l e ≡ refuses (State cause)
       by_accept false h = absurd (let z : ◌≡◌ {A = ℕ} 0 1 = cc in omega arith)
       by_accept true h = by_length (ltb l w) refl h
 
-  pub enters_are : (b : Bool) → (b ≡ true → PathIs) → Enters ≡ verdict_of b a l w → (b ≡ true) × (pushed (machine t q) store b l e ≡ moves e)
+  pub enters_are : (b : Bool) → (b ≡ true → PathIs) → Ok None ≡ verdict_of b a l w → (b ≡ true) × (pushed (machine t q) store b l e ≡ moves e)
   enters_are false facts h = absurd (let z : ◌≡◌ {A = ℕ} 0 1 = cc in omega arith)
   enters_are true facts h = (refl, ap (λ (v : Bool). arrived (machine t q) store v l e) (facts refl).0 ∙ by_accept a h)
     where
-      by_length : (v : Bool) → Enters ≡ cond v (Refused OutputFull) (Accepts w) → ⊥
+      by_length : (v : Bool) → Ok None ≡ cond v (Err OutputFull) (Ok (Some w)) → ⊥
       by_length true h = let z : ◌≡◌ {A = ℕ} 0 1 = cc in omega arith
       by_length false h = let z : ◌≡◌ {A = ℕ} 0 1 = cc in omega arith
 
-      by_accept : (v : Bool) → Enters ≡ verdict_of true v l w → arrived (machine t q) store v l e ≡ moves e
+      by_accept : (v : Bool) → Ok None ≡ verdict_of true v l w → arrived (machine t q) store v l e ≡ moves e
       by_accept false h = refl
       by_accept true h = absurd (by_length (ltb l w) h)
 
@@ -157,11 +157,11 @@ module _ (t : Table) (q : Query) (e : Held (List ℕ)) (l w : ℕ) (a : Bool) wh
     pub has_space : k ≤ l
     pub told : pushed (machine t q) store b l e ≡ finds e word
 
-  pub accepts-are : (b : Bool) → (b ≡ true → PathIs) → (k : ℕ) → Accepts k ≡ verdict_of b a l w → Found b k
+  pub accepts-are : (b : Bool) → (b ≡ true → PathIs) → (k : ℕ) → Ok (Some k) ≡ verdict_of b a l w → Found b k
   accepts-are false facts k h = absurd (let z : ◌≡◌ {A = ℕ} 0 1 = cc in omega arith)
   accepts-are true facts k h = by_accept a refl h
     where
-      by_length : (v : Bool) → ltb l w ≡ v → a ≡ true → Accepts k ≡ cond v (Refused OutputFull) (Accepts w) → Found true k
+      by_length : (v : Bool) → ltb l w ≡ v → a ≡ true → Ok (Some k) ≡ cond v (Err OutputFull) (Ok (Some w)) → Found true k
       by_length true z y h = absurd (let z : ◌≡◌ {A = ℕ} 0 1 = cc in omega arith)
       by_length false z y h =
           let kw : k ≡ w = cc in
@@ -172,6 +172,6 @@ module _ (t : Table) (q : Query) (e : Held (List ℕ)) (l w : ℕ) (a : Bool) wh
             told = ap (λ (v : Bool). arrived (machine t q) store v l e) ((facts refl).0 ∙ y) ∙ ap (λ (v : Bool). offered (machine t q) store v word e) (offer false (facts refl).1 z);
           }
 
-      by_accept : (v : Bool) → a ≡ v → Accepts k ≡ verdict_of true v l w → Found true k
+      by_accept : (v : Bool) → a ≡ v → Ok (Some k) ≡ verdict_of true v l w → Found true k
       by_accept false y h = absurd (let z : ◌≡◌ {A = ℕ} 0 1 = cc in omega arith)
       by_accept true y h = by_length (ltb l w) refl y h

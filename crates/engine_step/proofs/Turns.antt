@@ -26,18 +26,16 @@ use Rattle.machine.proofs.Range.{in_range}
 use Rattle.machine.proofs.Stack.{store_laws}
 use Rattle.machine.proofs.Penalties.{written-length}
 use Rattle.engine_frames.specs.declared.Setup.{Setup}
-use Rattle.engine_frames.specs.Sides.{done_by, written_of}
+use Rattle.engine_frames.specs.Sides.{passed_in, done_by, written_of}
 use Rattle.engine_frames.specs.Output.{Tried, letters_by}
 use Rattle.engine_push.specs.declared.NewFrame.{NewFrame}
-use Rattle.engine_push.specs.declared.Verdict.{Verdict}
-use Rattle.engine_push.specs.declared.Verdict.TheVariants as Met
-use Rattle.engine_push.specs.declared.Verdict.TheVariants.{Enters, Accepts}
-use Rattle.engine_push.specs.Pushing.{passed_in, frame_in, verdict_by, tried_below, entered_at, pushed_cells, pushed_output, Pushable}
+use Rattle.std.specs.Prelude.{Result, Some, None, Ok, Err}
+use Rattle.engine_push.specs.Pushing.{Verdict, frame_in, verdict_by, tried_below, entered_at, pushed_cells, pushed_output, Pushable}
 use Rattle.engine_push.proofs.Cells.{tried-length, entered-length}
 use Rattle.engine_step.specs.declared.Move.{Move}
 use Rattle.engine_step.specs.declared.Move.TheVariants.{Drops, Skips, Pushes}
 use Rattle.engine_step.specs.declared.Turn.{Turn}
-use Rattle.engine_step.specs.declared.Turn.TheVariants.{Moved, Finds, Refused}
+use Rattle.engine_step.specs.declared.Turn.TheVariants.{Moved, Finds}
 use Rattle.engine_step.specs.Setting.{query_by, table_by, machine_by, held, Prepared}
 use Rattle.engine_step.specs.Stepping.{move_as, after_push, TurnIs}
 use Rattle.engine_step.proofs.Moves.{begins-is}
@@ -54,13 +52,10 @@ entered-top : (c : List ℕ) (d : ℕ) (f : F.Frame (Passed × ℕ)) → d < roo
 entered-top c d f h = store_laws.look-same (tried_below c d) d f (let z = tried-length c d in omega arith)
 
 -- what a step makes of a push, where the run after it has m initial states started and depth d
-abbrev pub turn_as : Run → ℕ → ℕ → Verdict → Turn
-turn_as run m d (Met.Refused cause) = Refused cause
-turn_as run m d Enters = Moved (moved_to run m d)
-turn_as run m d (Accepts k) = Finds (moved_to run m d) k
-
-pub finds_ap : {a b : Run} (k : ℕ) → a ≡ b → Finds a k ≡ Finds b k
-finds_ap k e = ap (λ (r : Run). Finds r k) e
+abbrev pub turn_as : Run → ℕ → ℕ → Verdict → Result Turn StateCause
+turn_as run m d (Err cause) = Err cause
+turn_as run m d (Ok None) = Ok (Moved (moved_to run m d))
+turn_as run m d (Ok (Some k)) = Ok (Finds (moved_to run m d) k)
 
 module _ {s : Setup} {classes : List (List ℕ)} {first initials terminals arcs upper lower : List ℕ} (R : Prepared s classes first initials terminals arcs upper lower) where
   abbrev t : Table
@@ -81,15 +76,15 @@ module _ {s : Setup} {classes : List (List ℕ)} {first initials terminals arcs 
     tells r e = e ∙ ap (move_as n d) (same_move s classes initials terminals arcs upper lower (held n d c))
 
     module _ (b : List ℕ) where
-      turn_by : (x : Stepped (List ℕ)) (r : Turn) (e o : List ℕ) → step M store (length b) (held n d c) ≡ x → TurnIs run x c b r e o → TurnIs run (step M store (length b) (held n d c)) c b r e o
+      turn_by : (x : Stepped (List ℕ)) (r : Result Turn StateCause) (e o : List ℕ) → step M store (length b) (held n d c) ≡ x → TurnIs run x c b r e o → TurnIs run (step M store (length b) (held n d c)) c b r e o
       turn_by x r e o k T = subst (λ (y : Stepped (List ℕ)). TurnIs run y c b r e o) (sym k) T
 
-      pub drop-turn : Drops ≡ told → (r : Run) → r ≡ moved_to run n (d - 1) → TurnIs run (step M store (length b) (held n d c)) c b (Moved r) c b
+      pub drop-turn : Drops ≡ told → (r : Run) → r ≡ moved_to run n (d - 1) → TurnIs run (step M store (length b) (held n d c)) c b (Ok (Moved r)) c b
       drop-turn e r k =
           turn_by (moves (held n (pred d) c)) _ _ _ (step_as t q n c d left (length b) Drops (tells Drops e))
-          (ap Moved (k ∙ ap (moved_to run n) (let z : d - 1 ≡ pred d = omega arith in z)), refl, refl)
+          (ap (λ (x : Run). Ok (Moved x)) (k ∙ ap (moved_to run n) (let z : d - 1 ≡ pred d = omega arith in z)), refl, refl)
 
-      pub skip_turn : Skips ≡ told → (e : List ℕ) → e ≡ put_at c (d - 1) (tried_of (look_at c (d - 1))) → TurnIs run (step M store (length b) (held n d c)) c b (Moved (moved_to run n d)) e b
+      pub skip_turn : Skips ≡ told → (e : List ℕ) → e ≡ put_at c (d - 1) (tried_of (look_at c (d - 1))) → TurnIs run (step M store (length b) (held n d c)) c b (Ok (Moved (moved_to run n d))) e b
       skip_turn k e h =
           turn_by (moves (effect_as t q n d c Skips)) _ _ _ (step_as t q n c d left (length b) Skips (tells Skips k))
           (refl, h ∙ ap (λ (j : ℕ). put_at c j (tried_of (look_at c j))) (let z : d - 1 ≡ pred d = omega arith in z), refl)
@@ -121,16 +116,16 @@ module _ {s : Setup} {classes : List (List ℕ)} {first initials terminals arcs 
 
     module _ (b : List ℕ) (e : NewFrame) (E : Pushes e ≡ told) where
       abbrev f : F.Frame (Passed × ℕ)
-      f = entering M e.state (passed_in e, e.sum)
+      f = entering M e.state (passed_in e.passed, e.sum)
 
       abbrev after : Held (List ℕ)
       after = after_push t q d c e
 
       abbrev accepting : Bool
-      accepting = member e.state terminals && done_by s upper lower (passed_in e)
+      accepting = member e.state terminals && done_by s upper lower (passed_in e.passed)
 
       abbrev count : ℕ
-      count = written_of s (passed_in e)
+      count = written_of s (passed_in e.passed)
 
       module _ (room : d < room_in c) where
         top : look_at (entered_at c d f) d ≡ f
@@ -144,11 +139,11 @@ module _ {s : Setup} {classes : List (List ℕ)} {first initials terminals arcs 
         accepts-after : accepts M (path_of M store after) ≡ accepting
         accepts-after =
             accepts-top M e.started f (frames_of store (entered_at c d f) d) placed
-            ∙ ap (λ (v : Bool). member e.state terminals && v) (done-is s R.reads-some t upper lower (passed_in e))
+            ∙ ap (λ (v : Bool). member e.state terminals && v) (done-is s R.reads-some t upper lower (passed_in e.passed))
 
         length-after : length (output M (path_of M store after)) ≡ count
         length-after =
-            written-length t q (walk_to e.started (frames_of store (entered_at c d f) d)) (passed_in e, e.sum) placed.datum-is ∙ written_is s R.reads-some upper lower (passed_in e)
+            written-length t q (walk_to e.started (frames_of store (entered_at c d f) d)) (passed_in e.passed, e.sum) placed.datum-is ∙ written_is s R.reads-some upper lower (passed_in e.passed)
 
         in_states : e.state < s.states
         in_states = (in_range t q (rules R) e.started f (frames_of store (entered_at c d f) d) placed).state_in_lem
@@ -174,7 +169,7 @@ module _ {s : Setup} {classes : List (List ℕ)} {first initials terminals arcs 
       pushes : step M store (length b) (held n d c) ≡ pushed M store (ltb d (room_in c)) (length b) after
       pushes = step_as t q n c d left (length b) (Pushes e) (tells (Pushes e) E)
 
-      refuse_turn : (cause : StateCause) → Met.Refused cause ≡ verdict → (g o : List ℕ) → g ≡ c → o ≡ b → TurnIs run (step M store (length b) (held n d c)) c b (Refused cause) g o
+      refuse_turn : (cause : StateCause) → Err cause ≡ verdict → (g o : List ℕ) → g ≡ c → o ≡ b → TurnIs run (step M store (length b) (held n d c)) c b (Err cause) g o
       refuse_turn cause v g o y z =
           turn_by b (refuses (State cause)) _ _ _ (pushes ∙ refused-is t q after (length b) count accepting (ltb d (room_in c)) facts cause v) (refl, y, z)
 
@@ -182,12 +177,12 @@ module _ {s : Setup} {classes : List (List ℕ)} {first initials terminals arcs 
         cells_is : d < room_in c → g ≡ entered_at c d f
         cells_is room = entered ∙ ap (entered_at c d) (frame_is room)
 
-        enter_turn : Enters ≡ verdict → (o : List ℕ) → o ≡ b → TurnIs run (step M store (length b) (held n d c)) c b (Moved (moved_to run e.started (suc d))) g o
+        enter_turn : Ok None ≡ verdict → (o : List ℕ) → o ≡ b → TurnIs run (step M store (length b) (held n d c)) c b (Ok (Moved (moved_to run e.started (suc d)))) g o
         enter_turn v o z =
             let X = enters_are t q after (length b) count accepting (ltb d (room_in c)) facts v in
             turn_by b (moves after) _ _ _ (pushes ∙ X.1) (refl, cells_is (ltb-true d (room_in c) X.0), z)
 
-        module _ (k : ℕ) (v : Accepts k ≡ verdict) where
+        module _ (k : ℕ) (v : Ok (Some k) ≡ verdict) where
           F₀ : Found t q after (length b) count accepting (ltb d (room_in c)) k
           F₀ = accepts-are t q after (length b) count accepting (ltb d (room_in c)) facts k v
 
@@ -200,10 +195,10 @@ module _ {s : Setup} {classes : List (List ℕ)} {first initials terminals arcs 
           write_ready : Tried s arcs upper lower g d × ((k ≡ length (letters_by s arcs upper lower g d)) × (k ≤ length b))
           write_ready = (subst (λ (l : List ℕ). Tried s arcs upper lower l d) (sym (cells_is room₀)) (tried-after room₀), (F₀.counted ∙ ap length word-is, F₀.has_space))
 
-          find_turn : (o : List ℕ) → o ≡ letters_by s arcs upper lower g d ++ drop (length (letters_by s arcs upper lower g d)) b → TurnIs run (step M store (length b) (held n d c)) c b (Finds (moved_to run e.started (suc d)) k) g o
+          find_turn : (o : List ℕ) → o ≡ letters_by s arcs upper lower g d ++ drop (length (letters_by s arcs upper lower g d)) b → TurnIs run (step M store (length b) (held n d c)) c b (Ok (Finds (moved_to run e.started (suc d)) k)) g o
           find_turn o w =
               turn_by b (finds after (output M (path_of M store after))) _ _ _ (pushes ∙ F₀.told) (
-                ap (Finds (moved_to run e.started (suc d))) F₀.counted,
+                ap (λ (x : ℕ). Ok (Finds (moved_to run e.started (suc d)) x)) F₀.counted,
                 cells_is room₀,
                 w ∙ ap (λ (l : List ℕ). l ++ drop (length l) b) (sym word-is),
               )
@@ -230,15 +225,15 @@ module _ {s : Setup} {classes : List (List ℕ)} {first initials terminals arcs 
 
       push_by : (v : Verdict) (g o : List ℕ) → v ≡ verdict → g ≡ pushed_cells v c d (frame_in e (get_or first e.state 0)) → o ≡ pushed_output v s arcs upper lower g d b
           → TurnIs run (step M store (length b) (held n d c)) c b (turn_as run e.started (suc d) v) g o
-      push_by (Met.Refused cause) g o v y z = refuse_turn cause v g o y z
-      push_by Enters g o v y z = enter_turn g y v o z
-      push_by (Accepts k) g o v y z = find_turn g y k v o z
+      push_by (Err cause) g o v y z = refuse_turn cause v g o y z
+      push_by (Ok None) g o v y z = enter_turn g y v o z
+      push_by (Ok (Some k)) g o v y z = find_turn g y k v o z
 
       -- by what the code of a push says
-      pub push_turn : (v : Verdict) (g o : List ℕ) (r : Turn) → v ≡ verdict_by s terminals upper lower (e.depth - 1) e c (length b)
+      pub push_turn : (v : Verdict) (g o : List ℕ) (r : Result Turn StateCause) → v ≡ verdict_by s terminals upper lower (e.depth - 1) e c (length b)
           → g ≡ pushed_cells v c (e.depth - 1) (frame_in e (get_or first e.state 0)) → o ≡ pushed_output v s arcs upper lower g (e.depth - 1) b → r ≡ turn_as run e.started e.depth v
           → TurnIs run (step M store (length b) (held n d c)) c b r g o
       push_turn v g o r y z w k =
-          subst (λ (i : Turn). TurnIs run (step M store (length b) (held n d c)) c b i g o) (sym (k ∙ ap (λ (i : ℕ). turn_as run e.started i v) after_is))
+          subst (λ (i : Result Turn StateCause). TurnIs run (step M store (length b) (held n d c)) c b i g o) (sym (k ∙ ap (λ (i : ℕ). turn_as run e.started i v) after_is))
           (push_by v g o (y ∙ ap (λ (i : ℕ). verdict_by s terminals upper lower i e c (length b)) below-is)
           (z ∙ ap (λ (i : ℕ). pushed_cells v c i (frame_in e (get_or first e.state 0))) below-is) (w ∙ ap (λ (i : ℕ). pushed_output v s arcs upper lower g i b) below-is))

@@ -1,5 +1,5 @@
 -- The machine of a search, by the parts of the loaded table and the words that the code is lent.
-use Rattle.std.specs.Prelude.{ℕ, suc, ◌+◌, ◌≤◌, ◌<◌, ◌≡◌, Bool, true, false, ◌||◌, List, length, get_or, ltb}
+use Rattle.std.specs.Prelude.{ℕ, suc, ◌+◌, ◌≤◌, ◌<◌, ◌≡◌, Bool, true, false, ◌||◌, List, [], length, get_or, ltb}
 use Rattle.table_format.specs.Table.{Arc, Table}
 use Rattle.table_format.specs.Classes.{first_class}
 use Rattle.table_format.specs.Rules.{keeps_rules}
@@ -11,6 +11,7 @@ use Rattle.machine.specs.Frames.{Held}
 use Rattle.machine.specs.Transducer.{passed, machine}
 use Rattle.machine.specs.Stack.{most_frames, frames_in, look_at}
 use Rattle.engine_frames.specs.declared.Setup.{Setup}
+use Rattle.engine_frames.specs.declared.Setting.{Setting}
 
 -- the task that reads these sides, one or both
 abbrev pub task_by : Bool → Bool → Task
@@ -51,6 +52,18 @@ pub record Prepared (s : Setup) (classes : List (List ℕ)) (first initials term
   pub reads-some : (s.up || s.low) ≡ true
   pub words_small : SmallWords upper lower
   pub ceiling-small : s.ceiling ≤ most_ceiling
+
+-- the same of what a search goes by
+abbrev pub IsPrepared : Setting → Type 0
+IsPrepared s = Prepared s.setup s.classes.now s.first.now s.initials.now s.terminals.now s.arcs.now s.upper.now s.lower.now
+
+-- its machine
+abbrev pub machine_of : Setting → Machine
+machine_of s = machine_by s.setup s.classes.now s.initials.now s.terminals.now s.arcs.now s.upper.now s.lower.now
+
+-- its machine where no terminal state is looked at, as for a move or a place
+abbrev pub moving_of : Setting → Machine
+moving_of s = machine_by s.setup s.classes.now s.initials.now [] s.arcs.now s.upper.now s.lower.now
 
 -- what is known of the frame at d: its state has its place in the index, its next arc is within the arcs and has a class on both sides or on none,
 -- its counts and its sum can grow

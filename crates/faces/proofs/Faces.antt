@@ -2,18 +2,17 @@
 use Prim.Native.Nat.{ℕ, ◌+◌, ◌-◌, ◌<◌, ◌≤◌}
 use native.Mathlib.Omega.{arith}
 use native.Mathlib.Numerals.{add-one}
-use mathlib.Core.Path.{◌≡◌, refl, sym, ap, ◌∙◌}
-use mathlib.Core.Bool.{Bool, true, false, not, ◌&&◌, ◌||◌, and-false, or-false}
-use mathlib.Core.List.{List, [], ◌∷◌}
+use mathlib.Core.Path.{◌≡◌, refl, ap, ◌∙◌}
+use mathlib.Core.Bool.{Bool, true, false, ◌&&◌, and-false}
+use mathlib.Core.List.{List, []}
 use lib.Dec.{eqb, leb}
-use lib.ListN.{length, get_or, take, set, replicate, length-set, length-replicate, get_or-replicate}
-use lib.Seq.{get_or-set_same, get_or-set_other, take-suc}
-use borrow.Author.Tests.{leb-true, le-leb, lt-leb, eqb-true, eqb-false, eq-eqb, ne_eqb, not-true}
-use Rattle.table_format.specs.Rules.{any, each}
-use Rattle.table_format.proofs.Tests.{and_left, and_right, and_both, or_right}
+use lib.ListN.{length, get_or, take}
+use borrow.Author.Tests.{leb-true, eqb-true, eq-eqb, ne_eqb, not-true}
+use Rattle.table_format.specs.Rules.{each}
+use Rattle.table_format.proofs.Tests.{and_left, and_right, and_both}
 use Rattle.table_format.specs.Ruled.{Differ}
 use Rattle.table_format.proofs.Ruled.{each-differ}
-use Rattle.table_format.proofs.Each.{each_at, each_more, each-fails, each-done, any_append}
+use Rattle.table_format.proofs.Each.{each_at, each_more, each-fails, each-done}
 use Rattle.faces.specs.Faces.{face_count, face_holds, faces_hold, face_of}
 use Rattle.faces.proofs.Lent.{IsLetter}
 
@@ -45,76 +44,24 @@ module _ (faces : List ℕ) (holds : faces_hold faces ≡ true) where
       let same : x - 1 ≡ y - 1 = faces-differ 0 (x - 1) (y - 1) (omega arith) (omega arith) e in
       omega arith
 
--- The faces seen, one after another.
+-- The faces, one after another.
 
-abbrev among : List ℕ → ℕ → ℕ → Bool
-among faces k c = any (λ d. eqb d c) (take k faces)
-
-pub record Seen (faces : List ℕ) (seen : List Bool) (k : ℕ) : Type 0 where
-  pub size : length seen ≡ 127
-  pub hold : each face_holds [] (take k faces) ≡ true
-  pub told : (c : ℕ) → c < 127 → get_or seen c false ≡ among faces k c
-
-pub seen_none : (faces : List ℕ) → Seen faces (replicate 127 false) 0
+pub faces-none : each face_holds [] [] ≡ true
 unfolding each
-seen_none faces = record { size = length-replicate 127 false; hold = refl; told = λ c h. get_or-replicate 127 c false false h }
+faces-none = refl
 
-module _ (faces : List ℕ) (seen : List Bool) (k c : ℕ) (S : Seen faces seen k) (h : k < length faces) (is : c ≡ get_or faces k 0) where
-  among-more : (b : ℕ) → among faces (k + 1) b ≡ (among faces k b || eqb c b)
-  among-more b =
-      ap (λ (n : ℕ). among faces n b) (add-one k)
-      ∙ ap (any (λ d. eqb d b)) (take-suc faces k 0 h)
-      ∙ any_append (λ d. eqb d b) (take k faces) (get_or faces k 0 ∷ [])
-      ∙ ap (λ (x : ℕ). among faces k b || (eqb x b || false)) (sym is)
-      ∙ ap (λ (x : Bool). among faces k b || x) (or-false (eqb c b))
+module _ (faces : List ℕ) (k : ℕ) (h : k < length faces) where
+  pub faces-more : each face_holds [] (take k faces) ≡ true → face_holds (take k faces) (get_or faces k 0) ≡ true → each face_holds [] (take (k + 1) faces) ≡ true
+  faces-more so_far test = ap (λ (n : ℕ). each face_holds [] (take n faces)) (add-one k) ∙ each_more face_holds 0 faces k h so_far test
 
-  pub seen_more : 33 ≤ c → c ≤ 126 → get_or seen c false ≡ false → Seen faces (set seen c true) (k + 1)
-  seen_more low high new = record {
-    size = length-set seen c true ∙ S.size;
-    hold = ap (λ (n : ℕ). each face_holds [] (take n faces)) (add-one k) ∙ each_more face_holds 0 faces k h S.hold test;
-    told = told;
-  }
-    where
-      absent : among faces k c ≡ false
-      absent = sym (S.told c (omega arith)) ∙ new
-
-      test : face_holds (take k faces) (get_or faces k 0) ≡ true
-      test = ap (face_holds (take k faces)) (sym is) ∙ and_both (le-leb 33 c low) (and_both (le-leb c 126 high) (ap not absent))
-
-      told : (b : ℕ) → b < 127 → get_or (set seen c true) b false ≡ among faces (k + 1) b
-      told b less = go (eqb c b) refl
-        where
-          go : (t : Bool) → eqb c b ≡ t → get_or (set seen c true) b false ≡ among faces (k + 1) b
-          go true e =
-              let same : c ≡ b = eqb-true _ _ e in
-              ap (λ (x : ℕ). get_or (set seen c true) x false) (sym same)
-              ∙ get_or-set_same seen c true false (omega (arith, S.size))
-              ∙ sym (among-more b ∙ or_right (among faces k b) (eqb c b) e)
-          go false e =
-              get_or-set_other seen c b true false (λ (q : b ≡ c). eqb-false _ _ e (sym q))
-              ∙ S.told b less
-              ∙ sym (among-more b ∙ ap (λ (x : Bool). among faces k b || x) e ∙ or-false (among faces k b))
-
-  fails : face_holds (take k faces) c ≡ false → faces_hold faces ≡ false
+  pub face-fails : face_holds (take k faces) (get_or faces k 0) ≡ false → faces_hold faces ≡ false
   unfolding faces_hold
-  fails f =
-      ap (λ (b : Bool). eqb (length faces) face_count && b) (each-fails face_holds 0 faces k h (ap (face_holds (take k faces)) (sym is) ∙ f))
-      ∙ and-false (eqb (length faces) face_count)
-
-  pub face-low : c < 33 → faces_hold faces ≡ false
-  face-low low = fails (ap (λ (b : Bool). b && (leb c 126 && not (among faces k c))) (lt-leb 33 c low))
-
-  pub face-high : 33 ≤ c → 126 < c → faces_hold faces ≡ false
-  face-high low high = fails (rw (le-leb 33 c low, lt-leb c 126 high))
-
-  pub face-again : 33 ≤ c → c ≤ 126 → get_or seen c false ≡ true → faces_hold faces ≡ false
-  face-again low high old =
-      let there : among faces k c ≡ true = sym (S.told c (omega arith)) ∙ old in fails (rw (le-leb 33 c low, le-leb c 126 high, there))
+  face-fails f = ap (λ (b : Bool). eqb (length faces) face_count && b) (each-fails face_holds 0 faces k h f) ∙ and-false (eqb (length faces) face_count)
 
 pub faces-other : (faces : List ℕ) → (length faces ≡ face_count → ⊥) → faces_hold faces ≡ false
 unfolding faces_hold
 faces-other faces h = ap (λ (b : Bool). b && each face_holds [] faces) (ne_eqb _ _ h)
 
-pub faces_hold_lem : (faces : List ℕ) (seen : List Bool) (k : ℕ) → Seen faces seen k → length faces ≡ face_count → face_count ≤ k → faces_hold faces ≡ true
+pub faces_hold_lem : (faces : List ℕ) (k : ℕ) → each face_holds [] (take k faces) ≡ true → length faces ≡ face_count → length faces ≤ k → faces_hold faces ≡ true
 unfolding faces_hold
-faces_hold_lem faces seen k S e h = and_both (eq-eqb _ _ e) (each-done face_holds faces k (omega arith) S.hold)
+faces_hold_lem faces k so_far e h = and_both (eq-eqb _ _ e) (each-done face_holds faces k h so_far)

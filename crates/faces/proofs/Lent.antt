@@ -2,15 +2,14 @@
 use Prim.Native.Nat.{ℕ, zero, suc, ◌+◌, ◌-◌, ◌*◌, ◌<◌, ◌≤◌}
 use native.Mathlib.Omega.{arith}
 use native.Mathlib.Nat.{zero-add}
-use native.Mathlib.Numerals.{add-one}
 use mathlib.Core.Path.{◌≡◌, refl, sym, ap, ap₂, ◌∙◌}
-use mathlib.Core.Bool.{Bool, true, false, cond, ◌&&◌, and-true, and-false, false≢true}
+use mathlib.Core.Bool.{Bool, true, false, cond, ◌&&◌, and-false, false≢true}
 use mathlib.Core.Option.{Option, none, some, map}
 use mathlib.Core.List.{List, [], ◌∷◌, ◌++◌}
-use lib.Dec.{leb, leb-zero, leb-suc-zero, leb-suc-suc}
-use lib.ListN.{length, get_or, take, drop, length-append, length-drop, drop_of_length-le}
-use lib.Seq.{take-append_seam, drop-append_seam, take-suc, drop-cons, drop-drop}
-use borrow.Author.Tests.{le-leb, lt-leb, leb-true, leb-false}
+use lib.Dec.{eqb, leb, leb-zero, leb-suc-zero, leb-suc-suc}
+use lib.ListN.{length, get_or, take, drop, length-append}
+use lib.Seq.{take_all, take-append_seam, drop-append_seam}
+use borrow.Author.Tests.{le-leb, lt-leb, leb-true, eqb-true, eqb-false}
 use mir.Syntax.{w8}
 use mir.Val.{Fits}
 use Rattle.table_format.proofs.All.{All}
@@ -18,7 +17,7 @@ use Rattle.table_format.proofs.Tests.{and_left, and_right}
 use Rattle.table_format.specs.Text.{number}
 use Rattle.table_format.proofs.Line.{IsByte}
 use Rattle.table_format.proofs.Text.{number_value, number_exact}
-use Rattle.faces.specs.Lent.{lent_bytes, onto, lent_from, lent_in, letters_at, every, is_letter, most_readings, readings_hold, held_as, list_holds, list_as, list_of}
+use Rattle.faces.specs.Lent.{lent_bytes, onto, lent_from, lent_in, IsCut, at_end, at_half, at_short, every, is_letter, most_readings, readings_hold, held_as, list_holds, list_as, list_of}
 
 -- what a slice of bytes knows of its elements
 pub bytes-all : (l : List ℕ) → ((i : ℕ) → Fits w8 (get_or l i 0)) → All IsByte l
@@ -45,15 +44,6 @@ every_append test (x ∷ xs) ys = go (test x) (every_append test xs ys)
     go true e = e
     go false e = refl
 
--- one letter more
-pub letters-more : (letters : List ℕ) (k : ℕ) (b : Bool) → k < length letters → is_letter (get_or letters k 0) ≡ b
-    → every is_letter (take (k + 1) letters) ≡ (every is_letter (take k letters) && b)
-letters-more letters k b h e =
-    ap (λ (n : ℕ). every is_letter (take n letters)) (add-one k)
-    ∙ ap (every is_letter) (take-suc letters k 0 h)
-    ∙ every_append is_letter (take k letters) (get_or letters k 0 ∷ [])
-    ∙ ap (λ (t : Bool). every is_letter (take k letters) && t) (and-true (is_letter (get_or letters k 0)) ∙ e)
-
 -- One reading at a time.
 
 -- the first n bytes are a reading, and those after it are readings
@@ -77,51 +67,34 @@ lent_cut (suc n) (x ∷ bytes) =
     ∙ onto-cut x (leb n (length bytes)) (take n bytes) (lent_in (drop n bytes))
     ∙ rw leb-suc-suc
 
--- the letters of the reading whose length stands at a place
-abbrev pub reading_at : List ℕ → ℕ → List ℕ
-reading_at bytes at = take (letters_at bytes at) (drop (at + 2) bytes)
+-- a reading in front of others, and none where it is cut short
+pub lent-one : (w rest : List ℕ) → lent_in (number (length w) ++ (w ++ rest)) ≡ map (λ ws. w ∷ ws) (lent_in rest)
+unfolding lent_in
+lent-one w rest =
+    ap (λ (n : ℕ). lent_from n (w ++ rest)) (number_value (length w))
+    ∙ lent_cut (length w) (w ++ rest)
+    ∙ rw (le-leb (length w) (length (w ++ rest)) (simp length-append (omega arith)), take-append_seam, drop-append_seam)
 
--- the same letters as a part from one place to another
-pub reading-part : (bytes : List ℕ) (at n : ℕ) → n ≡ letters_at bytes at → take (at + 2 + n - (at + 2)) (drop (at + 2) bytes) ≡ reading_at bytes at
-reading-part bytes at n e = let size : at + 2 + n - (at + 2) ≡ letters_at bytes at = omega arith in ap (λ (k : ℕ). take k (drop (at + 2) bytes)) size
+-- fewer than two bytes, and fewer letters than two bytes say, are cut short
+pub cut_few : (bytes : List ℕ) → length bytes < 2 → IsCut bytes
+cut_few [] h = at_end
+cut_few (x ∷ []) h = at_half x
+cut_few (x ∷ y ∷ bytes) h = absurd (omega arith)
 
-module _ (bytes : List ℕ) (at : ℕ) where
-  drop-two : at + 1 < length bytes → drop at bytes ≡ get_or bytes at 0 ∷ get_or bytes (at + 1) 0 ∷ drop (at + 2) bytes
-  drop-two h =
-      let one : suc at ≡ at + 1 = omega arith in
-      let two : suc (at + 1) ≡ at + 2 = omega arith in
-      drop-cons bytes at 0 (omega arith)
-      ∙ ap (λ (l : List ℕ). get_or bytes at 0 ∷ l)
-      (ap (λ (k : ℕ). drop k bytes) one ∙ drop-cons bytes (at + 1) 0 h ∙ ap (λ (k : ℕ). get_or bytes (at + 1) 0 ∷ drop k bytes) two)
+pub cut_letters : (bytes : List ℕ) (n : ℕ) → 2 ≤ length bytes → n ≡ get_or bytes 0 0 * 256 + get_or bytes 1 0 → length (take (length bytes - 2) (drop 2 bytes)) < n → IsCut bytes
+cut_letters [] n h e k = absurd (omega arith)
+cut_letters (x ∷ []) n h e k = absurd (omega arith)
+cut_letters (x ∷ y ∷ bytes) n h e k =
+    let all : take (length (x ∷ y ∷ bytes) - 2) bytes ≡ bytes = take_all (length (x ∷ y ∷ bytes) - 2) bytes (omega arith) in
+    at_short x y bytes (omega (arith, ap length all))
 
-  lent-step : at + 1 < length bytes → lent_in (drop at bytes) ≡ cut_at (letters_at bytes at) (drop (at + 2) bytes)
-  unfolding lent_in
-  lent-step h = ap lent_in (drop-two h) ∙ lent_cut (letters_at bytes at) (drop (at + 2) bytes)
-
-  -- a length that is cut short, letters that are, and neither
-  lent-short : at < length bytes → length bytes < at + 2 → lent_in (drop at bytes) ≡ none
-  unfolding lent_in
-  lent-short h k =
-      ap lent_in (drop-cons bytes at 0 h)
-      ∙ ap (λ (l : List ℕ). lent_in (get_or bytes at 0 ∷ l)) (no_more (drop (suc at) bytes) (length-drop (suc at) bytes ∙ omega arith))
-    where
-      no_more : (l : List ℕ) → length l ≡ 0 → l ≡ []
-      no_more [] e = refl
-      no_more (x ∷ l) e = absurd (omega arith)
-
-  lent_missing : at + 1 < length bytes → length bytes < at + 2 + letters_at bytes at → lent_in (drop at bytes) ≡ none
-  lent_missing h k =
-      lent-step h
-      ∙ ap (λ (b : Bool). cond b (map (λ ws. reading_at bytes at ∷ ws) (lent_in (drop (letters_at bytes at) (drop (at + 2) bytes)))) none)
-      (lt-leb (letters_at bytes at) (length (drop (at + 2) bytes)) (omega (arith, length-drop (at + 2) bytes)))
-
-  lent-more : at + 1 < length bytes → at + 2 + letters_at bytes at ≤ length bytes
-      → lent_in (drop at bytes) ≡ map (λ ws. reading_at bytes at ∷ ws) (lent_in (drop (at + 2 + letters_at bytes at) bytes))
-  lent-more h k =
-      lent-step h
-      ∙ ap (λ (b : Bool). cond b (map (λ ws. reading_at bytes at ∷ ws) (lent_in (drop (letters_at bytes at) (drop (at + 2) bytes)))) none)
-      (le-leb (letters_at bytes at) (length (drop (at + 2) bytes)) (omega (arith, length-drop (at + 2) bytes)))
-      ∙ ap (λ (l : List ℕ). map (λ ws. reading_at bytes at ∷ ws) (lent_in l)) (drop-drop (letters_at bytes at) (at + 2) bytes)
+pub lent-short : (bytes : List ℕ) → IsCut bytes → (length bytes ≡ 0 → ⊥) → lent_in bytes ≡ none
+unfolding lent_in
+lent-short _ at_end h = absurd (h refl)
+lent-short _ (at_half x) h = refl
+lent-short _ (at_short x y bytes k) h =
+    lent_cut (x * 256 + y) bytes
+    ∙ ap (λ (b : Bool). cond b (map (λ ws. take (x * 256 + y) bytes ∷ ws) (lent_in (drop (x * 256 + y) bytes))) none) (lt-leb (x * 256 + y) (length bytes) k)
 
 -- THE CHECK, reading by reading: what is left must hold, after so many readings.
 
@@ -129,74 +102,72 @@ abbrev holds_after : ℕ → Option (List (List ℕ)) → Bool
 holds_after count none = false
 holds_after count (some ws) = leb (count + length ws) most_readings && every (every is_letter) ws
 
-pub record Held (bytes : List ℕ) (at count : ℕ) : Type 0 where
-  pub within : at ≤ length bytes
+pub record Held (bytes rest : List ℕ) (count : ℕ) : Type 0 where
   pub few : count ≤ most_readings
-  pub is : list_holds bytes ≡ holds_after count (lent_in (drop at bytes))
+  pub is : list_holds bytes ≡ holds_after count (lent_in rest)
 
-pub held_none : (bytes : List ℕ) → Held bytes 0 0
+pub held_none : (bytes : List ℕ) → Held bytes bytes 0
 unfolding list_holds readings_hold
-held_none bytes = record { within = omega arith; few = omega arith; is = same (lent_in bytes) }
+held_none bytes = record { few = omega arith; is = same (lent_in bytes) }
   where
     same : (o : Option (List (List ℕ))) → held_as o ≡ holds_after 0 o
     same none = refl
     same (some ws) = ap (λ (n : ℕ). leb n most_readings && every (every is_letter) ws) (sym (zero-add (length ws)))
 
-module _ (bytes : List ℕ) (at count : ℕ) (H : Held bytes at count) where
-  pub held-done : length bytes ≤ at → list_holds bytes ≡ true
+module _ (bytes rest : List ℕ) (count : ℕ) (H : Held bytes rest count) where
+  -- where no reading is left, all bytes must be taken
+  pub held-done : IsCut rest → (b : Bool) → b ≡ eqb (length rest) 0 → b ≡ list_holds bytes
   unfolding lent_in
-  held-done h = H.is ∙ ap (λ (l : List ℕ). holds_after count (lent_in l)) (drop_of_length-le bytes h) ∙ rw (le-leb (count + 0) most_readings (omega (arith, H.few)))
+  held-done c b e = go b rest c e H.is
+    where
+      go : (b : Bool) (l : List ℕ) → IsCut l → b ≡ eqb (length l) 0 → list_holds bytes ≡ holds_after count (lent_in l) → b ≡ list_holds bytes
+      go true l d q is = sym (is ∙ ap (λ (m : List ℕ). holds_after count (lent_in m)) (nothing l (eqb-true _ _ (sym q))) ∙ end)
+        where
+          nothing : (m : List ℕ) → length m ≡ 0 → m ≡ []
+          nothing [] z = refl
+          nothing (x ∷ m) z = absurd (omega arith)
 
-  pub held-short : at < length bytes → length bytes < at + 2 → list_holds bytes ≡ false
-  held-short h k = H.is ∙ ap (holds_after count) (lent-short bytes at h k)
+          end : holds_after count (lent_in []) ≡ true
+          end = rw (le-leb (count + 0) most_readings (omega (arith, H.few)))
+      go false l d q is = sym (is ∙ ap (holds_after count) (lent-short l d (eqb-false _ _ (sym q))))
 
-  pub held_missing : at + 1 < length bytes → length bytes < at + 2 + letters_at bytes at → list_holds bytes ≡ false
-  held_missing h k = H.is ∙ ap (holds_after count) (lent_missing bytes at h k)
+  module _ (w after : List ℕ) (taken : rest ≡ number (length w) ++ (w ++ after)) where
+    step : list_holds bytes ≡ holds_after count (map (λ ws. w ∷ ws) (lent_in after))
+    step = H.is ∙ ap (λ (l : List ℕ). holds_after count (lent_in l)) taken ∙ ap (holds_after count) (lent-one w after)
 
-  module _ (h : at + 1 < length bytes) (k : at + 2 + letters_at bytes at ≤ length bytes) where
-    pub held-letters : every is_letter (reading_at bytes at) ≡ false → list_holds bytes ≡ false
-    held-letters bad = H.is ∙ ap (holds_after count) (lent-more bytes at h k) ∙ go (lent_in (drop (at + 2 + letters_at bytes at) bytes))
+    pub held_many : count ≡ most_readings → list_holds bytes ≡ false
+    held_many full = step ∙ go (lent_in after)
       where
-        go : (o : Option (List (List ℕ))) → holds_after count (map (λ ws. reading_at bytes at ∷ ws) o) ≡ false
+        go : (o : Option (List (List ℕ))) → holds_after count (map (λ ws. w ∷ ws) o) ≡ false
+        go none = refl
+        go (some ws) = rw (lt-leb (count + suc (length ws)) most_readings (omega arith))
+
+    pub held-letters : every is_letter w ≡ false → list_holds bytes ≡ false
+    held-letters bad = step ∙ go (lent_in after)
+      where
+        go : (o : Option (List (List ℕ))) → holds_after count (map (λ ws. w ∷ ws) o) ≡ false
         go none = refl
         go (some ws) =
             let full : Bool = leb (count + suc (length ws)) most_readings in
             ap (λ (b : Bool). full && (b && every (every is_letter) ws)) bad ∙ and-false full
 
-    pub held_more : every is_letter (reading_at bytes at) ≡ true → count < most_readings → Held bytes (at + 2 + letters_at bytes at) (count + 1)
-    held_more good less = record {
-      within = k;
-      few = omega arith;
-      is = H.is ∙ ap (holds_after count) (lent-more bytes at h k) ∙ go (lent_in (drop (at + 2 + letters_at bytes at) bytes));
-    }
+    pub held_more : every is_letter w ≡ true → (count ≡ most_readings → ⊥) → Held bytes after (count + 1)
+    held_more good less = record { few = omega (arith, H.few); is = step ∙ go (lent_in after) }
       where
-        go : (o : Option (List (List ℕ))) → holds_after count (map (λ ws. reading_at bytes at ∷ ws) o) ≡ holds_after (count + 1) o
+        go : (o : Option (List (List ℕ))) → holds_after count (map (λ ws. w ∷ ws) o) ≡ holds_after (count + 1) o
         go none = refl
         go (some ws) =
             let shift : count + suc (length ws) ≡ count + 1 + length ws = omega arith in
             ap₂ (λ (n : ℕ) (b : Bool). leb n most_readings && (b && every (every is_letter) ws)) shift good
-
-  pub held_many : at < length bytes → count ≡ most_readings → list_holds bytes ≡ false
-  held_many h full = go (leb (at + 2) (length bytes)) refl
-    where
-      go : (b : Bool) → leb (at + 2) (length bytes) ≡ b → list_holds bytes ≡ false
-      go false e = held-short h (leb-false _ _ e)
-      go true e = H.is ∙ ap (holds_after count) (lent-step bytes at (omega (arith, leb-true (at + 2) (length bytes) e))) ∙ cut_many (leb (letters_at bytes at) (length (drop (at + 2) bytes))) (lent_in (drop (letters_at bytes at) (drop (at + 2) bytes)))
-        where
-          cut_many : (b : Bool) (o : Option (List (List ℕ))) → holds_after count (cond b (map (λ ws. reading_at bytes at ∷ ws) o) none) ≡ false
-          cut_many true none = refl
-          cut_many true (some ws) = rw (lt-leb (count + suc (length ws)) most_readings (omega arith))
-          cut_many false o = refl
 
 -- THE READINGS, one after another, where they hold.
 
 none-some : {A : Type 0} {ws : List (List ℕ)} → none ≡ some ws → A
 none-some e = let z : ◌≡◌ {A = ℕ} 0 1 = cc in absurd (omega arith)
 
--- what is left of the bytes from a place on lends these readings
-pub record Left (bytes : List ℕ) (at : ℕ) (ws : List (List ℕ)) : Type 0 where
-  pub within : at ≤ length bytes
-  pub lent : lent_in (drop at bytes) ≡ some ws
+-- what is left of the bytes lends these readings
+pub record Left (rest : List ℕ) (ws : List (List ℕ)) : Type 0 where
+  pub lent : lent_in rest ≡ some ws
   pub letters : every (every is_letter) ws ≡ true
 
 held-some : (o : Option (List (List ℕ))) → held_as o ≡ true → (o ≡ some (list_as o)) × (readings_hold (list_as o) ≡ true)
@@ -212,59 +183,44 @@ module _ (bytes : List ℕ) (holds : list_holds bytes ≡ true) where
   unfolding list_holds list_of
   list_holds_lem = (held-some (lent_in bytes) holds).1
 
-  pub left-all : Left bytes 0 (list_of bytes)
+  pub left-all : Left bytes (list_of bytes)
   unfolding readings_hold
-  left-all = record { within = omega arith; lent = list-lent; letters = and_right (leb (length (list_of bytes)) most_readings) _ list_holds_lem }
+  left-all = record { lent = list-lent; letters = and_right (leb (length (list_of bytes)) most_readings) _ list_holds_lem }
 
   pub list-few : length (list_of bytes) ≤ most_readings
   unfolding readings_hold
   list-few = leb-true _ _ (and_left _ _ list_holds_lem)
 
--- the reading at a place, and those after it
-pub record Next (bytes : List ℕ) (at : ℕ) (ws : List (List ℕ)) : Type 0 where
-  pub pair : at + 1 < length bytes
-  pub room : at + 2 + letters_at bytes at ≤ length bytes
-  pub letters : every is_letter (reading_at bytes at) ≡ true
-  pub after : List (List ℕ)
-  pub is : ws ≡ reading_at bytes at ∷ after
-  pub left : Left bytes (at + 2 + letters_at bytes at) after
+-- the next reading, and those after it
+pub record Next (w after : List ℕ) (ws : List (List ℕ)) : Type 0 where
+  pub letters : every is_letter w ≡ true
+  pub others : List (List ℕ)
+  pub is : ws ≡ w ∷ others
+  pub left : Left after others
 
-module _ (bytes : List ℕ) (at : ℕ) (ws : List (List ℕ)) (L : Left bytes at ws) where
-  pub left-none : length bytes ≤ at → ws ≡ []
+module _ (rest : List ℕ) (ws : List (List ℕ)) (L : Left rest ws) where
+  pub left-none : IsCut rest → ws ≡ []
   unfolding lent_in
-  left-none h = let e : some [] ≡ some ws = sym (ap lent_in (drop_of_length-le bytes h)) ∙ L.lent in cc
-
-  pub left-next : at < length bytes → Next bytes at ws
-  left-next h = go (leb (at + 2) (length bytes)) refl
+  left-none c = go rest c L.lent
     where
-      go : (b : Bool) → leb (at + 2) (length bytes) ≡ b → Next bytes at ws
-      go false e = none-some (sym (lent-short bytes at h (leb-false _ _ e)) ∙ L.lent)
-      go true e = cut-go (leb (at + 2 + letters_at bytes at) (length bytes)) refl
-        where
-          pair : at + 1 < length bytes
-          pair = omega (arith, leb-true (at + 2) (length bytes) e)
+      go : (l : List ℕ) → IsCut l → lent_in l ≡ some ws → ws ≡ []
+      go _ at_end e = cc
+      go _ (at_half x) e = none-some e
+      go _ (at_short x y bytes k) e = none-some (sym (lent-short (x ∷ y ∷ bytes) (at_short x y bytes k) (λ z. omega arith)) ∙ e)
 
-          cut-go : (b : Bool) → leb (at + 2 + letters_at bytes at) (length bytes) ≡ b → Next bytes at ws
-          cut-go false f = none-some (sym (lent_missing bytes at pair (leb-false _ _ f)) ∙ L.lent)
-          cut-go true f = rest (lent_in (drop (at + 2 + letters_at bytes at) bytes)) refl
-            where
-              room : at + 2 + letters_at bytes at ≤ length bytes
-              room = leb-true _ _ f
+  pub left-next : (w after : List ℕ) → rest ≡ number (length w) ++ (w ++ after) → Next w after ws
+  left-next w after taken = go (lent_in after) refl
+    where
+      step : map (λ us. w ∷ us) (lent_in after) ≡ some ws
+      step = sym (ap lent_in taken ∙ lent-one w after) ∙ L.lent
 
-              rest : (o : Option (List (List ℕ))) → lent_in (drop (at + 2 + letters_at bytes at) bytes) ≡ o → Next bytes at ws
-              rest none q = none-some (sym (lent-more bytes at pair room ∙ ap (map (λ vs. reading_at bytes at ∷ vs)) q) ∙ L.lent)
-              rest (some vs) q =
-                  let e : some (reading_at bytes at ∷ vs) ≡ some ws = sym (lent-more bytes at pair room ∙ ap (map (λ us. reading_at bytes at ∷ us)) q) ∙ L.lent in
-                  let is : ws ≡ reading_at bytes at ∷ vs = cc in
-                  let good : every (every is_letter) (reading_at bytes at ∷ vs) ≡ true = ap (every (every is_letter)) (sym is) ∙ L.letters in
-                  record {
-                    pair = pair;
-                    room = room;
-                    letters = and_left _ _ good;
-                    after = vs;
-                    is = is;
-                    left = record { within = room; lent = q; letters = and_right (every is_letter (reading_at bytes at)) _ good };
-                  }
+      go : (o : Option (List (List ℕ))) → lent_in after ≡ o → Next w after ws
+      go none q = none-some (sym (ap (map (λ us. w ∷ us)) q) ∙ step)
+      go (some vs) q =
+          let e : some (w ∷ vs) ≡ some ws = sym (ap (map (λ us. w ∷ us)) q) ∙ step in
+          let is : ws ≡ w ∷ vs = cc in
+          let good : every (every is_letter) (w ∷ vs) ≡ true = ap (every (every is_letter)) (sym is) ∙ L.letters in
+          record { letters = and_left _ _ good; others = vs; is = is; left = record { lent = q; letters = and_right (every is_letter w) _ good } }
 
 -- ONE SPELLING: bytes that lend readings are those by which they are lent.
 
@@ -346,7 +302,4 @@ module _ (bytes : List ℕ) (ws : List (List ℕ)) (B : All IsByte bytes) (e : l
 pub spelled-lent : (ws : List (List ℕ)) → lent_in (lent_bytes ws) ≡ some ws
 unfolding lent_bytes lent_in
 spelled-lent [] = refl
-spelled-lent (w ∷ ws) =
-    ap (λ (n : ℕ). lent_from n (w ++ lent_bytes ws)) (number_value (length w))
-    ∙ lent_cut (length w) (w ++ lent_bytes ws)
-    ∙ rw (le-leb (length w) (length (w ++ lent_bytes ws)) (simp length-append (omega arith)), take-append_seam, drop-append_seam, spelled-lent ws)
+spelled-lent (w ∷ ws) = lent-one w (lent_bytes ws) ∙ ap (map (λ us. w ∷ us)) (spelled-lent ws)

@@ -1,6 +1,8 @@
 -- Document 02, the answer sheet: "Readings are lent one after another, each as its length (two bytes, high first) and its letters." Over
 -- 1,000 of them, one cut short or a letter outside 1 to 63 give 33.
-use Rattle.std.specs.Prelude.{ℕ, zero, suc, ◌+◌, ◌*◌, Bool, true, false, ◌&&◌, List, [], ◌∷◌, ◌++◌, leb, length, get_or}
+use Rattle.std.specs.Prelude.{ℕ, zero, suc, ◌≡◌, ◌<◌, ◌+◌, ◌*◌, Bool, true, false, ◌&&◌, List, [], ◌∷◌, ◌++◌, leb, length, Some, None}
+use Rattle.std.specs.Prelude.{Option as Maybe}
+use denote.Ref.{Bor}
 use Rattle.std.proofs.Math.Option.{Option, none, some, map}
 use Rattle.table_format.specs.Text.{number}
 
@@ -26,10 +28,6 @@ unfoldable pub lent_in : List ℕ → Option (List (List ℕ))
 lent_in [] = some []
 lent_in (h ∷ []) = none
 lent_in (h ∷ l ∷ bytes) = lent_from (h * 256 + l) bytes
-
--- how many letters the reading has whose length stands at a place of bytes
-abbrev pub letters_at : List ℕ → ℕ → ℕ
-letters_at bytes at = get_or bytes at 0 * 256 + get_or bytes (at + 1) 0
 
 -- each element passes the test
 abbrev pub every : {A : Type 0} → (A → Bool) → List A → Bool
@@ -61,3 +59,13 @@ list_as (some ws) = ws
 
 unfoldable pub list_of : List ℕ → List (List ℕ)
 list_of bytes = list_as (lent_in bytes)
+
+-- what a call for the next reading does to the bytes that are left: it takes a reading, or it leaves them where none is whole at their front
+pub data IsCut : List ℕ → Type 0 where
+  at_end : IsCut []
+  at_half : (h : ℕ) → IsCut (h ∷ [])
+  at_short : (h l : ℕ) (bytes : List ℕ) → length bytes < h * 256 + l → IsCut (h ∷ l ∷ bytes)
+
+abbrev pub NextReading : {S : Type 0} → (S → List ℕ) → S → Maybe (Bor (List ℕ)) → S → Type 0
+NextReading bytes s None t = (bytes t ≡ bytes s) × IsCut (bytes s)
+NextReading bytes s (Some w) t = bytes s ≡ number (length w.now) ++ (w.now ++ bytes t)

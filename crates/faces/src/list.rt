@@ -1,22 +1,37 @@
 // Readings lent one after another, each as its length (two bytes, high first) and its letters.
-ghost use Rattle.std.specs.Prelude.{◌≡◌, ◌+◌, ◌<◌, length};
-ghost use Rattle.faces.specs.Lent.{letters_at, every, is_letter, list_holds};
+ghost use Rattle.std.specs.Prelude.{◌≡◌, length};
+ghost use Rattle.std.specs.Iterator.{at_most};
+ghost use Rattle.faces.specs.Lent.{every, is_letter, list_holds, NextReading};
 
 // How many readings a sheet has room for.
 const MOST_READINGS: usize = 1000;
 
-// How many letters the reading has whose length stands at a place.
-pub fn letters_at(readings: &[u8], at: usize) -> usize
-    requires { at + 1 < length readings.now }
-    ensures { (result ≡ letters_at readings.now at) × (result < 65536) }
-{
-    widen::byte_as_index(readings[at]) * 256 + widen::byte_as_index(readings[at + 1])
+// The readings that bytes lend; none is left at the end, and before a reading that is cut short.
+#[derive(Drop)]
+pub struct Readings<'a>(pub &'a [u8]);
+
+impl<'a> Iterator for Readings<'a> {
+    type Item = &'a [u8];
+
+    ghost next_gives = { NextReading (λ s. s.0.now) };
+
+    ghost remaining = { λ s. at_most (length s.0.now) };
+
+    fn next(&mut self) -> Option<&'a [u8]> {
+        let [high, low, rest @ ..] = self.0 else {
+            return None;
+        };
+        let letters = u16::from_be_bytes([*high, *low]);
+        let (reading, after) = rest.split_at_checked(usize::from(letters))?;
+        self.0 = after;
+        Some(reading)
+    }
 }
 
 fn is_letter(letter: u8) -> bool
     ensures { result ≡ is_letter letter }
 {
-    1 <= letter && letter <= 63
+    matches!(letter, 1..=63)
 }
 
 // Whether all letters are 1 to 63. Every letter is looked at, so that the compiler can take many at a time.
@@ -24,40 +39,23 @@ fn letters_hold(letters: &[u8]) -> bool
     ensures { result ≡ every is_letter letters.now }
 {
     let mut hold = true;
-    let mut k = 0;
-    while k < letters.len() {
-        let letter = letters[k];
-        k += 1;
-        if !is_letter(letter) {
-            hold = false;
-        }
+    for letter in letters {
+        hold &= is_letter(*letter);
     }
     hold
 }
 
 // Whether at most 1,000 readings are lent, none cut short, of letters 1 to 63.
-pub fn list_holds(readings: &[u8]) -> bool
-    ensures { result ≡ list_holds readings.now }
+pub fn list_holds(bytes: &[u8]) -> bool
+    ensures { result ≡ list_holds bytes.now }
 {
-    let mut at = 0;
+    let mut readings = Readings(bytes);
     let mut count = 0;
-    while at < readings.len() {
-        if count == MOST_READINGS {
+    while let Some(reading) = readings.next() {
+        if count == MOST_READINGS || !letters_hold(reading) {
             return false;
         }
-        let from = at + 2;
-        if readings.len() < from {
-            return false;
-        }
-        let end = from + letters_at(readings, at);
-        if readings.len() < end {
-            return false;
-        }
-        if !letters_hold(&readings[from..end]) {
-            return false;
-        }
-        at = end;
         count += 1;
     }
-    true
+    readings.0.is_empty()
 }

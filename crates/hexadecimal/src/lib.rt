@@ -4,72 +4,55 @@
 ghost use Rattle.std.specs.Prelude.{◌≡◌};
 ghost use Rattle.hexadecimal.specs.Hex.{value_of, decoded, digit_of, encoded};
 
-// What digits say: a value, or that one of them is no digit.
-#[derive(Clone, Copy)]
-pub enum Decoded {
-    Value(u8),
-    Invalid,
-}
-
-// A byte as two digits.
-#[derive(Clone, Copy)]
-pub struct Digits {
-    pub high: u8,
-    pub low: u8,
-}
-
-// The value of a digit: a case for each, by its number in ASCII, to be held against a chart.
-pub fn value(c: u8) -> Decoded
+// The value of a digit: a case for each, by its number in ASCII, to be held against a chart. The specification asks for sixteen cases.
+#[tactic(auto, unfolding(crate::specs::Hex::value_of))]
+pub fn value(c: u8) -> Option<u8>
     ensures { result ≡ value_of c }
 {
     match c {
-        48 => Decoded::Value(0), // '0'
-        49 => Decoded::Value(1), // '1'
-        50 => Decoded::Value(2), // '2'
-        51 => Decoded::Value(3), // '3'
-        52 => Decoded::Value(4), // '4'
-        53 => Decoded::Value(5), // '5'
-        54 => Decoded::Value(6), // '6'
-        55 => Decoded::Value(7), // '7'
-        56 => Decoded::Value(8), // '8'
-        57 => Decoded::Value(9), // '9'
-        65 => Decoded::Value(10), // 'A'
-        66 => Decoded::Value(11), // 'B'
-        67 => Decoded::Value(12), // 'C'
-        68 => Decoded::Value(13), // 'D'
-        69 => Decoded::Value(14), // 'E'
-        70 => Decoded::Value(15), // 'F'
-        _ => Decoded::Invalid,
+        48 => Some(0), // '0'
+        49 => Some(1), // '1'
+        50 => Some(2), // '2'
+        51 => Some(3), // '3'
+        52 => Some(4), // '4'
+        53 => Some(5), // '5'
+        54 => Some(6), // '6'
+        55 => Some(7), // '7'
+        56 => Some(8), // '8'
+        57 => Some(9), // '9'
+        65 => Some(10), // 'A'
+        66 => Some(11), // 'B'
+        67 => Some(12), // 'C'
+        68 => Some(13), // 'D'
+        69 => Some(14), // 'E'
+        70 => Some(15), // 'F'
+        _ => None,
     }
 }
 
-// The byte of two digits.
-pub fn decode(high: u8, low: u8) -> Decoded
+// The byte of two digits, where both are digits.
+#[tactic(auto, using(crate::proofs::Hex::value_small, crate::proofs::Hex::decoded_of), unfolding(crate::specs::Hex::decoded, crate::specs::Hex::joined))]
+pub fn decode(high: u8, low: u8) -> Option<u8>
     ensures { result ≡ decoded high low }
 {
-    let Decoded::Value(h) = value(high) else {
-        return Decoded::Invalid;
-    };
-    let Decoded::Value(l) = value(low) else {
-        return Decoded::Invalid;
-    };
-    Decoded::Value(h * 16 + l)
+    let h = value(high)?;
+    let l = value(low)?;
+    Some(h * 16 + l)
 }
 
 // The digit of the lowest four bits.
+#[tactic(auto, unfolding(crate::specs::Hex::digit_of))]
 pub fn digit(v: u8) -> u8
     ensures { result ≡ digit_of v }
 {
     let n = v % 16;
-    if n < 10 { 48 + n } else { 55 + n }
+    if n < 10 { b'0' + n } else { b'A' + (n - 10) }
 }
 
-// Both digits of a byte.
-pub fn encode(b: u8) -> Digits
+// Both digits of a byte, the high one first.
+#[tactic(auto, unfolding(crate::specs::Hex::encoded))]
+pub fn encode(b: u8) -> [u8; 2]
     ensures { result ≡ encoded b }
 {
-    Digits {
-        high: digit(b / 16),
-        low: digit(b),
-    }
+    [digit(b / 16), digit(b)]
 }

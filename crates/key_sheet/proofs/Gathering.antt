@@ -14,10 +14,14 @@ use Rattle.session_calls.specs.declared.CallResult.{CallResult}
 use Rattle.session_calls.specs.declared.CallResult.TheVariants as C
 use Rattle.session_calls.specs.Calls.{CallsOutcome, calls_outcome, CallsOutcomeIs}
 use Rattle.session_calls.proofs.Fitting.{result_fits, fits-reading}
-use Rattle.key_sheet.specs.declared.Gathered.TheVariants.{Readings, Refused}
+use Rattle.std.specs.Prelude.{Result, Ok, Err}
+use Rattle.key_sheet.specs.declared.Readings.{Readings}
 use Rattle.key_sheet.specs.Key.{Key, key, key_by, key_from, stack_frames, output_letters}
 use Rattle.key_sheet.specs.Gathered.{GatheredIs}
 use Rattle.key_sheet.proofs.Lists.{lent_one, lent-snoc, stored-front, before, before-onto, before_last, before-none}
+
+abbrev so_many : ℕ → Bool → Readings
+so_many bytes ended = record { bytes = bytes; ended = ended }
 
 -- what is known at the head of the loop: the readings in the list, before those that the calls left give, are those of the whole key
 pub record Gathering (cells word : List ℕ) (whole : Key) (list₀ list stack output : List ℕ) (run : Run) (calls bytes left : ℕ) : Type 0 where
@@ -38,14 +42,14 @@ gathering_none cells word list stack output run calls left room same letters =
 module _ {cells word : List ℕ} {whole : Key} {list₀ list stack output : List ℕ} {run : Run} {calls bytes left : ℕ}
     (G : Gathering cells word whole list₀ list stack output run calls bytes left) where
   -- no reading more
-  closed : (ended : Bool) → before G.readings (key [] ended) ≡ whole → GatheredIs whole (Readings bytes ended) list
+  closed : (ended : Bool) → before G.readings (key [] ended) ≡ whole → GatheredIs whole (Ok (so_many bytes ended)) list
   closed ended e = (G.readings, sym e ∙ before_last G.readings ended, omega (arith, G.room), G.spelled)
 
-  pub gathered-all : left ≤ 0 → GatheredIs whole (Readings bytes false) list
+  pub gathered-all : left ≤ 0 → GatheredIs whole (Ok (so_many bytes false)) list
   unfolding key_from
   gathered-all z = go left refl G.is
     where
-      go : (n : ℕ) → left ≡ n → before G.readings (key_from cells word n calls run stack output) ≡ whole → GatheredIs whole (Readings bytes false) list
+      go : (n : ℕ) → left ≡ n → before G.readings (key_from cells word n calls run stack output) ≡ whole → GatheredIs whole (Ok (so_many bytes false)) list
       go zero q e = closed false e
       go (suc n) q e = absurd (omega arith)
 
@@ -53,11 +57,11 @@ module _ {cells word : List ℕ} {whole : Key} {list₀ list stack output : List
   O = calls_outcome cells word [] calls run stack output
 
   -- calls, whose result the code has in hand
-  module _ {result : CallResult} {s o : List ℕ} (some_left : 0 < left) (made : CallsOutcomeIs O result s o) where
+  module _ {result : Result CallResult Refusal} {s o : List ℕ} (some_left : 0 < left) (made : CallsOutcomeIs O result s o) where
     after : CallsOutcome
     after = record { result = result; stack = s; output = o }
 
-    turn : (x : CallResult) → result ≡ x → before G.readings (key_by x after (λ c r s o. key_from cells word (left - 1) c r s o)) ≡ whole
+    turn : (x : Result CallResult Refusal) → result ≡ x → before G.readings (key_by x after (λ c r s o. key_from cells word (left - 1) c r s o)) ≡ whole
     unfolding key_from after
     turn x e = go left refl
       where
@@ -67,21 +71,21 @@ module _ {cells word : List ℕ} {whole : Key} {list₀ list stack output : List
             let less : left - 1 ≡ n = omega arith in
             let same : after ≡ O = λ i. record { result = made.0 i; stack = made.1 i; output = made.2 i } in
             ap (λ (k : ℕ). before G.readings (key_by x after (λ c r s o. key_from cells word k c r s o))) less
-            ∙ ap₂ (λ (y : CallResult) (p : CallsOutcome). before G.readings (key_by y p (λ c r s o. key_from cells word n c r s o))) (sym e ∙ made.0) same
+            ∙ ap₂ (λ (y : Result CallResult Refusal) (p : CallsOutcome). before G.readings (key_by y p (λ c r s o. key_from cells word n c r s o))) (sym e ∙ made.0) same
             ∙ sym (ap (λ (k : ℕ). before G.readings (key_from cells word k calls run stack output)) z)
             ∙ G.is
 
-    pub gathered-ended : result ≡ C.Ended → GatheredIs whole (Readings bytes true) list
-    gathered-ended e = closed true (turn C.Ended e)
+    pub gathered-ended : result ≡ Ok C.Ended → GatheredIs whole (Ok (so_many bytes true)) list
+    gathered-ended e = closed true (turn (Ok C.Ended) e)
 
-    pub gathered-spent : result ≡ C.Spent → GatheredIs whole (Readings bytes false) list
-    gathered-spent e = closed false (turn C.Spent e)
+    pub gathered-spent : result ≡ Ok C.Spent → GatheredIs whole (Ok (so_many bytes false)) list
+    gathered-spent e = closed false (turn (Ok C.Spent) e)
 
-    pub gathered-refused : {c : Refusal} → result ≡ C.Refused c → GatheredIs whole (Refused c) list
-    gathered-refused {c} e = sym (turn (C.Refused c) e)
+    pub gathered-refused : {c : Refusal} → result ≡ Err c → GatheredIs whole (Err c) list
+    gathered-refused {c} e = sym (turn (Err c) e)
 
     -- a reading is within the output, and has room in the list
-    module _ {n : ℕ} {next : Run} {more : ℕ} (e : result ≡ C.Reading n next more) (same : length s ≡ length stack) (kept : length o ≡ length output) where
+    module _ {n : ℕ} {next : Run} {more : ℕ} (e : result ≡ Ok (C.Reading n next more)) (same : length s ≡ length stack) (kept : length o ≡ length output) where
       pub reading-inside : n ≤ length o
       reading-inside = fits-reading o e (result_fits cells word [] calls run stack output result o made.0 made.2)
 
@@ -103,7 +107,7 @@ module _ {cells word : List ℕ} {whole : Key} {list₀ list stack output : List
           let size : length list₁ ≡ length list = ap length l ∙ length-sets list bytes (lent_one (take n o)) in
           record {
             readings = G.readings ++ (take n o ∷ []);
-            is = sym (before-onto G.readings (take n o) (key_from cells word (left - 1) more next s o)) ∙ turn (C.Reading n next more) e;
+            is = sym (before-onto G.readings (take n o) (key_from cells word (left - 1) more next s o)) ∙ turn (Ok (C.Reading n next more)) e;
             spelled = ap (take bytes₁) l ∙ stored-front list (lent_one (take n o)) bytes bytes₁ (omega arith) (omega arith)
                 ∙ ap (λ (f : List ℕ). f ++ lent_one (take n o)) G.spelled ∙ sym (lent-snoc G.readings (take n o));
             room = omega (arith, G.room);

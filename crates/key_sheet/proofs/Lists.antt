@@ -1,12 +1,14 @@
 -- A reading behind others: in the bytes that lend them, and in a key.
-use Prim.Native.Nat.{ℕ, suc, ◌+◌, ◌≤◌}
+use Prim.Native.Nat.{ℕ, ◌+◌, ◌/◌, ◌%◌, ◌<◌, ◌≤◌}
 use native.Mathlib.Omega.{arith}
-use mathlib.Core.Path.{◌≡◌, refl, sym, ap, ap₂, ◌∙◌}
+use mathlib.Core.Path.{◌≡◌, refl, sym, ap, ◌∙◌}
 use mathlib.Core.Bool.{Bool}
 use mathlib.Core.List.{List, [], ◌∷◌, ◌++◌, append_assoc, append-nil}
-use lib.ListN.{length, take, drop, set, length-append}
+use lib.ListN.{length, take, drop, length-append}
 use lib.Seq.{append_snoc, length-take-le, sets, sets-eq, take_at}
+use Rattle.std.specs.Int.{w16, to_be_bytes}
 use Rattle.table_format.specs.Text.{number}
+use Rattle.table_format.proofs.Stores.{sets-append}
 use Rattle.faces.specs.Lent.{lent_bytes}
 use Rattle.key_sheet.specs.Key.{Key, key, refused, onto}
 
@@ -21,13 +23,16 @@ lent-snoc (w ∷ rs) r =
     ap (λ (l : List ℕ). number (length w) ++ (w ++ l)) (lent-snoc rs r)
     ∙ ap (λ (l : List ℕ). number (length w) ++ l) (sym (append_assoc w (lent_bytes rs) (lent_one r)))
 
--- stored in three steps: the length's bytes, then the letters
-pub one-stored : (list after : List ℕ) (at : ℕ) (r : List ℕ) (h l : ℕ) → number (length r) ≡ h ∷ l ∷ []
-    → after ≡ sets (set (set list at h) (at + 1) l) (at + 2) r → after ≡ sets list at (lent_one r)
-one-stored list after at r h l e s =
-    let one : at + 1 ≡ suc at = omega arith in
-    let two : at + 2 ≡ suc (suc at) = omega arith in
-    s ∙ ap₂ (λ (i j : ℕ). sets (set (set list at h) i l) j r) one two ∙ ap (λ (b : List ℕ). sets list at (b ++ r)) (sym e)
+-- stored in two steps: the length's bytes, then the letters
+pub number-bytes : (n : ℕ) → n < 65536 → to_be_bytes w16 n ≡ number n
+number-bytes n h = let high : n / 256 % 256 ≡ n / 256 = omega arith in ap (λ (b : ℕ). b ∷ n % 256 ∷ []) high
+
+pub one-stored : (list middle after : List ℕ) (at : ℕ) (r bytes : List ℕ) → bytes ≡ number (length r)
+    → middle ≡ sets list at bytes → after ≡ sets middle (at + 2) r → after ≡ sets list at (lent_one r)
+one-stored list middle after at r bytes e m s =
+    s
+    ∙ ap (λ (l : List ℕ). sets l (at + 2) r) (m ∙ ap (sets list at) e)
+    ∙ sets-append list at (at + 2) (number (length r)) r refl
 
 -- what stands at the front of a list after a part is stored behind it
 pub stored-front : (list part : List ℕ) (at n : ℕ) → n ≡ at + length part → n ≤ length list → take n (sets list at part) ≡ take at list ++ part

@@ -1,6 +1,6 @@
 -- The key of a word over a loaded table: the readings that calls in synthesis give, one after another, and whether they came to the end, within the
 -- session's limits: 1,000 readings, 65,536 calls of 1,000 steps, a ceiling of 100,000.
-use Rattle.std.specs.Prelude.{ℕ, zero, suc, ◌*◌, Bool, true, false, List, [], ◌∷◌, take, replicate}
+use Rattle.std.specs.Prelude.{ℕ, zero, suc, ◌*◌, Bool, true, false, Result, Ok, Err, List, [], ◌∷◌, take, replicate}
 use Rattle.refusal.specs.declared.Refusal.{Refusal}
 use Rattle.machine.specs.declared.Run.{Run}
 use Rattle.machine.specs.declared.StartAnswer.{StartAnswer}
@@ -25,11 +25,11 @@ onto r (key rs ended) = key (r ∷ rs) ended
 onto r (refused c) = refused c
 
 -- what calls up to a reading come to; k goes on after it, by the calls that are left, the run, the stack and the output
-abbrev pub key_by : CallResult → CallsOutcome → (ℕ → Run → List ℕ → List ℕ → Key) → Key
-key_by (C.Reading n run calls) o k = onto (take n o.output) (k calls run o.stack o.output)
-key_by C.Ended o k = key [] true
-key_by (C.Refused r) o k = refused r
-key_by C.Spent o k = key [] false
+abbrev pub key_by : Result CallResult Refusal → CallsOutcome → (ℕ → Run → List ℕ → List ℕ → Key) → Key
+key_by (Ok (C.Reading n run calls)) o k = onto (take n o.output) (k calls run o.stack o.output)
+key_by (Ok C.Ended) o k = key [] true
+key_by (Err r) o k = refused r
+key_by (Ok C.Spent) o k = key [] false
 
 -- the key that is left, by the readings and the calls that are
 unfoldable pub key_from : (cells word : List ℕ) → ℕ → ℕ → Run → List ℕ → List ℕ → Key

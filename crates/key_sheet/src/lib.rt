@@ -11,7 +11,7 @@ ghost use Rattle.key_sheet.specs.Key.{first_stack, first_output, key_from};
 ghost use Rattle.key_sheet.specs.Gathered.{list_bytes, GatheredIs};
 ghost use Rattle.key_sheet.specs.Calls.{key_answer, key_sheet};
 
-use destination::{Answer, put};
+use destination::put;
 use faces::FACES;
 use machine::{Run, StartAnswer};
 use refusal::Refusal;
@@ -34,11 +34,11 @@ const OUTPUT_LETTERS: usize = 127;
 // Bytes of 1,000 readings, each with its length.
 const LIST_BYTES: usize = MOST_READINGS * (2 + OUTPUT_LETTERS);
 
-// What the calls for a key come to: readings in so many bytes of the list, and whether the run ended; or a refusal.
+// The readings of a key, in so many bytes of the list, and whether the run ended.
 #[derive(Clone, Copy)]
-enum Gathered {
-    Readings(usize, bool),
-    Refused(Refusal),
+struct Readings {
+    bytes: usize,
+    ended: bool,
 }
 
 // A reading, as its length and its letters, behind those that are there; where it ends.
@@ -48,15 +48,13 @@ fn append(list: &mut [u8], at: usize, letters: &[u8]) -> usize
     ensures { (result ≡ at + 2 + length letters.now)
         × (list.new ≡ sets list.old at (number (length letters.now) ++ letters.now)) }
 {
-    let n = letters.len();
-    list[at] = (n / 256) as u8;
-    list[at + 1] = (n % 256) as u8;
+    put(list, at, &(letters.len() as u16).to_be_bytes());
     put(list, at + 2, letters);
-    at + 2 + n
+    at + 2 + letters.len()
 }
 
-// The readings of a run, to the front of the list.
-fn gather(table: &[u16], word: &[u8], first: Run, list: &mut [u8]) -> Gathered
+// The readings of a run, to the front of the list, or a call's refusal.
+fn gather(table: &[u16], word: &[u8], first: Run, list: &mut [u8]) -> Result<Readings, Refusal>
     requires { list_bytes ≤ length list.old }
     ensures { GatheredIs (key_from table.now word.now most_readings most_calls first first_stack first_output) result list.new }
 {
@@ -65,54 +63,45 @@ fn gather(table: &[u16], word: &[u8], first: Run, list: &mut [u8]) -> Gathered
     let mut run = first;
     let mut calls = MOST_CALLS;
     let mut bytes = 0;
-    let mut left = MOST_READINGS;
-    while 0 < left {
-        left -= 1;
-        let result = make_calls(table, word, &[], run, calls, &mut stack, &mut output);
-        match result {
+    for _read in 0..MOST_READINGS {
+        match make_calls(table, word, &[], run, calls, &mut stack, &mut output)? {
             CallResult::Reading {
                 length,
                 run: next,
                 calls: more,
             } => {
-                let n = length as usize;
-                bytes = append(list, bytes, &output[..n]);
+                bytes = append(list, bytes, &output[..length as usize]);
                 run = next;
                 calls = more;
             }
-            CallResult::Ended => {
-                return Gathered::Readings(bytes, true);
-            }
-            CallResult::Refused(refusal) => {
-                return Gathered::Refused(refusal);
-            }
-            CallResult::Spent => {
-                return Gathered::Readings(bytes, false);
-            }
+            CallResult::Ended => return Ok(Readings { bytes, ended: true }),
+            CallResult::Spent => return Ok(Readings {
+                bytes,
+                ended: false,
+            }),
         }
     }
-    Gathered::Readings(bytes, false)
+    Ok(Readings {
+        bytes,
+        ended: false,
+    })
 }
 
 // The sheet of a word's key, over a loaded table: the start's and the calls' refusals, then 33 and 24.
-pub fn write(table: &[u16], word: &[u8], faces: &[u8; FACES], sheet: &mut [u8]) -> Answer
+pub fn write(
+    table: &[u16],
+    word: &[u8],
+    faces: &[u8; FACES],
+    sheet: &mut [u8],
+) -> Result<usize, Refusal>
     ensures { (stored_told result ≡ stored_told (key_answer table.now word.now faces.now sheet.old))
         × (sheet.new ≡ key_sheet table.now word.now faces.now sheet.old) }
 {
     let started = engine_start::start(table, SYNTHESIS, word, &[], machine::MOST_CEILING);
-    let answer = started.answer;
-    if let StartAnswer::Refused(refusal) = answer {
-        return Answer::Refused(refusal);
+    if let StartAnswer::Refused(refusal) = started.answer {
+        return Err(refusal);
     }
     let mut list = [0u8; LIST_BYTES];
-    let gathered = gather(table, word, started.run, &mut list);
-    match gathered {
-        Gathered::Refused(refusal) => Answer::Refused(refusal),
-        Gathered::Readings(bytes, ended) => sheet::writer::write(
-            &list[..bytes],
-            faces,
-            ended,
-            sheet,
-        ),
-    }
+    let Readings { bytes, ended } = gather(table, word, started.run, &mut list)?;
+    sheet::writer::write(&list[..bytes], faces, ended, sheet)
 }

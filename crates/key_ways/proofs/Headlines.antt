@@ -8,7 +8,7 @@ use mathlib.Core.List.{List, [], ◌∷◌, ◌++◌, map, Memᴰ}
 use lib.ListN.{length, take, drop}
 use borrow.Author.Tests.{leb-true}
 use Rattle.refusal.specs.declared.Refusal.{Refusal}
-use Rattle.destination.specs.declared.Answer.TheVariants.{Done}
+use Rattle.std.specs.Prelude.{Ok, Some}
 use Rattle.table_format.specs.Loaded.{cells_of}
 use Rattle.table_format.proofs.All.{All}
 use Rattle.table_format.proofs.Tests.{and_left}
@@ -104,7 +104,7 @@ module _ (bytes : List ℕ) (ws : List Word) (taken : TakenAs bytes ws) where
         }
 
     -- Whatever the faces and the destination, a sheet that was written is the key's.
-    pub key-done : (faces d : List ℕ) (n : ℕ) → key_answer cells w faces d ≡ Done n
+    pub key-done : (faces d : List ℕ) (n : ℕ) → key_answer cells w faces d ≡ Ok n
         → (faces_hold faces ≡ true) × (take n (key_sheet cells w faces d) ≡ sheet_of faces key-shows.readings key-shows.ended)
     unfolding key_answer key_sheet
     key-done faces d n e =
@@ -115,7 +115,7 @@ module _ (bytes : List ℕ) (ws : List Word) (taken : TakenAs bytes ws) where
         )
 
     -- A KEY THAT ENDS with END shows exactly the ways to cut the word into listed words, each once, in order, each on its lines.
-    pub key-ends : (faces d : List ℕ) (n : ℕ) → key_answer cells w faces d ≡ Done n → last_word_in (take n (key_sheet cells w faces d)) ≡ End
+    pub key-ends : (faces d : List ℕ) (n : ℕ) → key_answer cells w faces d ≡ Ok n → last_word_in (take n (key_sheet cells w faces d)) ≡ Some End
         → KeyTold (Way ws w) faces (take n (key_sheet cells w faces d))
     key-ends faces d n e l =
         let s = (key-done faces d n e).1 in
@@ -141,22 +141,22 @@ module _ (bytes : List ℕ) (ws : List Word) (taken : TakenAs bytes ws) where
       print_last = ap last_word_in print_is ∙ in_lines.last_in_print face_table key-shows.readings key-shows.ended ∙ sym (ap last_word_in (key-done face_table d P.size P.written).1)
 
       -- it ends with END for a word of fewer than 1,000 ways, whose search tree's size is below 64,537,000,
-      pub print_comes : length (ways_to_cut ws w) < 1000 → tree_size (key_machine ws w) < 64537000 → last_word_in text ≡ End
+      pub print_comes : length (ways_to_cut ws w) < 1000 → tree_size (key_machine ws w) < 64537000 → last_word_in text ≡ Some End
       print_comes ways small =
           ap last_word_in print_is
           ∙ in_lines.last_in_print face_table key-shows.readings key-shows.ended
           ∙ sheets.last-told face_table key-shows.readings key-shows.ended
-          ∙ ap (λ (e : Bool). cond e End More) (end-comes ways small)
+          ∙ ap (λ (e : Bool). Some (cond e End More)) (end-comes ways small)
 
       -- and one that ends with END tells exactly the ways to cut the word, where its letters are some of the alphabet.
-      pub print_ends : All Known w → last_word_in text ≡ End → PrintTold (Way ws w) text
+      pub print_ends : All Known w → last_word_in text ≡ Some End → PrintTold (Way ws w) text
       print_ends known l =
           printing.print_told (Way ws w) w (λ z W. W.whole) known (take P.size (key_sheet cells w face_table d))
           (key-ends face_table d P.size P.written (sym print_last ∙ l)) text (printing.text_of cells w d t text P)
 
   -- TWO KEYS over one list and the same faces, of any two words.
   module _ (rest other : List ℕ) (x y : ℕ) (v u : Word) (good : query.word_holds (x ∷ v) ≡ true) (also : query.word_holds (y ∷ u) ≡ true)
-      (faces d c : List ℕ) (n m : ℕ) (p : key_answer (tree_cells ws rest) (x ∷ v) faces d ≡ Done n) (q : key_answer (tree_cells ws other) (y ∷ u) faces c ≡ Done m) where
+      (faces d c : List ℕ) (n m : ℕ) (p : key_answer (tree_cells ws rest) (x ∷ v) faces d ≡ Ok n) (q : key_answer (tree_cells ws other) (y ∷ u) faces c ≡ Ok m) where
     abbrev sheet : List ℕ
     sheet = take n (key_sheet (tree_cells ws rest) (x ∷ v) faces d)
 
@@ -173,13 +173,13 @@ module _ (bytes : List ℕ) (ws : List Word) (taken : TakenAs bytes ws) where
         (sym D.1 ∙ same ∙ (key-done other y u also faces c m q).1))
 
     -- So where one of them ends with END, and a way of one word is none of the other, the keys are different.
-    pub keys_apart : (last_word_in sheet ≡ End) ⊎ (last_word_in against ≡ End) → (z : List Word) → Way ws (x ∷ v) z → (Way ws (y ∷ u) z → ⊥) → sheet ≡ against → ⊥
+    pub keys_apart : (last_word_in sheet ≡ Some End) ⊎ (last_word_in against ≡ Some End) → (z : List Word) → Way ws (x ∷ v) z → (Way ws (y ∷ u) z → ⊥) → sheet ≡ against → ⊥
     keys_apart ends z W none same =
         ⊎_elim (λ e. none ((cutting.ways-are ws kept.holds (y ∷ u) z).0 (subst (λ (l : List (List Word)). Memᴰ z l) e ((cutting.ways-are ws kept.holds (x ∷ v) z).1 W))))
         (λ e. more-not_end e (⊎_elim (λ l. l) (λ l. ap last_word_in same ∙ l) ends))
         (keys_differ same)
       where
-        more-not_end : sheet ≡ sheet_of faces [] false → last_word_in sheet ≡ End → ⊥
+        more-not_end : sheet ≡ sheet_of faces [] false → last_word_in sheet ≡ Some End → ⊥
         more-not_end e l = let b = telling.ended_by faces [] false (sym (ap last_word_in e) ∙ l) in let y : ◌≡◌ {A = ℕ} 0 1 = cc in omega arith
 
   -- TWO PRINTS over one list, of any two words.
@@ -202,7 +202,7 @@ module _ (bytes : List ℕ) (ws : List Word) (taken : TakenAs bytes ws) where
         (keys_differ rest other x y v u good also face_table d c P.size Q.size P.written Q.written (same_sheets e))
 
     -- So where one of them ends with END, and a way of one word is none of the other, the prints are different.
-    pub prints_apart : (last_word_in text ≡ End) ⊎ (last_word_in against ≡ End) → (z : List Word) → Way ws (x ∷ v) z → (Way ws (y ∷ u) z → ⊥) → text ≡ against → ⊥
+    pub prints_apart : (last_word_in text ≡ Some End) ⊎ (last_word_in against ≡ Some End) → (z : List Word) → Way ws (x ∷ v) z → (Way ws (y ∷ u) z → ⊥) → text ≡ against → ⊥
     prints_apart ends z W none e =
         keys_apart rest other x y v u good also face_table d c P.size Q.size P.written Q.written
         (⊎_map (λ l. sym (print_last rest x v good d t text P) ∙ l) (λ l. sym (print_last other y u also c s against Q) ∙ l) ends) z W none (same_sheets e)
@@ -236,7 +236,7 @@ module _ (list : List ℕ) (ws : List Word) (gathered : fate list ≡ taken ws) 
   cells_fit = omega (arith, trie_cells ws (wordlists.list-kept list ws gathered))
 
   -- The table is built,
-  pub table-built : build_answer (spelled ws) b ≡ Done (length (cells_of (trie_table ws)))
+  pub table-built : build_answer (spelled ws) b ≡ Ok (length (cells_of (trie_table ws)))
   table-built = (tries.build_is (spelled ws) b _).1 (ws, bytes-taken, refl, cells_fit)
 
   abbrev built : List ℕ
@@ -265,12 +265,12 @@ module _ (list : List ℕ) (ws : List Word) (gathered : fate list ≡ taken ws) 
 
     -- the print ends with END where the word has fewer than 1,000 ways and the search tree's size is below 64,537,000,
     pub printed_comes : (d t text : List ℕ) → KeyPrinted built (x ∷ v) d t text → length (ways_to_cut ws (x ∷ v)) < 1000 → tree_size (key_machine ws (x ∷ v)) < 64537000
-        → last_word_in text ≡ End
+        → last_word_in text ≡ Some End
     printed_comes d t text P = print_comes (spelled ws) ws bytes-taken behind x v (printing.line-good spells few) d t text (over-tree (x ∷ v) d t text P)
 
     -- and a print that ends with END shows exactly the ways to cut the word into words of the list's lines, each once, in order, on its lines and in its
     -- letters.
-    pub printed_ends : (d t text : List ℕ) → KeyPrinted built (x ∷ v) d t text → last_word_in text ≡ End → PrintTold (LineWay list (x ∷ v)) text
+    pub printed_ends : (d t text : List ℕ) → KeyPrinted built (x ∷ v) d t text → last_word_in text ≡ Some End → PrintTold (LineWay list (x ∷ v)) text
     printed_ends d t text P l =
         printing.told_as (Way ws (x ∷ v)) (LineWay list (x ∷ v)) (line-ways (x ∷ v)) text
         (print_ends (spelled ws) ws bytes-taken behind x v (printing.line-good spells few) d t text (over-tree (x ∷ v) d t text P) (printing.line_known spells) l)
@@ -285,7 +285,7 @@ module _ (list : List ℕ) (ws : List Word) (gathered : fate list ≡ taken ws) 
         (over-tree (x ∷ v) d t text P) (over-tree (y ∷ u) c s against Q)
 
     -- so where one of them ends with END, and a way of one word is none of the other, they are different.
-    pub printed_apart : (last_word_in text ≡ End) ⊎ (last_word_in against ≡ End) → (z : List Word) → LineWay list (x ∷ v) z → (LineWay list (y ∷ u) z → ⊥) → text ≡ against → ⊥
+    pub printed_apart : (last_word_in text ≡ Some End) ⊎ (last_word_in against ≡ Some End) → (z : List Word) → LineWay list (x ∷ v) z → (LineWay list (y ∷ u) z → ⊥) → text ≡ against → ⊥
     printed_apart ends z W none =
         prints_apart (spelled ws) ws bytes-taken behind behind x y v u (printing.line-good spells few) (printing.line-good also fewer) d t c s text against
         (over-tree (x ∷ v) d t text P) (over-tree (y ∷ u) c s against Q) ends z ((line-ways (x ∷ v) z).1 W) (λ Y. none ((line-ways (y ∷ u) z).0 Y))

@@ -9,7 +9,7 @@ use mathlib.Core.List.{List, [], ◌∷◌, ◌++◌, Memᴰ}
 use lib.ListN.{length, take, drop}
 use lib.Seq.{take-append_seam, drop-append_seam}
 use borrow.Author.Tests.{le-leb}
-use Rattle.destination.specs.declared.Answer.TheVariants.{Done}
+use Rattle.std.specs.Prelude.{Ok}
 use Rattle.table_format.proofs.All.{All, all_from}
 use Rattle.table_format.proofs.Tests.{and_left, and_both}
 use Rattle.faces.specs.Faces.{faces_hold}
@@ -74,7 +74,7 @@ module _ (ws : List Word) (holds : words.list_holds ws ≡ true) (w : Word) (k :
     holding h = and_both h (lent-holds S.readings readings_hold_lem)
 
     -- done exactly where the faces hold and there is room
-    pub answer-done : (n : ℕ) → (answer_for k faces d ≡ Done n) ↔ ((faces_hold faces ≡ true) × (n ≡ length sheet) × (n ≤ length d))
+    pub answer-done : (n : ℕ) → (answer_for k faces d ≡ Ok n) ↔ ((faces_hold faces ≡ true) × (n ≡ length sheet) × (n ≤ length d))
     answer-done n =
         let same = ap (λ (y : Key). answer_for y faces d) S.is in
         let W = sheets.write_is bytes faces S.ended d n in (

@@ -10,6 +10,7 @@ use Rattle.faces.specs.Faces.{faces_hold, face_of}
 use Rattle.sheet_lines.specs.Lines.{filled, reading_lines}
 use Rattle.sheet_lines.specs.Lines as lines
 use Rattle.sheet.specs.Sheet.{opening_word, last_word, list_lines, sheet_lines, sheet_of}
+use Rattle.std.specs.Prelude.{Some}
 use Rattle.sheet.specs.declared.LastWord.TheVariants.{End}
 use Rattle.sheet.specs.Read.{last_word_in}
 use Rattle.sheet.proofs.Headlines as sheets
@@ -62,7 +63,7 @@ module _ (ws : List Word) (holds : list_holds ws ≡ true) (w : Word) (k : Key) 
       }
 
 -- a sheet that closes with END is of a run that ended
-pub ended_by : (faces : List ℕ) (rs : List (List ℕ)) (ended : Bool) → last_word_in (sheet_of faces rs ended) ≡ End → ended ≡ true
+pub ended_by : (faces : List ℕ) (rs : List (List ℕ)) (ended : Bool) → last_word_in (sheet_of faces rs ended) ≡ Some End → ended ≡ true
 ended_by faces rs true e = refl
 ended_by faces rs false e = absurd (let f = sheets.last-told faces rs false in let z : ◌≡◌ {A = ℕ} 0 1 = cc in omega arith)
 

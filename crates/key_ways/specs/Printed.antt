@@ -1,7 +1,7 @@
 -- What is printed for a word of an exam: its key's sheet with the letters shown; and what a print tells over the text of a list.
 use Rattle.std.specs.Prelude.{ℕ, ◌+◌, ◌≡◌, length, take, replicate}
 use mathlib.Core.List.{List, [], ◌∷◌, ◌++◌, map, Memᴰ}
-use Rattle.destination.specs.declared.Answer.TheVariants.{Done}
+use Rattle.std.specs.Prelude.{Ok}
 use Rattle.destination.specs.Stored.{stored_answer, stored_cells}
 use Rattle.utf8.specs.Utf8.{encoded}
 use Rattle.alphabet.specs.Letters.{small_of}
@@ -23,9 +23,9 @@ printed_for line sheet = line ++ (10 ∷ (shown sheet ++ (10 ∷ [])))
 -- the calls for a word's key: its sheet is written to one destination and shown to another, both are done, and text is what the second holds then
 pub record KeyPrinted (cells word d t text : List ℕ) : Type 0 where
   pub size : ℕ
-  pub written : key_answer cells word face_table d ≡ Done size
+  pub written : key_answer cells word face_table d ≡ Ok size
   pub bytes : ℕ
-  pub done : stored_answer (shown (take size (key_sheet cells word face_table d))) t ≡ Done bytes
+  pub done : stored_answer (shown (take size (key_sheet cells word face_table d))) t ≡ Ok bytes
   pub is : take bytes (stored_cells (shown (take size (key_sheet cells word face_table d))) t) ≡ text
 
 -- WAYS in print.

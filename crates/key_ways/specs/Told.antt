@@ -1,7 +1,7 @@
 -- What a key's sheet tells: that of a run that ended shows exactly the ways to cut the word, each once, in order, each on its lines.
 use Rattle.std.specs.Prelude.{ℕ, ◌+◌, ◌≡◌, ◌↔◌, true, length, take, drop}
 use mathlib.Core.List.{List, ◌∷◌, ◌++◌, map, Memᴰ}
-use Rattle.destination.specs.declared.Answer.TheVariants.{Done}
+use Rattle.std.specs.Prelude.{Ok}
 use Rattle.graph.specs.Lists.{Distinct}
 use Rattle.faces.specs.Faces.{face_of}
 use Rattle.sheet_lines.specs.Lines as lines
@@ -13,7 +13,7 @@ use Rattle.key_sheet.specs.Calls.{key_answer, key_sheet}
 
 -- the call is done, with this sheet at the front of the destination and the rest untouched
 pub record KeyWritten (cells word faces destination sheet : List ℕ) : Type 0 where
-  pub answer-is : key_answer cells word faces destination ≡ Done (length sheet)
+  pub answer-is : key_answer cells word faces destination ≡ Ok (length sheet)
   pub first-is : take (length sheet) (key_sheet cells word faces destination) ≡ sheet
   pub rest-is : drop (length sheet) (key_sheet cells word faces destination) ≡ drop (length sheet) destination
 

@@ -3,9 +3,8 @@ ghost use Rattle.std.specs.Prelude.{◌≤◌, length};
 
 use crate::tell::say;
 use crate::{MOST_INPUT, tell};
-use destination::Answer;
 use table_format::MOST_CELLS;
-use wordlist::Gathered;
+use wordlist::{FaultKind, ListFault};
 use wordlist_sorted::LIST_BYTES;
 
 // The file and the line that is spoken of.
@@ -35,56 +34,42 @@ fn looked_at(text: &[u8]) -> usize
     ensures { result ≤ length text.now }
 {
     if text.len() <= MOST_INPUT {
-        return text.len();
+        text.len()
+    } else {
+        wordlist_lines::whole_lines(&text[..MOST_INPUT])
     }
-    wordlist_lines::whole_lines(&text[..MOST_INPUT])
 }
 
-// The table of a list that was gathered whole. Whether it is made, as it always is: the list holds, and every table has room.
-fn build(words: &[u8], table: &mut [u16; MOST_CELLS]) -> bool {
-    let answer = trie::builder::build(words, table);
-    if let Answer::Done(_) = answer {
-        return true;
-    }
-    false
-}
-
-// The table of a list's text. Whether it is made; what is wrong with the first line that cannot be used is told.
+// The table of a list's text. Whether it is made; what is wrong with the first line that cannot be used is told. Over a list that was gathered whole it
+// always is: the list holds, and every table has room.
 pub fn load(err: &impl Print, path: &[u8], text: &[u8], table: &mut [u16; MOST_CELLS]) -> bool {
     let limit = looked_at(text);
     let mut list = [0u8; LIST_BYTES];
-    let gathered = wordlist::gather(&text[..limit], &mut list);
-    match gathered {
-        Gathered::BadWord(bad) => {
-            let from = bad.from;
-            let end = bad.end;
-            let word = &text[from..end];
-            place_of_word(err, path, bad.number, word);
-            tell::fault(err, word);
+    match wordlist::gather(&text[..limit], &mut list) {
+        Err(ListFault { kind, line }) => {
+            let word = &text[line.from..line.end];
+            place_of_word(err, path, line.number, word);
+            match kind {
+                FaultKind::BadWord => tell::fault(err, word),
+                FaultKind::TooMany => too_long(
+                    err,
+                    b"the list is too long with this word, over 256 states",
+                    line.count,
+                ),
+            }
             false
         }
-        Gathered::TooMany(bad) => {
-            let from = bad.from;
-            let end = bad.end;
-            place_of_word(err, path, bad.number, &text[from..end]);
-            too_long(
-                err,
-                b"the list is too long with this word, over 256 states",
-                bad.count,
-            );
-            false
-        }
-        Gathered::Words { count, bytes } => {
+        Ok(words) => {
             if limit < text.len() {
                 place(err, path, wordlist_lines::count_lines(&text[..limit]) + 1);
                 too_long(
                     err,
                     b": the list is too long here, over 65,536 bytes",
-                    count,
+                    words.count,
                 );
                 return false;
             }
-            build(&list[..bytes], table)
+            trie::builder::build(&list[..words.bytes], table).is_ok()
         }
     }
 }

@@ -13,7 +13,6 @@ mod tell;
 ghost use Rattle.std.specs.Prelude.{◌≡◌, length};
 ghost use Rattle.input.specs.Read.{Within};
 
-use input::Got;
 use std::env::{Env, FillError};
 use std::fmt::Display;
 use std::rt::Files;
@@ -31,13 +30,11 @@ fn text_room() -> [u8; MOST_INPUT + 1]
 }
 
 // The list's file, read into the room for it.
-fn read_file<R: Files>(rt: &R, path: &str, room: &mut [u8]) -> Got
+fn read_file<R: Files>(rt: &R, path: &str, room: &mut [u8]) -> io::Result<usize>
     ensures { Within result (length room.new) }
 {
-    match fs::open(rt, path) {
-        Ok(mut file) => input::read_all(&mut file, room),
-        Err(error) => Got::Failed(error),
-    }
+    let mut file = fs::open(rt, path)?;
+    input::read_all(&mut file, room)
 }
 
 // That the list cannot be read, and why.
@@ -65,8 +62,8 @@ fn tell_failure<R: Alloc + Eprint>(rt: &R, path: &str, error: io::Error) {
 fn read_list(rt: &HostRuntime, path: &str, table: &mut [u16; MOST_CELLS]) -> bool {
     let mut text = text_room();
     match read_file(rt, path, &mut text) {
-        Got::Bytes(count) => list::load(&rt.stderr(), path.as_bytes(), &text[..count], table),
-        Got::Failed(error) => {
+        Ok(count) => list::load(&rt.stderr(), path.as_bytes(), &text[..count], table),
+        Err(error) => {
             tell_failure(rt, path, error);
             false
         }
@@ -76,8 +73,7 @@ fn read_list(rt: &HostRuntime, path: &str, table: &mut [u16; MOST_CELLS]) -> boo
 // The keys of the words on standard input. What is wrong is told.
 fn print_all(rt: &HostRuntime, table: &[u16; MOST_CELLS]) {
     let mut text = text_room();
-    let got = input::read_all(&mut rt.stdin(), &mut text);
-    let Got::Bytes(count) = got else {
+    let Ok(count) = input::read_all(&mut rt.stdin(), &mut text) else {
         let _ = rt.eprintln("keys: standard input cannot be read");
         return;
     };
@@ -90,11 +86,7 @@ fn print_all(rt: &HostRuntime, table: &[u16; MOST_CELLS]) {
 
 // Whether the program was given so many arguments or more, its own name among them.
 fn has_argument(rt: &impl Env, at: usize) -> bool {
-    match rt.arg(at, &mut [0]) {
-        Ok(_) => true,
-        Err(FillError::TooLong) => true,
-        Err(FillError::NotPresent) => false,
-    }
+    !matches!(rt.arg(at, &mut [0]), Err(FillError::NotPresent))
 }
 
 fn main(rt: HostRuntime) {

@@ -1,10 +1,10 @@
 -- What bytes come to: a list that is kept exactly where they spell it, a refusal exactly where it is the first bad word's.
-use Prim.Native.Nat.{ℕ, zero, suc, ◌≤◌}
+use Prim.Native.Nat.{ℕ, zero, suc, ◌≤◌, ◌<◌}
 use native.Mathlib.Omega.{arith}
 use mathlib.Core.Path.{◌≡◌, refl, sym, ap, ap₂, subst, ◌∙◌}
 use mathlib.Core.Logic.{◌↔◌}
 use mathlib.Core.Bool.{Bool, true, false, cond}
-use mathlib.Core.List.{List, [], ◌∷◌, ◌++◌, append_assoc, append-nil}
+use mathlib.Core.List.{List, [], ◌∷◌, ◌++◌, append_assoc, append-nil, nil≢cons}
 use lib.ListN.{length, take, drop, length-append, length-drop, take-append-drop}
 use lib.Seq.{take-append_seam, drop-append_seam, length-take-le}
 use lib.Dec.{leb}
@@ -16,7 +16,7 @@ use Rattle.table_format.proofs.Tests.{and_left, and_right, and_both}
 use Rattle.table_format.proofs.Each.{each_append, each_snoc}
 use Rattle.lexicon.specs.Words.{Word, good_word, follows, list_holds}
 use Rattle.lexicon.specs.Beginnings.{fresh, fresh_after, beginnings}
-use Rattle.lexicon.specs.Lexicon.{spelled, whole, short, items_in, most_states, Lexicon, words, turned_down, judged, lexicon_from, lexicon}
+use Rattle.lexicon.specs.Lexicon.{spelled, IsCut, at_end, at_short, whole, short, items_in, most_states, Lexicon, words, turned_down, judged, lexicon_from, lexicon}
 use Rattle.lexicon.specs.FirstBad.{Kept, Bad, cut_short, faulty, falls, crowds, FirstBad}
 use Rattle.lexicon.proofs.Words.{word_test}
 
@@ -98,7 +98,7 @@ module _ (bytes : List ℕ) where
 
 -- The other way: words that are kept are read, whatever follows.
 
-item-whole : (f : ℕ) (w : Word) (r : List ℕ) → items_in (suc f) (length w ∷ (w ++ r)) ≡ whole w ∷ items_in f r
+pub item-whole : (f : ℕ) (w : Word) (r : List ℕ) → items_in (suc f) (length w ∷ (w ++ r)) ≡ whole w ∷ items_in f r
 item-whole f w r = rw (le-leb (length w) (length (w ++ r)) (omega (arith, length-append w r)), take-append_seam w r, drop-append_seam w r)
 
 word_kept : (before : List Word) (w : Word) (rest : Lexicon) → Kept (before ++ (w ∷ [])) → judged before w rest ≡ rest
@@ -182,3 +182,26 @@ taken bytes ws = (lexicon_sound bytes ws, λ h. ap lexicon h.1 ∙ lexicon-compl
 
 pub turned_down_lem : (bytes : List ℕ) (cause : InputCause) → (lexicon bytes ≡ turned_down cause) ↔ FirstBad bytes cause
 turned_down_lem bytes cause = (turned_sound bytes cause, turned-complete bytes cause)
+
+-- What is left where no word is whole at the front.
+
+pub cut_end : (bytes : List ℕ) → length bytes ≡ 0 → IsCut bytes
+cut_end [] e = at_end
+cut_end (n ∷ r) e = absurd (omega arith)
+
+pub cut_front : (n : ℕ) (r bytes : List ℕ) → bytes ≡ n ∷ r → length r < n → IsCut bytes
+cut_front n r bytes e h = subst IsCut (sym e) (at_short n r h)
+
+-- A word that was taken from the bytes of words is the first of them, and those of the others are left.
+pub spelled-next : (ws : List Word) (w : Word) (rest : List ℕ) → spelled ws ≡ length w ∷ (w ++ rest) → (vs : List Word) × (ws ≡ w ∷ vs) × (rest ≡ spelled vs)
+spelled-next [] w rest e = absurd (nil≢cons e)
+spelled-next (v ∷ vs) w rest e =
+    let n : length v ≡ length w = cc in
+    let same : v ++ spelled vs ≡ w ++ rest = cc in
+    let first : v ≡ w = sym (take-append_seam v (spelled vs)) ∙ ap₂ (λ (k : ℕ) (l : List ℕ). take k l) n same ∙ take-append_seam w rest in
+    let others : spelled vs ≡ rest = sym (drop-append_seam v (spelled vs)) ∙ ap₂ (λ (k : ℕ) (l : List ℕ). drop k l) n same ∙ drop-append_seam w rest in
+    (vs, ap (λ (u : Word). u ∷ vs) first, sym others)
+
+pub spelled-done : (ws : List Word) → IsCut (spelled ws) → ws ≡ []
+spelled-done [] c = refl
+spelled-done (w ∷ ws) (at_short _ _ h) = absurd (omega (arith, length-append w (spelled ws)))

@@ -1,8 +1,7 @@
 -- What the code of the check says, in the terms of Lexicon.
-use Rattle.std.specs.Prelude.{ℕ, suc, ◌+◌, ◌-◌, cond, [], ◌∷◌, eqb, leb, length}
+use Rattle.std.specs.Prelude.{ℕ, suc, ◌+◌, ◌-◌, cond, [], ◌∷◌, eqb, leb, length, Result, Ok, Err}
+use Rattle.refusal.specs.declared.InputCause.{InputCause}
 use Rattle.refusal.specs.declared.InputCause.TheVariants.{ListedWord, WordOrder, StateLimit}
-use Rattle.lexicon.specs.declared.Listing.{Listing}
-use Rattle.lexicon.specs.declared.Listing.TheVariants.{States, Fault}
 use Rattle.lexicon.specs.Words.{Word, good_word, rises}
 use Rattle.lexicon.specs.Beginnings.{beginnings}
 use Rattle.lexicon.specs.Lexicon.{most_states, Lexicon, words, turned_down}
@@ -18,12 +17,12 @@ abbrev pub grown : Word → Word → ℕ → ℕ
 grown p w states = states + (length w - common p w)
 
 -- a word after p, in a tree of so many states
-abbrev pub word_listing : Word → Word → ℕ → Listing
+abbrev pub word_listing : Word → Word → ℕ → Result ℕ InputCause
 word_listing p w states =
-    cond (good_word w) (cond (rises p w) (cond (leb (grown p w states) most_states) (States (grown p w states)) (Fault StateLimit)) (Fault WordOrder))
-    (Fault ListedWord)
+    cond (good_word w) (cond (rises p w) (cond (leb (grown p w states) most_states) (Ok (grown p w states)) (Err StateLimit)) (Err WordOrder))
+    (Err ListedWord)
 
 -- what a whole list tells
-abbrev pub listing : Lexicon → Listing
-listing (words ws) = States (length (beginnings ws))
-listing (turned_down cause) = Fault cause
+abbrev pub listing : Lexicon → Result ℕ InputCause
+listing (words ws) = Ok (length (beginnings ws))
+listing (turned_down cause) = Err cause

@@ -1,6 +1,7 @@
 -- Document 02, word lists: the bytes of a list, "each as a length byte and its letters, one cut short is bad". "A bad word gives 30, a repeat or a
 -- fall in the order 31, more than 256 states 32, at the earliest such word and in that order".
-use Rattle.std.specs.Prelude.{ℕ, zero, suc, ◌≡◌, cond, List, [], ◌∷◌, ◌++◌, leb, length, take, drop}
+use Rattle.std.specs.Prelude.{ℕ, zero, suc, ◌≡◌, ◌<◌, cond, List, [], ◌∷◌, ◌++◌, leb, length, take, drop, Option, Some, None}
+use denote.Ref.{Bor}
 use Rattle.refusal.specs.declared.InputCause.{InputCause}
 use Rattle.refusal.specs.declared.InputCause.TheVariants.{ListedWord, WordOrder, StateLimit}
 use Rattle.lexicon.specs.Words.{Word, good_word, follows}
@@ -21,6 +22,15 @@ abbrev pub items_in : ℕ → List ℕ → List Item
 items_in zero bytes = []
 items_in (suc f) [] = []
 items_in (suc f) (n ∷ bytes) = cond (leb n (length bytes)) (whole (take n bytes) ∷ items_in f (drop n bytes)) (short ∷ [])
+
+-- what a call for the next word does to the bytes that are left: it takes a word, or it leaves them where none is whole at their front
+pub data IsCut : List ℕ → Type 0 where
+  at_end : IsCut []
+  at_short : (n : ℕ) (bytes : List ℕ) → length bytes < n → IsCut (n ∷ bytes)
+
+abbrev pub NextWord : {S : Type 0} → (S → List ℕ) → S → Option (Bor Word) → S → Type 0
+NextWord bytes s None t = (bytes t ≡ bytes s) × IsCut (bytes s)
+NextWord bytes s (Some w) t = bytes s ≡ length w.now ∷ (w.now ++ bytes t)
 
 -- the most states of a table
 abbrev pub most_states : ℕ

@@ -1,9 +1,10 @@
 // A list of words, each as a length byte and its letters, checked: how many states its letter tree has, or the first bad word's refusal.
 #![tactic(auto)]
 
-ghost use Rattle.std.specs.Prelude.{◌≡◌, ◌≤◌};
+ghost use Rattle.std.specs.Prelude.{◌≡◌, ◌≤◌, length};
+ghost use Rattle.std.specs.Iterator.{at_most};
 ghost use Rattle.lexicon.specs.Words.{letter_holds, good_word, rises};
-ghost use Rattle.lexicon.specs.Lexicon.{most_states, lexicon};
+ghost use Rattle.lexicon.specs.Lexicon.{most_states, lexicon, NextWord};
 ghost use Rattle.lexicon.specs.Check.{common, word_listing, listing};
 
 use refusal::InputCause;
@@ -17,109 +18,91 @@ const MOST_LETTERS: usize = 64;
 // The highest letter of a word; 63 marks a cut.
 const MOST_LETTER: u8 = 62;
 
-// What a list tells: the states of its letter tree, or 30, 31, 32.
-#[derive(Clone, Copy)]
-pub enum Listing {
-    States(usize),
-    Fault(InputCause),
+// The words of a list's bytes, each a length byte and its letters; none is left at the end, and before a word that is cut short.
+#[derive(Drop)]
+pub struct ListWords<'a>(pub &'a [u8]);
+
+impl<'a> Iterator for ListWords<'a> {
+    type Item = &'a [u8];
+
+    ghost next_gives = { NextWord (λ s. s.0.now) };
+
+    ghost remaining = { λ s. at_most (length s.0.now) };
+
+    fn next(&mut self) -> Option<&'a [u8]> {
+        let (letters, rest) = self.0.split_first()?;
+        let (word, after) = rest.split_at_checked(usize::from(*letters))?;
+        self.0 = after;
+        Some(word)
+    }
 }
 
 fn is_letter(letter: u8) -> bool
     ensures { result ≡ letter_holds letter }
 {
-    1 <= letter && letter <= MOST_LETTER
+    (1..=MOST_LETTER).contains(&letter)
 }
 
 // Whether a word has 1 to 64 letters from 1 to 62.
 fn word_holds(word: &[u8]) -> bool
     ensures { result ≡ good_word word.now }
 {
-    if word.len() == 0 {
-        return false;
-    }
-    if MOST_LETTERS < word.len() {
-        return false;
-    }
-    let mut k = 0;
-    while k < word.len() {
-        if !is_letter(word[k]) {
-            return false;
-        }
-        k += 1;
-    }
-    true
+    (1..=MOST_LETTERS).contains(&word.len()) && word.iter().all(|letter| is_letter(*letter))
 }
 
 // How many letters two words have in common at the front.
 pub fn common(before: &[u8], word: &[u8]) -> usize
     ensures { result ≡ common before.now word.now }
 {
-    let mut k = 0;
-    while k < before.len() {
-        if word.len() <= k {
-            return k;
-        }
-        if before[k] != word[k] {
-            return k;
-        }
-        k += 1;
-    }
-    k
+    before
+        .iter()
+        .zip(word)
+        .take_while(|(x, y)| **x == **y)
+        .count()
 }
 
-// Whether a word is above the one before it, with which it has the first letters in common.
-pub fn rises(before: &[u8], word: &[u8], shared: usize) -> bool
-    requires { shared ≡ common before.now word.now }
+// Whether a word is above the one before it.
+#[tactic(auto, using(crate::proofs::Comparing::rises_by))]
+pub fn rises(before: &[u8], word: &[u8]) -> bool
     ensures { result ≡ rises before.now word.now }
 {
-    if word.len() <= shared {
-        return false;
-    }
-    if before.len() <= shared {
-        return true;
-    }
-    before[shared] < word[shared]
+    before < word
 }
 
-// A word after the one before it, in a tree of so many states.
-fn judge(before: &[u8], word: &[u8], states: usize) -> Listing
+// A word after the one before it, in a tree of so many states: how many there are with it.
+fn judge(before: &[u8], word: &[u8], states: usize) -> Result<usize, InputCause>
     requires { states ≤ most_states }
     ensures { result ≡ word_listing before.now word.now states }
 {
     if !word_holds(word) {
-        return Listing::Fault(InputCause::ListedWord);
+        return Err(InputCause::ListedWord);
     }
-    let shared = common(before, word);
-    if !rises(before, word, shared) {
-        return Listing::Fault(InputCause::WordOrder);
+    if !rises(before, word) {
+        return Err(InputCause::WordOrder);
     }
-    let grown = states + (word.len() - shared);
+    let grown = states + (word.len() - common(before, word));
     if MOST_STATES < grown {
-        return Listing::Fault(InputCause::StateLimit);
+        return Err(InputCause::StateLimit);
     }
-    Listing::States(grown)
+    Ok(grown)
 }
 
-// A whole list. The word before stands between `from` and `at`; before the first it is empty.
-pub fn check(words: &[u8]) -> Listing
+// A whole list: the states of its letter tree, or 30, 31, 32. Before the first word stands the empty one.
+pub fn check(words: &[u8]) -> Result<usize, InputCause>
     ensures { result ≡ listing (lexicon words.now) }
 {
     let mut states = 1;
-    let mut from = 0;
-    let mut at = 0;
-    while at < words.len() {
-        let first = at + 1;
-        let end = first + widen::byte_as_index(words[at]);
-        if words.len() < end {
-            return Listing::Fault(InputCause::ListedWord);
-        }
-        let judged = judge(&words[from..at], &words[first..end], states);
-        let Listing::States(grown) = judged else {
-            return judged;
-        };
-        states = grown;
-        from = first;
-        at = end;
+    let mut before: &[u8] = &[];
+    let mut listed = ListWords(words);
+
+    // By `next`: after the loop it tells whether a word is cut short.
+    while let Some(word) = listed.next() {
+        states = judge(before, word, states)?;
+        before = word;
     }
-    Listing::States(states)
+    if listed.0.is_empty() {
+        Ok(states)
+    } else {
+        Err(InputCause::ListedWord)
+    }
 }

@@ -13,7 +13,7 @@ pub const MOST_CEILING: u32 = 100000;
 // The caller's record of a search: its task, how many initial states are started, how many frames are in use, and the ceiling for the sum of the
 // penalties on a path, which its start fixes.
 #[repr(C)]
-#[derive(Clone, Copy)]
+#[derive(Clone, Copy, PartialEq, Eq)]
 pub struct Run {
     pub task: u32,
     pub started: u32,

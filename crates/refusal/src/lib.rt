@@ -2,90 +2,72 @@
 #![tactic(auto)]
 
 ghost use Rattle.std.specs.Prelude.{◌≡◌};
-ghost use Rattle.refusal.specs.Refusal.{input_number, state_number, number_of};
+ghost use Rattle.refusal.specs.Refusal.{number_of};
+ghost use Rattle.refusal.specs.declared.Refusal.TheVariants.{Input, State};
 
 // Why an input is turned down: document 01's 1 to 12, and document 02's 30 to 34 and 39.
-#[derive(Clone, Copy)]
+#[derive(Clone, Copy, Debug, PartialEq, Eq)]
 pub enum InputCause {
-    Malformed,
-    Misplaced,
-    CountLimit,
-    StateNumber,
-    LetterLimit,
-    StateOrder,
-    SourceOrder,
-    ArcRepeated,
-    LineCount,
-    WordFault,
-    TaskFault,
-    IdleCycle,
-    ListedWord,
-    WordOrder,
-    StateLimit,
-    SheetFault,
-    ClassFault,
-    CeilingLimit,
+    Malformed = 1,
+    Misplaced = 2,
+    CountLimit = 3,
+    StateNumber = 4,
+    LetterLimit = 5,
+    StateOrder = 6,
+    SourceOrder = 7,
+    ArcRepeated = 8,
+    LineCount = 9,
+    WordFault = 10,
+    TaskFault = 11,
+    IdleCycle = 12,
+    ListedWord = 30,
+    WordOrder = 31,
+    StateLimit = 32,
+    SheetFault = 33,
+    ClassFault = 34,
+    CeilingLimit = 39,
 }
 
 // Why a state is turned down, document 01's 20 to 24.
-#[derive(Clone, Copy)]
+#[derive(Clone, Copy, Debug, PartialEq, Eq)]
 pub enum StateCause {
-    LoadedTable,
-    Place,
-    StackFull,
-    OutputFull,
-    DestinationShort,
+    LoadedTable = 20,
+    Place = 21,
+    StackFull = 22,
+    OutputFull = 23,
+    DestinationShort = 24,
 }
 
-#[derive(Clone, Copy)]
+#[derive(Clone, Copy, Debug, PartialEq, Eq)]
 pub enum Refusal {
     Input(InputCause),
     State(StateCause),
 }
 
-fn input_number(cause: InputCause) -> u8
-    ensures { result ≡ input_number cause }
-{
-    match cause {
-        InputCause::Malformed => 1,
-        InputCause::Misplaced => 2,
-        InputCause::CountLimit => 3,
-        InputCause::StateNumber => 4,
-        InputCause::LetterLimit => 5,
-        InputCause::StateOrder => 6,
-        InputCause::SourceOrder => 7,
-        InputCause::ArcRepeated => 8,
-        InputCause::LineCount => 9,
-        InputCause::WordFault => 10,
-        InputCause::TaskFault => 11,
-        InputCause::IdleCycle => 12,
-        InputCause::ListedWord => 30,
-        InputCause::WordOrder => 31,
-        InputCause::StateLimit => 32,
-        InputCause::SheetFault => 33,
-        InputCause::ClassFault => 34,
-        InputCause::CeilingLimit => 39,
+impl From<InputCause> for Refusal {
+    ghost from_gives = { λ cause refusal. refusal ≡ Input cause };
+
+    fn from(cause: InputCause) -> Self {
+        Refusal::Input(cause)
     }
 }
 
-fn state_number(cause: StateCause) -> u8
-    ensures { result ≡ state_number cause }
-{
-    match cause {
-        StateCause::LoadedTable => 20,
-        StateCause::Place => 21,
-        StateCause::StackFull => 22,
-        StateCause::OutputFull => 23,
-        StateCause::DestinationShort => 24,
+impl From<StateCause> for Refusal {
+    ghost from_gives = { λ cause refusal. refusal ≡ State cause };
+
+    fn from(cause: StateCause) -> Self {
+        Refusal::State(cause)
     }
 }
 
-// The number of a refusal.
-pub fn number(refusal: Refusal) -> u8
-    ensures { result ≡ number_of refusal }
-{
-    match refusal {
-        Refusal::Input(cause) => input_number(cause),
-        Refusal::State(cause) => state_number(cause),
+impl Refusal {
+    // The number of a refusal, as it stands beside its cause above.
+    pub fn number(self) -> u8
+        ensures { result ≡ number_of self }
+    {
+        match self {
+            Refusal::Input(cause) => cause as u8,
+            Refusal::State(cause) => cause as u8,
+        }
     }
 }

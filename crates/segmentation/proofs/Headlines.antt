@@ -7,7 +7,7 @@ use mathlib.Core.Bool.{true, false}
 use mathlib.Core.List.Memᴰ
 use mathlib.Core.List.{List, [], ◌∷◌, ◌++◌, map, Memᴰ}
 use lib.ListN.{length, drop}
-use Rattle.destination.specs.declared.Answer.TheVariants.{Done}
+use Rattle.std.specs.Prelude.{Ok}
 use Rattle.table_format.specs.Loaded.{cells_of}
 use Rattle.table_format.proofs.All.{All}
 use Rattle.graph.specs.Lists.{Distinct}
@@ -105,7 +105,7 @@ pub caller_cuts : (bytes : List ℕ) (ws : List Word) → TakenAs bytes ws → (
 caller_cuts bytes ws e = caller.caller_cuts ws ((lists.taken bytes ws).0 e).0
 
 -- FROM BYTES TO READINGS: a list that the builder has taken, a start over the cells that it left, and any calls after it.
-pub built-cuts : (bytes d : List ℕ) (n : ℕ) → build_answer bytes d ≡ Done n → (x : ℕ) (v : Word) → query.word_holds (x ∷ v) ≡ true
+pub built-cuts : (bytes d : List ℕ) (n : ℕ) → build_answer bytes d ≡ Ok n → (x : ℕ) (v : Word) → query.word_holds (x ∷ v) ≡ true
     → (ceiling : ℕ) → ceiling ≤ query.most_ceiling
     → (s : Started) (S : StartedIs (started (build_cells bytes d) 2 (x ∷ v) [] ceiling) s) → (ws : List Word) × TakenAs bytes ws × CutsTold ws (build_cells bytes d) (x ∷ v) ceiling s S
 built-cuts bytes d n e x v good ceiling low =

@@ -21,7 +21,7 @@ use Rattle.machine.specs.declared.Answer.TheVariants.{Found, Paused, Ended, Refu
 use Rattle.machine.specs.Asked.{asked_table, asked}
 use Rattle.machine.specs.Reading.{Outcome, outcome_of, outcome}
 use Rattle.session_query.specs.Query.{upper_in, lower_in, filled}
-use Rattle.session_query.proofs.Query.{upper-filled, lower-filled}
+use Rattle.session_query.proofs.Queries.{upper-filled, lower-filled}
 use Rattle.session_replies.specs.Lines.{reading_line, limit_line, refusal_line, stored_line}
 use Rattle.session_opening.specs.declared.SessionState.{SessionState}
 use Rattle.session_opening.specs.Opened.{Opened, unopened, ready, opened}

@@ -1,6 +1,8 @@
 -- One line of a session at a time. The headline theorem says that these lines, one after another, are those of Session.
-use Rattle.std.specs.Prelude.{ℕ, ◌+◌, ◌≡◌, cond, List, leb, length, take}
+use Rattle.std.specs.Prelude.{ℕ, ◌+◌, ◌≡◌, cond, List, leb, length, take, Result, Ok, Err, None, Some}
+use Rattle.std.specs.Prelude.{Option as Maybe}
 use Rattle.std.proofs.Math.Option.{Option, none, some}
+use Rattle.refusal.specs.declared.Refusal.{Refusal}
 use Rattle.table_format.specs.Line.{line_text}
 use Rattle.session_query.specs.Query.{upper_in, lower_in}
 use Rattle.session_calls.specs.Calls.{CallsOutcome, calls_outcome}
@@ -8,8 +10,7 @@ use Rattle.session_replies.specs.Lines.{reading_line, end_line, limit_line, refu
 use Rattle.session_opening.specs.declared.SessionState.{SessionState}
 use Rattle.session_calls.specs.declared.CallResult.{CallResult}
 use Rattle.session_calls.specs.declared.CallResult.TheVariants as C
-use Rattle.session.specs.declared.LineResult.{LineResult}
-use Rattle.session.specs.declared.LineResult.TheVariants as L
+use Rattle.session.specs.declared.Line.{Line}
 use Rattle.session.specs.Session.{most_readings}
 
 -- The next line.
@@ -22,18 +23,18 @@ pub record NextLine : Type 0 where
   pub output : List ℕ
 
 -- the line of what calls come to after count readings
-abbrev pub result_line : CallResult → ℕ → List ℕ → List ℕ
-result_line (C.Reading n run calls) count output = reading_line (count + 1) (take n output)
-result_line C.Ended count output = end_line count
-result_line (C.Refused r) count output = refusal_line r
-result_line C.Spent count output = limit_line count
+abbrev pub result_line : Result CallResult Refusal → ℕ → List ℕ → List ℕ
+result_line (Ok (C.Reading n run calls)) count output = reading_line (count + 1) (take n output)
+result_line (Ok C.Ended) count output = end_line count
+result_line (Err r) count output = refusal_line r
+result_line (Ok C.Spent) count output = limit_line count
 
 -- only after a reading does another line follow
-abbrev pub state_after : CallResult → ℕ → Option SessionState
-state_after (C.Reading n run calls) count = some (record { run = run; count = count + 1; calls = calls })
-state_after C.Ended count = none
-state_after (C.Refused r) count = none
-state_after C.Spent count = none
+abbrev pub state_after : Result CallResult Refusal → ℕ → Option SessionState
+state_after (Ok (C.Reading n run calls)) count = some (record { run = run; count = count + 1; calls = calls })
+state_after (Ok C.Ended) count = none
+state_after (Err r) count = none
+state_after (Ok C.Spent) count = none
 
 abbrev pub next_line_of : ℕ → CallsOutcome → NextLine
 next_line_of count h = record { bytes = result_line h.result count h.output; after = state_after h.result count; stack = h.stack; output = h.output }
@@ -41,7 +42,7 @@ next_line_of count h = record { bytes = result_line h.result count h.output; aft
 -- "after 1,000 readings" at once
 unfoldable pub next_line : (cells upper lower : List ℕ) → SessionState → List ℕ → List ℕ → NextLine
 next_line cells upper lower state stack output =
-    cond (leb most_readings state.count) (next_line_of state.count (record { result = C.Spent; stack = stack; output = output }))
+    cond (leb most_readings state.count) (next_line_of state.count (record { result = Ok C.Spent; stack = stack; output = output }))
     (next_line_of state.count (calls_outcome cells upper lower state.calls state.run stack output))
 
 -- What the call tells, and leaves in what it is lent.
@@ -51,16 +52,19 @@ pub record LineTold : Type 0 where
   pub length : ℕ
   pub after : Option SessionState
 
-abbrev pub line_told : LineResult → LineTold
-line_told (L.More n state) = record { length = n; after = some state }
-line_told (L.Last n) = record { length = n; after = none }
+abbrev pub next_told : Maybe SessionState → Option SessionState
+next_told (Some state) = some state
+next_told None = none
+
+abbrev pub line_told : Line → LineTold
+line_told l = record { length = l.length; after = next_told l.next }
 
 -- of a line by its bytes
 abbrev pub told_of : List ℕ → Option SessionState → LineTold
 told_of bytes after = record { length = length (line_text bytes); after = after }
 
 -- of the line of what calls come to, and the line buffer before and after
-abbrev pub ResultLineIs : CallResult → ℕ → List ℕ → LineTold → List ℕ → List ℕ → Type 0
+abbrev pub ResultLineIs : Result CallResult Refusal → ℕ → List ℕ → LineTold → List ℕ → List ℕ → Type 0
 ResultLineIs result count output r before after =
     (r ≡ told_of (result_line result count output) (state_after result count)) × (after ≡ stored_line (result_line result count output) before)
 

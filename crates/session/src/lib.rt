@@ -11,8 +11,9 @@ ghost use Rattle.session.specs.Next.{line_told, ResultLineIs, line_outcome, Line
 use refusal::Refusal;
 use session_calls::{CallResult, make_calls};
 use session_opening::SessionState;
-use session_query::words;
+use session_query::Query;
 use session_replies::{LINE_CHARACTERS, OUTPUT_LETTERS};
+use table_format::MOST_CELLS;
 
 // The readings of a session.
 pub const MOST_READINGS: u16 = 1000;
@@ -25,81 +26,84 @@ pub const STACK_CELLS: usize = STACK_FRAMES * machine::FRAME_WIDTH;
 
 // A line's length, and the state to go on with where another line follows.
 #[derive(Clone, Copy)]
-pub enum LineResult {
-    More { length: usize, state: SessionState },
-    Last { length: usize },
+pub struct Line {
+    pub length: usize,
+    pub next: Option<SessionState>,
 }
 
 // The stack that the first call of `next_line` is lent.
 pub fn first_stack() -> [u32; STACK_CELLS]
     ensures { result ≡ first_stack }
 {
-    [0u32; STACK_CELLS]
+    [0; STACK_CELLS]
 }
 
 // The output buffer that it is lent.
 pub fn first_output() -> [u8; OUTPUT_LETTERS]
     ensures { result ≡ first_output }
 {
-    [0u8; OUTPUT_LETTERS]
+    [0; OUTPUT_LETTERS]
 }
 
 // The line of what calls come to, from the front of `line`.
 fn result_line(
-    res: CallResult,
+    reached: Result<CallResult, Refusal>,
     count: u16,
     output: &[u8; OUTPUT_LETTERS],
     line: &mut [u8; LINE_CHARACTERS],
-) -> LineResult
-    requires { (count < most_readings) × Fits res output.now }
-    ensures { ResultLineIs res count output.now (line_told result) line.old line.new }
+) -> Line
+    requires { (count < most_readings) × Fits reached output.now }
+    ensures { ResultLineIs reached count output.now (line_told result) line.old line.new }
 {
-    match res {
-        CallResult::Reading { length, run, calls } => {
-            let n = length as usize;
-            let letters = &output[..];
+    match reached {
+        Ok(CallResult::Reading { length, run, calls }) => {
             let ordinal = count + 1;
-            let size = session_replies::reading_line(line, ordinal, &letters[..n]);
-            LineResult::More {
-                length: size,
-                state: SessionState {
+            let letters = &output[..length as usize];
+            Line {
+                length: session_replies::reading_line(line, ordinal, letters),
+                next: Some(SessionState {
                     run,
                     count: ordinal,
                     calls,
-                },
+                }),
             }
         }
-        CallResult::Ended => LineResult::Last {
-            length: session_replies::count_line(line, session_replies::END_KIND, count),
+        Ok(CallResult::Ended) => Line {
+            length: session_replies::end_line(line, count),
+            next: None,
         },
-        CallResult::Refused(refusal) => LineResult::Last {
+        Ok(CallResult::Spent) => Line {
+            length: session_replies::limit_line(line, count),
+            next: None,
+        },
+        Err(refusal) => Line {
             length: session_replies::refusal_line(line, refusal),
-        },
-        CallResult::Spent => LineResult::Last {
-            length: session_replies::count_line(line, session_replies::LIMIT_KIND, count),
+            next: None,
         },
     }
 }
 
 // The next line of a session, from the front of `line`.
+// Lent one by one: the theorems say of each lent array what it holds before and after a call (LineOutcomeIs).
 pub fn next_line(
-    table: &[u16; table_format::MOST_CELLS],
-    query: &[u8; session_query::QUERY_BYTES],
+    table: &[u16; MOST_CELLS],
+    query: &Query,
     state: SessionState,
     stack: &mut [u32; STACK_CELLS],
     output: &mut [u8; OUTPUT_LETTERS],
     line: &mut [u8; LINE_CHARACTERS],
-) -> LineResult
-    ensures { LineOutcomeIs (line_outcome table.now query.now state stack.old output.old line.old) (line_told result) stack.new output.new line.new }
+) -> Line
+    ensures { LineOutcomeIs (line_outcome table.now query.now.bytes state stack.old output.old line.old) (line_told result) stack.new output.new line.new }
 {
     let count = state.count;
     if MOST_READINGS <= count {
-        return LineResult::Last {
-            length: session_replies::count_line(line, session_replies::LIMIT_KIND, count),
+        return Line {
+            length: session_replies::limit_line(line, count),
+            next: None,
         };
     }
-    let upper = words::upper(query);
-    let lower = words::lower(query);
+    let upper = query.upper();
+    let lower = query.lower();
     let result = make_calls(table, upper, lower, state.run, state.calls, stack, output);
     result_line(result, count, output, line)
 }

@@ -4,6 +4,8 @@ use native.Mathlib.Omega.{arith}
 use mathlib.Core.Path.{◌≡◌, refl, sym, subst, subst₂}
 use mathlib.Core.List.{List}
 use lib.ListN.{length, drop, length-append}
+use Rattle.std.specs.Prelude.{Result, Ok}
+use Rattle.refusal.specs.declared.Refusal.{Refusal}
 use Rattle.machine.specs.declared.Run.{Run}
 use Rattle.machine.specs.declared.Answer.{Answer}
 use Rattle.machine.specs.declared.Answer.TheVariants.{Found, Paused, Ended, Refused}
@@ -51,9 +53,9 @@ module _ (cells upper lower : List ℕ) where
       go (Ended steps) e k = tt
       go (Refused steps r) e k = tt
 
-  pub result_fits : (calls : ℕ) (run : Run) (stack output : List ℕ) (result : CallResult) (o : List ℕ) → result ≡ (calls_outcome cells upper lower calls run stack output).result
+  pub result_fits : (calls : ℕ) (run : Run) (stack output : List ℕ) (result : Result CallResult Refusal) (o : List ℕ) → result ≡ (calls_outcome cells upper lower calls run stack output).result
       → o ≡ (calls_outcome cells upper lower calls run stack output).output → Fits result o
   result_fits calls run stack output result o p q = subst₂ Fits (sym p) (sym q) (calls_fit calls run stack output)
 
-pub fits-reading : (output : List ℕ) {result : CallResult} {n : ℕ} {run : Run} {calls : ℕ} → result ≡ C.Reading n run calls → Fits result output → n ≤ length output
-fits-reading output e f = subst (λ (x : CallResult). Fits x output) e f
+pub fits-reading : (output : List ℕ) {result : Result CallResult Refusal} {n : ℕ} {run : Run} {calls : ℕ} → result ≡ Ok (C.Reading n run calls) → Fits result output → n ≤ length output
+fits-reading output e f = subst (λ (x : Result CallResult Refusal). Fits x output) e f

@@ -4,6 +4,7 @@ use native.Mathlib.Omega.{arith}
 use mathlib.Core.Path.{◌≡◌, refl, sym, ap, ap₂, ◌∙◌}
 use mathlib.Core.List.{List}
 use lib.ListN.{length}
+use Rattle.std.specs.Prelude.{Ok, Err}
 use Rattle.refusal.specs.declared.Refusal.{Refusal}
 use Rattle.machine.specs.declared.Run.{Run}
 use Rattle.machine.specs.declared.Answer.{Answer}
@@ -30,11 +31,11 @@ made_of called I = (outcome-called {c = called} I, I.stack_is, I.output-is)
 
 module _ {cells upper lower : List ℕ} {h : CallsOutcome} {stack₀ output₀ : List ℕ} {left : ℕ} {run : Run} {stack output : List ℕ}
     (L : CallsLeft cells upper lower h stack₀ output₀ left run stack output) where
-  pub none_left : left ≤ 0 → CallsOutcomeIs h C.Spent stack output
+  pub none_left : left ≤ 0 → CallsOutcomeIs h (Ok C.Spent) stack output
   unfolding calls_outcome
   none_left z = go left refl L.is
     where
-      go : (n : ℕ) → left ≡ n → calls_outcome cells upper lower n run stack output ≡ h → CallsOutcomeIs h C.Spent stack output
+      go : (n : ℕ) → left ≡ n → calls_outcome cells upper lower n run stack output ≡ h → CallsOutcomeIs h (Ok C.Spent) stack output
       go zero q e = parts _ e
       go (suc n) q e = absurd (omega arith)
 
@@ -60,15 +61,15 @@ module _ {cells upper lower : List ℕ} {h : CallsOutcome} {stack₀ output₀ :
             ∙ ap₂ (λ (x : Answer) (y : Outcome). calls_outcome_by x y n (λ r s o. calls_outcome cells upper lower n r s o)) is same
             ∙ sym (ap (λ (k : ℕ). calls_outcome cells upper lower k run stack output) z) ∙ L.is
 
-    pub call-found : {steps n : ℕ} → called.answer ≡ Found steps n → CallsOutcomeIs h (C.Reading n called.run (left - 1)) s o
+    pub call-found : {steps n : ℕ} → called.answer ≡ Found steps n → CallsOutcomeIs h (Ok (C.Reading n called.run (left - 1))) s o
     unfolding after
     call-found {steps} {n} e = parts _ (turn (Found steps n) e)
 
-    pub call-ended : {steps : ℕ} → called.answer ≡ Ended steps → CallsOutcomeIs h C.Ended s o
+    pub call-ended : {steps : ℕ} → called.answer ≡ Ended steps → CallsOutcomeIs h (Ok C.Ended) s o
     unfolding after
     call-ended {steps} e = parts _ (turn (Ended steps) e)
 
-    pub call-refused : {steps : ℕ} {c : Refusal} → called.answer ≡ Refused steps c → CallsOutcomeIs h (C.Refused c) s o
+    pub call-refused : {steps : ℕ} {c : Refusal} → called.answer ≡ Refused steps c → CallsOutcomeIs h (Err c) s o
     unfolding after
     call-refused {steps} {c} e = parts _ (turn (Refused steps c) e)
 

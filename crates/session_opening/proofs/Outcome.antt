@@ -7,11 +7,11 @@ use mathlib.Core.List.{List, ◌++◌}
 use lib.ListN.{length, take, drop, length-drop}
 use lib.Seq.{take_at, take_all}
 use borrow.Author.Tests.{lt-ltb, le-ltb}
+use Rattle.std.specs.Prelude.{Ok, Err}
 use Rattle.refusal.specs.declared.InputCause.{InputCause}
 use Rattle.refusal.specs.declared.InputCause.TheVariants.{CountLimit}
 use Rattle.refusal.specs.declared.Refusal.{Refusal}
 use Rattle.refusal.specs.declared.Refusal.TheVariants.{Input}
-use Rattle.destination.specs.declared.Answer.TheVariants as A
 use Rattle.table_format.specs.Table.{Table}
 use Rattle.table_format.specs.Loaded.{most_cells, cells_of}
 use Rattle.table_format.specs.Line.{Line, lines_of}
@@ -27,14 +27,12 @@ use Rattle.machine.specs.declared.Started.{Started}
 use Rattle.machine.specs.Start.{started, StartedIs}
 use Rattle.machine.proofs.Start.{start_is}
 use Rattle.session_query.specs.Parts.{table_text, query_text, table_size}
-use Rattle.session_query.specs.declared.Question.{Question}
-use Rattle.session_query.specs.declared.Asking.TheVariants.{Fault, Query}
+use Rattle.session_query.specs.declared.Query.{Query}
 use Rattle.session_query.specs.Query.{task_in, upper_in, lower_in, query_of}
 use Rattle.session_query.specs.Asking.{question_of}
 use Rattle.session_query.proofs.Parts.{size-inside}
-use Rattle.session_query.proofs.Query.{fault-is, Asks, asks-is}
+use Rattle.session_query.proofs.Queries.{fault-is, Asks, asks-is}
 use Rattle.session_opening.specs.declared.SessionState.{SessionState}
-use Rattle.session_opening.specs.declared.Opening.TheVariants.{Ready, Refused}
 use Rattle.session_opening.specs.Opened.{most_input, Opened, unopened, ready, opened_as, session_ceiling, started_on, opened_query, opened_table, opened}
 use Rattle.session_opening.specs.Outcome.{OpeningTold, opening_told, OpeningOutcome, first_state, opening_outcome, OpeningOutcomeIs}
 
@@ -43,20 +41,19 @@ use Rattle.session_opening.specs.Outcome.{OpeningTold, opening_told, OpeningOutc
 pub opening-same : (x y : OpeningOutcome) (r : OpeningTold) (t q : List ℕ) → x ≡ y → OpeningOutcomeIs x r t q → OpeningOutcomeIs y r t q
 opening-same x y r t q e i = subst (λ (z : OpeningOutcome). OpeningOutcomeIs z r t q) e i
 
-pub opening-refused : (o : Opened) (table query : List ℕ) (r : Refusal) → o ≡ unopened r → OpeningOutcomeIs (opening_outcome o table query) (opening_told (Refused r)) table query
-opening-refused o table query r e = subst (λ (x : Opened). OpeningOutcomeIs (opening_outcome x table query) (opening_told (Refused r)) table query) (sym e) (refl, refl, refl)
+pub opening-refused : (o : Opened) (table query : List ℕ) (r : Refusal) → o ≡ unopened r → OpeningOutcomeIs (opening_outcome o table query) (opening_told (Err r)) table query
+opening-refused o table query r e = subst (λ (x : Opened). OpeningOutcomeIs (opening_outcome x table query) (opening_told (Err r)) table query) (sym e) (refl, refl, refl)
 
 -- The query.
 
-pub query-faults : (cells : List ℕ) (ls : List Line) (x : Question) (cause : InputCause) → x ≡ question_of (query_of ls) → x.asking ≡ Fault cause
-    → opened_query cells (query_of ls) ≡ unopened (Input cause)
-query-faults cells ls x cause e f = ap (opened_query cells) (fault-is (query_of ls) x cause e f)
+pub query-faults : (cells : List ℕ) (ls : List Line) (cause : InputCause) → Err cause ≡ question_of (query_of ls) → opened_query cells (query_of ls) ≡ unopened (Input cause)
+query-faults cells ls cause e = ap (opened_query cells) (fault-is (query_of ls) cause e)
 
-module _ (cells : List ℕ) (ls : List Line) (x : Question) (e : x ≡ question_of (query_of ls)) (f : x.asking ≡ Query)
+module _ (cells : List ℕ) (ls : List Line) (x : Query) (e : Ok x ≡ question_of (query_of ls))
     (task : ℕ) (task-is : task ≡ task_in x.bytes) (upper lower : List ℕ) (upper_is : upper ≡ upper_in x.bytes) (lower-is : lower ≡ lower_in x.bytes)
     (s : Started) (S : StartedIs (started cells task upper lower session_ceiling) s) where
   asks : Asks ls x
-  asks = asks-is ls x e f
+  asks = asks-is ls x e
 
   opened-start : opened_query cells (query_of ls) ≡ opened_as cells asks.query s.answer s.run
   unfolding started_on
@@ -67,16 +64,16 @@ module _ (cells : List ℕ) (ls : List Line) (x : Question) (e : x ≡ question_
       ap (opened_query cells) asks.is
       ∙ ap (λ (z : Started). opened_as cells asks.query z.answer z.run) (sym (start_is {s = s} S ∙ (λ i. started cells (t i) (u i) (l i) session_ceiling)))
 
-  pub start-refused : (table query : List ℕ) (r : Refusal) → s.answer ≡ T.Refused r → OpeningOutcomeIs (opening_outcome (opened_query cells (query_of ls)) table query) (opening_told (Refused r)) table query
+  pub start-refused : (table query : List ℕ) (r : Refusal) → s.answer ≡ T.Refused r → OpeningOutcomeIs (opening_outcome (opened_query cells (query_of ls)) table query) (opening_told (Err r)) table query
   start-refused table query r g =
       opening-refused (opened_query cells (query_of ls)) table query r (opened-start ∙ ap (λ (a : StartAnswer). opened_as cells asks.query a s.run) g)
 
   pub start-ready : (table query : List ℕ) → s.answer ≡ T.Ready → (state : SessionState) (t : List ℕ) → state ≡ first_state s.run → t ≡ cells ++ drop (length cells) table
-      → OpeningOutcomeIs (opening_outcome (opened_query cells (query_of ls)) table query) (opening_told (Ready state)) t x.bytes
+      → OpeningOutcomeIs (opening_outcome (opened_query cells (query_of ls)) table query) (opening_told (Ok state)) t x.bytes
   start-ready table query g state t k i =
-      opening-same (opening_outcome (ready cells asks.query s.run) table query) (opening_outcome (opened_query cells (query_of ls)) table query) (opening_told (Ready state)) t x.bytes
+      opening-same (opening_outcome (ready cells asks.query s.run) table query) (opening_outcome (opened_query cells (query_of ls)) table query) (opening_told (Ok state)) t x.bytes
       (sym (ap (λ (o : Opened). opening_outcome o table query) (opened-start ∙ ap (λ (a : StartAnswer). opened_as cells asks.query a s.run) g)))
-      (ap (λ (s : SessionState). opening_told (Ready s)) k, i, asks.bytes-are)
+      (ap (λ (s : SessionState). opening_told (Ok s)) k, i, asks.bytes-are)
 
 -- The input.
 
@@ -106,19 +103,19 @@ module _ (input : List ℕ) (end : ℕ) (end_is : end ≡ table_size input) (few
   pub end-inside : end ≤ length input
   end-inside = omega (arith, end_is, size-inside input)
 
-  pub table-refused : (r : Refusal) → A.Refused r ≡ read_answer (take end input) zeros → opened input ≡ unopened r
+  pub table-refused : (r : Refusal) → Err r ≡ read_answer (take end input) zeros → opened input ≡ unopened r
   unfolding read_answer
   table-refused r e = go (parsed (take end input)) refl e
     where
-      go : (p : Parsed) → parsed (take end input) ≡ p → A.Refused r ≡ read_as p zeros → opened input ≡ unopened r
+      go : (p : Parsed) → parsed (take end input) ≡ p → Err r ≡ read_as p zeros → opened input ≡ unopened r
       go (accepted t) q e =
-          let w : read_as (accepted t) zeros ≡ A.Done (length (cells_of t)) = sym (ap (λ (p : Parsed). read_as p zeros) q) ∙ (read_fits (take end input) zeros t q (omega (arith, cells-most (take end input) t q))).0 in
+          let w : read_as (accepted t) zeros ≡ Ok (length (cells_of t)) = sym (ap (λ (p : Parsed). read_as p zeros) q) ∙ (read_fits (take end input) zeros t q (omega (arith, cells-most (take end input) t q))).0 in
           absurd (let z : ◌≡◌ {A = ℕ} 0 1 = cc (e ∙ w) in omega arith)
       go (turned_down cause) q e =
           let same : r ≡ Input cause = cc in
           opened-by input few ∙ ap (λ (p : Parsed). opened_table p (lines_of (query_text input))) (ap parsed (sym text-is) ∙ q) ∙ ap unopened (sym same)
 
-  module _ (count : ℕ) (cells : List ℕ) (e : A.Done count ≡ read_answer (take end input) zeros) (c : cells ≡ read_cells (take end input) zeros) where
+  module _ (count : ℕ) (cells : List ℕ) (e : Ok count ≡ read_answer (take end input) zeros) (c : cells ≡ read_cells (take end input) zeros) where
     pub count-inside : count ≤ length cells
     count-inside =
         let d = (read_done (take end input) zeros count (sym e)).2 in

@@ -18,7 +18,7 @@ use Rattle.machine.specs.declared.StartAnswer.{StartAnswer}
 use Rattle.machine.specs.declared.StartAnswer.TheVariants as T
 use Rattle.session_query.specs.Parts.{table_text, query_text}
 use Rattle.session_query.specs.Query.{QueryRead, fault, says, query_of}
-use Rattle.session_query.proofs.Query.{IsQuery, query-whole}
+use Rattle.session_query.proofs.Queries.{IsQuery, query-whole}
 use Rattle.session_opening.specs.Opened.{most_input, Opened, unopened, ready, opened_as, start_of, started_on, opened_query, opened_table, opened}
 
 pub record Whole (cells b : List ℕ) : Type 0 where

@@ -8,24 +8,17 @@ ghost use Rattle.session_query.specs.Query.{query_of};
 ghost use Rattle.session_opening.specs.Opened.{opened_query, opened};
 ghost use Rattle.session_opening.specs.Outcome.{opening_told, first_state, opening_outcome, OpeningOutcomeIs};
 
-use destination::{Answer, copy_cells};
 use machine::{Run, StartAnswer};
 use refusal::{InputCause, Refusal};
-use session_query::{Asking, asker, splitter, words};
+use session_query::{Query, asker, splitter};
 use table::reader;
+use table_format::MOST_CELLS;
 
 // The bytes of an input.
 pub const MOST_INPUT: usize = 65536;
 
 // The ceiling of a session's run.
 const CEILING: u32 = machine::MOST_CEILING;
-
-// What an opening answers: the state to begin with, or a refusal.
-#[derive(Clone, Copy)]
-pub enum Opening {
-    Ready(SessionState),
-    Refused(Refusal),
-}
 
 // Where a session stands between two lines: its run, the readings told and the calls left.
 #[derive(Clone, Copy)]
@@ -35,14 +28,16 @@ pub struct SessionState {
     pub calls: u32,
 }
 
-// No reading told yet, and every call left.
-fn first_state(run: Run) -> SessionState
-    ensures { result ≡ first_state run }
-{
-    SessionState {
-        run,
-        count: 0,
-        calls: session_calls::MOST_CALLS,
+impl SessionState {
+    // No reading told yet, and every call left.
+    fn first(run: Run) -> SessionState
+        ensures { result ≡ first_state run }
+    {
+        SessionState {
+            run,
+            count: 0,
+            calls: session_calls::MOST_CALLS,
+        }
     }
 }
 
@@ -50,52 +45,35 @@ fn first_state(run: Run) -> SessionState
 fn begin_query(
     text: &[u8],
     cells: &[u16],
-    table: &mut [u16; table_format::MOST_CELLS],
-    query: &mut [u8; session_query::QUERY_BYTES],
-) -> Opening
+    table: &mut [u16; MOST_CELLS],
+    query: &mut Query,
+) -> Result<SessionState, Refusal>
     requires { length cells.now ≤ most_cells }
-    ensures { OpeningOutcomeIs (opening_outcome (opened_query cells.now (query_of (lines_of text.now))) table.old query.old) (opening_told result) table.new query.new }
+    ensures { OpeningOutcomeIs (opening_outcome (opened_query cells.now (query_of (lines_of text.now))) table.old query.old.bytes) (opening_told result) table.new query.new.bytes }
 {
-    let question = asker::query(text);
-    let asking = question.asking;
-    if let Asking::Fault(cause) = asking {
-        return Opening::Refused(Refusal::Input(cause));
+    let asked = asker::query(text)?;
+    let started = engine_start::start(cells, asked.task(), asked.upper(), asked.lower(), CEILING);
+    if let StartAnswer::Refused(refusal) = started.answer {
+        return Err(refusal);
     }
-    let bytes = question.bytes;
-    let task = widen::byte_as_count(bytes[1]);
-    let asked = &bytes;
-    let started = engine_start::start(
-        cells,
-        task,
-        words::upper(asked),
-        words::lower(asked),
-        CEILING,
-    );
-    let answer = started.answer;
-    if let StartAnswer::Refused(refusal) = answer {
-        return Opening::Refused(refusal);
-    }
-    copy_cells(cells, table);
-    *query = bytes;
-    Opening::Ready(first_state(started.run))
+    table[..cells.len()].copy_from_slice(cells);
+    *query = asked;
+    Ok(SessionState::first(started.run))
 }
 
-// The opening of a session on an input. The lent arrays hold every table and every query.
+// The opening of a session on an input: the state to begin with. The lent arrays hold every table and every query.
 pub fn begin(
     input: &[u8],
-    table: &mut [u16; table_format::MOST_CELLS],
-    query: &mut [u8; session_query::QUERY_BYTES],
-) -> Opening
-    ensures { OpeningOutcomeIs (opening_outcome (opened input.now) table.old query.old) (opening_told result) table.new query.new }
+    table: &mut [u16; MOST_CELLS],
+    query: &mut Query,
+) -> Result<SessionState, Refusal>
+    ensures { OpeningOutcomeIs (opening_outcome (opened input.now) table.old query.old.bytes) (opening_told result) table.new query.new.bytes }
 {
     if MOST_INPUT < input.len() {
-        return Opening::Refused(Refusal::Input(InputCause::CountLimit));
+        return Err(Refusal::Input(InputCause::CountLimit));
     }
     let end = splitter::table_end(input);
-    let mut cells = [0u16; table_format::MOST_CELLS];
-    let answer = reader::read(&input[..end], &mut cells);
-    match answer {
-        Answer::Refused(refusal) => Opening::Refused(refusal),
-        Answer::Done(count) => begin_query(&input[end..], &cells[..count], table, query),
-    }
+    let mut cells = [0; MOST_CELLS];
+    let count = reader::read(&input[..end], &mut cells)?;
+    begin_query(&input[end..], &cells[..count], table, query)
 }

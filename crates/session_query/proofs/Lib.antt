@@ -1,3 +1,3 @@
 -- Laws of an input's parts and of its query, for the proofs here and those of the session.
 pub mod Parts
-pub mod Query
+pub mod Queries

@@ -1,14 +1,18 @@
 -- The lines of a text, one after the other: where each ends, whether it begins with 05, and what stands through the first such line.
-use Prim.Native.Nat.{ℕ, suc, ◌+◌, ◌≤◌, ◌<◌}
+use Prim.Native.Nat.{ℕ, zero, suc, ◌+◌, ◌-◌, ◌≤◌, ◌<◌}
 use native.Mathlib.Omega.{arith}
 use native.Mathlib.Numerals.{add-one}
 use mathlib.Core.Path.{◌≡◌, refl, sym, ap, ap₂, ◌∙◌}
-use mathlib.Core.Bool.{Bool, true, false, cond, ◌&&◌}
-use mathlib.Core.List.{List, [], ◌∷◌}
+use mathlib.Core.Bool.{Bool, true, false, cond, ◌&&◌, and-false, and-true}
+use mathlib.Core.List.{List, [], ◌∷◌, ◌++◌}
 use lib.Dec.{eqb}
-use lib.ListN.{length, get_or, drop, length-drop, drop_of_length-le, get_or-eq_default}
-use lib.Seq.{drop-cons, drop-drop, get_or-drop}
-use borrow.Author.Tests.{eqb-true, ne_eqb}
+use Rattle.std.specs.List.{IsFirstMatchOrLen, starts_with}
+use Rattle.std.specs.Prelude.{min}
+use lib.Pointwise.{pointwise}
+use lib.ListN.{length, take, get_or, drop, length-drop, drop_of_length-le}
+use Rattle.std.proofs.Common.{drop_at}
+use lib.Seq.{take-nil, take_at, drop-cons, drop-drop}
+use borrow.Author.Tests.{eqb-true, eq-eqb, ne_eqb}
 use Rattle.table_format.specs.Line.{Line, with_char, lines_of, size_of}
 use Rattle.table_scanner.specs.Scan.{first_line}
 use Rattle.table_format.proofs.Line.{lines_char}
@@ -72,6 +76,51 @@ through-total (l ∷ ls) = go (begins05 l.chars) (through-total ls)
 pub size-inside : (input : List ℕ) → table_size input ≤ length input
 size-inside input = omega (arith, through-total (lines_of input), total-lines input)
 
+-- A text's first line as a part of it: the characters through the first line feed.
+
+part-size : (s : List ℕ) (i : ℕ) → IsFirstMatchOrLen (λ c. eqb c 10) s i → min (i + 1) (length s) ≡ size_of (first_line s)
+part-size [] i f = omega (arith, ap size_of first-none)
+part-size (c ∷ s) zero f = omega (arith, size-feed c s (f.1 (omega arith) 0))
+part-size (c ∷ s) (suc i) f =
+    let rec = part-size s i (λ k d l h. f.0 (suc k) d (omega arith) (omega arith), λ h d. f.1 (omega arith) d) in
+    omega (arith, size_char c s (f.0 0 0 (omega arith) (omega arith)), rec)
+
+eqb-sym : (a b : ℕ) → eqb a b ≡ eqb b a
+eqb-sym a b = go (eqb b a) refl
+  where
+    go : (x : Bool) → eqb b a ≡ x → eqb a b ≡ eqb b a
+    go true e = eq-eqb a b (sym (eqb-true b a e)) ∙ sym e
+    go false e = ne_eqb a b (λ h. let t = eq-eqb b a (sym h) in absurd (cc (sym e ∙ t))) ∙ sym e
+
+abbrev pub starts05 : List ℕ → Bool
+starts05 s = starts_with eqb s (48 ∷ 53 ∷ [])
+
+starts-none : (n : ℕ) → starts05 (take n []) ≡ false
+starts-none n = ap starts05 (take-nil n)
+
+starts-short : (c n : ℕ) → starts05 (take n (c ∷ [])) ≡ false
+starts-short c zero = refl
+starts-short c (suc n) = ap (λ (l : List ℕ). eqb 48 c && pointwise eqb (53 ∷ []) (take 1 l)) (take-nil n) ∙ and-false (eqb 48 c)
+
+starts-more : (c d n : ℕ) (s : List ℕ) → starts05 (take (suc (suc n)) (c ∷ d ∷ s)) ≡ (eqb c 48 && eqb d 53)
+starts-more c d n s = ap₂ ◌&&◌ (eqb-sym 48 c) (and-true (eqb 53 d) ∙ eqb-sym 53 d)
+
+-- it begins with 05 where the text does
+part-begins : (s : List ℕ) → starts05 (take (size_of (first_line s)) s) ≡ begins05 s
+part-begins [] = starts-none (size_of (first_line []))
+part-begins (c ∷ []) = starts-short c (size_of (first_line (c ∷ []))) ∙ sym (and-false (eqb c 48))
+part-begins (c ∷ d ∷ s) = go (eqb c 10) refl
+  where
+    go : (b : Bool) → eqb c 10 ≡ b → starts05 (take (size_of (first_line (c ∷ d ∷ s))) (c ∷ d ∷ s)) ≡ begins05 (c ∷ d ∷ s)
+    go true e =
+        ap (λ (n : ℕ). starts05 (take n (c ∷ d ∷ s))) (size-feed c (d ∷ s) e) ∙ starts-short c 1
+        ∙ ap (λ (n : ℕ). eqb n 48 && eqb d 53) (sym (eqb-true c 10 e))
+    go false e =
+        let p = first_some (d ∷ s) (omega arith) in
+        let n : ℕ = size_of (first_line (d ∷ s)) - 1 in
+        let long : size_of (first_line (c ∷ d ∷ s)) ≡ suc (suc n) = omega (arith, size_char c (d ∷ s) e) in
+        ap (λ (m : ℕ). starts05 (take m (c ∷ d ∷ s))) long ∙ starts-more c d n s
+
 -- The loops: what is left of the text at a place.
 
 module _ (text : List ℕ) where
@@ -82,35 +131,17 @@ module _ (text : List ℕ) where
   abbrev pub end_at : ℕ → ℕ
   end_at at = at + size_of (first_line (drop at text))
 
-  pub end-fed : (at : ℕ) → at < length text → get_or text at 0 ≡ 10 → end_at at ≡ at + 1
-  end-fed at h e = ap (λ (n : ℕ). at + n) (ap (λ (s : List ℕ). size_of (first_line s)) (here at h) ∙ size-feed (get_or text at 0) (drop (at + 1) text) (ap (λ (n : ℕ). eqb n 10) e))
+  -- what is left after it
+  pub part-rest : (at : ℕ) (rest part next : List ℕ) → rest ≡ drop at text → rest ≡ part ++ next → next ≡ drop (at + length part) text
+  part-rest at rest part next e cut = sym (drop_at part next (length part) refl) ∙ ap (drop (length part)) (sym cut ∙ e) ∙ drop-drop (length part) at text
 
-  pub end_char : (at : ℕ) → at < length text → (get_or text at 0 ≡ 10 → ⊥) → end_at (at + 1) ≡ end_at at
-  end_char at h n =
-      let e : size_of (first_line (drop at text)) ≡ suc (size_of (first_line (drop (at + 1) text))) = ap (λ (s : List ℕ). size_of (first_line s)) (here at h) ∙ size_char (get_or text at 0) (drop (at + 1) text) (ne_eqb (get_or text at 0) 10 n) in
-      omega arith
-
-  pub end_none : (at : ℕ) → length text ≤ at → end_at at ≡ at
-  end_none at h = ap (λ (s : List ℕ). at + size_of (first_line s)) (drop_of_length-le text h) ∙ ap (λ (l : Line). at + size_of l) first-none ∙ omega arith
-
-  -- the characters at a place
-  begins-at : (at : ℕ) → begins05 (drop at text) ≡ (eqb (get_or text at 0) 48 && eqb (get_or text (at + 1) 0) 53)
-  begins-at at =
-      let e : get_or (drop at text) 0 0 ≡ get_or text at 0 = get_or-drop at text 0 0 ∙ ap (λ (n : ℕ). get_or text n 0) (omega arith) in
-      ap₂ (λ (m n : ℕ). eqb m 48 && eqb n 53) e (get_or-drop at text 1 0)
-
-  pub begins-short : (at : ℕ) → length text < at + 2 → false ≡ begins05 (drop at text)
-  begins-short at h = sym (begins-at at ∙ ap (λ (n : ℕ). eqb (get_or text at 0) 48 && eqb n 53) (get_or-eq_default text 0 (omega arith)) ∙ go (eqb (get_or text at 0) 48))
-    where
-      go : (b : Bool) → (b && false) ≡ false
-      go true = refl
-      go false = refl
-
-  pub begins-other : (at : ℕ) → (get_or text at 0 ≡ 48 → ⊥) → false ≡ begins05 (drop at text)
-  begins-other at n = sym (begins-at at ∙ ap (λ (b : Bool). b && eqb (get_or text (at + 1) 0) 53) (ne_eqb (get_or text at 0) 48 n))
-
-  pub begins-by : (at : ℕ) → get_or text at 0 ≡ 48 → eqb (get_or text (at + 1) 0) 53 ≡ begins05 (drop at text)
-  begins-by at e = sym (begins-at at ∙ ap (λ (n : ℕ). eqb n 48 && eqb (get_or text (at + 1) 0) 53) e)
+  -- the part that is split off what is left: it ends where the line does, and begins as that does
+  pub part-is : (at i : ℕ) (rest part next : List ℕ) → rest ≡ drop at text → rest ≡ part ++ next → length part ≡ min (i + 1) (length rest) → IsFirstMatchOrLen (λ c. eqb c 10) rest i
+      → (at + length part ≡ end_at at) × (starts05 part ≡ begins05 (drop at text))
+  part-is at i rest part next e cut size first =
+      let n : length part ≡ size_of (first_line rest) = size ∙ part-size rest i first in
+      let front : part ≡ take (size_of (first_line rest)) rest = sym (take_at part next (length part) refl) ∙ (λ j. take (n j) (sym cut j)) in
+      (ap (λ (m : ℕ). at + m) n ∙ ap (λ (s : List ℕ). at + size_of (first_line s)) e, ap starts05 front ∙ part-begins rest ∙ ap begins05 e)
 
   -- what is counted at the head of the loop: the place, and what stands from there through the line that is looked for
   pub record Counted (at : ℕ) : Type 0 where

@@ -5,21 +5,11 @@ pub mod asker;
 pub mod splitter;
 pub mod words;
 
-use refusal::InputCause;
-
 // The most bytes of a query: 3 + 255 + 1 + 255.
 pub const QUERY_BYTES: usize = 514;
 
-// What a text asks: nothing, for a cause, or a query.
+// A query's bytes, from the front of an array that holds every query; the others are 0.
 #[derive(Clone, Copy)]
-pub enum Asking {
-    Fault(InputCause),
-    Query,
-}
-
-// What a text asks, with the query's bytes from the front of an array that holds every query; the others are 0.
-#[derive(Clone, Copy)]
-pub struct Question {
-    pub asking: Asking,
+pub struct Query {
     pub bytes: [u8; QUERY_BYTES],
 }

@@ -1,7 +1,7 @@
 -- A line of some bytes and others, stored at the front of a buffer.
 use Prim.Native.Nat.{ℕ, ◌+◌, ◌*◌, ◌≤◌}
 use native.Mathlib.Omega.{arith}
-use mathlib.Core.Path.{◌≡◌, sym, ap, subst, ◌∙◌}
+use mathlib.Core.Path.{◌≡◌, sym, ap, ◌∙◌}
 use mathlib.Core.List.{List, [], ◌∷◌, ◌++◌, append_assoc}
 use lib.ListN.{length, drop, length-append}
 use lib.Seq.{sets, sets-eq}
@@ -25,7 +25,3 @@ line-stored text m n head tail r room p e q =
       then text m n 0 (2 * length head) (chars_of head) (line_text tail) p (omega (arith, length-chars head)) q
           ∙ ap (sets text 0) (sym (line-append head tail)) ∙ sets-eq line text 0 (omega arith) ∙ ap (λ (k : ℕ). line ++ drop k text) zero-first,
     )
-
--- the same line by equal bytes
-pub line_as : (r : ℕ) (after text b d : List ℕ) → b ≡ d → LineStored b r text after → LineStored d r text after
-line_as r after text b d e = subst (λ (x : List ℕ). LineStored x r text after) e

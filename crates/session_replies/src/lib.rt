@@ -4,21 +4,18 @@
 ghost use Rattle.std.specs.Prelude.{◌∷◌, ◌++◌, ◌+◌, ◌≤◌, length};
 ghost use Rattle.table_format.specs.Line.{characters_of};
 ghost use Rattle.table_format.specs.Text.{number};
-ghost use Rattle.session_replies.specs.Lines.{reading_line, refusal_line, output_letters, LineStored};
+ghost use Rattle.session_replies.specs.Lines.{reading_line, end_line, limit_line, refusal_line, output_letters, LineStored};
 
 use refusal::Refusal;
 
-// The kind of a reading's line: 20 in base sixteen.
-pub const READING_KIND: u8 = 32;
-
-// Of the line at the limit of readings or calls: 2D.
-pub const LIMIT_KIND: u8 = 45;
-
-// Of a refusal's line: 2E.
-pub const REFUSAL_KIND: u8 = 46;
-
-// Of the line at the end: 2F.
-pub const END_KIND: u8 = 47;
+// The kinds of the lines, each by the byte that its lines begin with.
+#[derive(Clone, Copy, Debug, PartialEq, Eq)]
+pub enum LineKind {
+    Reading = 0x20,
+    Limit = 0x2D,
+    Refusal = 0x2E,
+    End = 0x2F,
+}
 
 // The letters of output, at most so many to a reading.
 pub const OUTPUT_LETTERS: usize = 4096;
@@ -40,11 +37,24 @@ pub fn count_line(text: &mut [u8], kind: u8, count: u16) -> usize
     requires { characters_of 3 ≤ length text.old }
     ensures { LineStored (kind ∷ number count) result text.old text.new }
 {
-    put_line(
-        text,
-        &[kind, table_printer::high(count), table_printer::low(count)],
-        &[],
-    )
+    let [high, low] = count.to_be_bytes();
+    put_line(text, &[kind, high, low], &[])
+}
+
+// The line at the end, with the count of the readings.
+pub fn end_line(text: &mut [u8], count: u16) -> usize
+    requires { characters_of 3 ≤ length text.old }
+    ensures { LineStored (end_line count) result text.old text.new }
+{
+    count_line(text, LineKind::End as u8, count)
+}
+
+// The line at the limit of readings or calls, with the count of the readings.
+pub fn limit_line(text: &mut [u8], count: u16) -> usize
+    requires { characters_of 3 ≤ length text.old }
+    ensures { LineStored (limit_line count) result text.old text.new }
+{
+    count_line(text, LineKind::Limit as u8, count)
 }
 
 // The line of a refusal.
@@ -52,7 +62,7 @@ pub fn refusal_line(text: &mut [u8], refusal: Refusal) -> usize
     requires { characters_of 2 ≤ length text.old }
     ensures { LineStored (refusal_line refusal) result text.old text.new }
 {
-    put_line(text, &[REFUSAL_KIND, refusal::number(refusal)], &[])
+    put_line(text, &[LineKind::Refusal as u8, refusal.number()], &[])
 }
 
 // The line of a reading.
@@ -60,16 +70,12 @@ pub fn reading_line(text: &mut [u8], ordinal: u16, letters: &[u8]) -> usize
     requires { (characters_of (5 + length letters.now) ≤ length text.old) × (length letters.now ≤ output_letters) }
     ensures { LineStored (reading_line ordinal letters.now) result text.old text.new }
 {
-    let size = letters.len() as u16;
+    let [ordinal_high, ordinal_low] = ordinal.to_be_bytes();
+    let [size_high, size_low] = (letters.len() as u16).to_be_bytes();
+    let kind = LineKind::Reading as u8;
     put_line(
         text,
-        &[
-            READING_KIND,
-            table_printer::high(ordinal),
-            table_printer::low(ordinal),
-            table_printer::high(size),
-            table_printer::low(size),
-        ],
+        &[kind, ordinal_high, ordinal_low, size_high, size_low],
         letters,
     )
 }

@@ -10,10 +10,10 @@ use Rattle.table_format.specs.Index.{tabulate}
 use Rattle.refusal.specs.declared.InputCause.TheVariants.{SheetFault}
 use Rattle.refusal.specs.declared.StateCause.TheVariants.{DestinationShort}
 use Rattle.refusal.specs.declared.Refusal.TheVariants.{Input, State}
-use Rattle.destination.specs.declared.Answer.TheVariants.{Done, Refused}
+use Rattle.std.specs.Prelude.{Some, None, Ok, Err}
 use Rattle.faces.specs.Faces.{faces_hold, face_of}
 use Rattle.faces.specs.Lent.{lent_bytes, lent_from, lent_in, readings_hold, list_holds, list_of}
-use Rattle.sheet.specs.declared.LastWord.TheVariants.{End, More, Neither}
+use Rattle.sheet.specs.declared.LastWord.TheVariants.{End, More}
 use Rattle.sheet_lines.specs.Lines.{filled, ordinal_columns, rows_of, first_line, next_line, reading_lines, lines_for}
 use Rattle.sheet.specs.Sheet.{sheet_of}
 use Rattle.sheet.specs.Read.{opens_with, last_word_in}
@@ -112,28 +112,28 @@ opens_two : opens_with (sheet_of faces ((5 ∷ 6 ∷ []) ∷ [] ∷ []) false) �
 unfolding opens_with sheet_of reading_lines first_line rows_of filled
 opens_two = refl
 
-last-two : last_word_in (sheet_of faces ((5 ∷ 6 ∷ []) ∷ [] ∷ []) false) ≡ More
+last-two : last_word_in (sheet_of faces ((5 ∷ 6 ∷ []) ∷ [] ∷ []) false) ≡ Some More
 unfolding last_word_in sheet_of reading_lines first_line rows_of filled
 last-two = refl
 
-last_end : last_word_in (sheet_of faces [] true) ≡ End
+last_end : last_word_in (sheet_of faces [] true) ≡ Some End
 unfolding last_word_in sheet_of filled
 last_end = refl
 
-last-neither : last_word_in (filled (82 ∷ 69 ∷ 65 ∷ 68 ∷ 73 ∷ 78 ∷ 71 ∷ 83 ∷ [])) ≡ Neither
+last-neither : last_word_in (filled (82 ∷ 69 ∷ 65 ∷ 68 ∷ 73 ∷ 78 ∷ 71 ∷ 83 ∷ [])) ≡ None
 unfolding last_word_in filled
 last-neither = refl
 
 -- an empty list takes two lines; 24 with one character less, and 33 before 24
-answer_146 : write_answer [] faces true (replicate 146 0) ≡ Done 146
+answer_146 : write_answer [] faces true (replicate 146 0) ≡ Ok 146
 unfolding write_answer lent_in list_holds list_of faces_hold each readings_hold sheet_of filled
 answer_146 = refl
 
-answer_24 : write_answer [] faces true (replicate 145 0) ≡ Refused (State DestinationShort)
+answer_24 : write_answer [] faces true (replicate 145 0) ≡ Err (State DestinationShort)
 unfolding write_answer lent_in list_holds list_of faces_hold each readings_hold sheet_of filled
 answer_24 = refl
 
-answer_33 : write_answer (0 ∷ 1 ∷ 64 ∷ []) faces true [] ≡ Refused (Input SheetFault)
+answer_33 : write_answer (0 ∷ 1 ∷ 64 ∷ []) faces true [] ≡ Err (Input SheetFault)
 unfolding write_answer lent_in lent_from list_holds list_of faces_hold each readings_hold sheet_of filled
 answer_33 = refl
 

@@ -11,7 +11,7 @@ use Rattle.refusal.specs.declared.InputCause.TheVariants.{SheetFault}
 use Rattle.refusal.specs.declared.StateCause.TheVariants.{DestinationShort}
 use Rattle.refusal.specs.declared.Refusal.{Refusal}
 use Rattle.refusal.specs.declared.Refusal.TheVariants.{Input, State}
-use Rattle.destination.specs.declared.Answer.TheVariants.{Done, Refused}
+use Rattle.std.specs.Prelude.{Some, Ok, Err}
 use Rattle.table_format.specs.Ruled.{Differ}
 use Rattle.table_format.proofs.All.{All}
 use Rattle.table_format.proofs.Line.{IsByte}
@@ -104,7 +104,7 @@ holds-is = calls.holds-is
 -- THE CALL, on any bytes, faces and destination.
 module _ (bytes faces : List ℕ) (ended : Bool) (d : List ℕ) where
   -- done, exactly where these hold and there is room for the sheet, whose size is told
-  pub write_is : (n : ℕ) → (write_answer bytes faces ended d ≡ Done n) ↔ ((sheet_holds bytes faces ≡ true) × (n ≡ sheet_size (list_of bytes)) × (n ≤ length d))
+  pub write_is : (n : ℕ) → (write_answer bytes faces ended d ≡ Ok n) ↔ ((sheet_holds bytes faces ≡ true) × (n ≡ sheet_size (list_of bytes)) × (n ≤ length d))
   write_is = calls.write_is bytes faces ended d
 
   -- "A longer one is untouched beyond that."
@@ -113,23 +113,23 @@ module _ (bytes faces : List ℕ) (ended : Bool) (d : List ℕ) where
   write_leaves = calls.write_leaves bytes faces ended d
 
   -- "Faces that repeat or leave that range, over 1,000 readings, one cut short or a letter outside 1 to 63 give 33, looked for first."
-  pub write_fault : (write_answer bytes faces ended d ≡ Refused (Input SheetFault)) ↔ (sheet_holds bytes faces ≡ false)
+  pub write_fault : (write_answer bytes faces ended d ≡ Err (Input SheetFault)) ↔ (sheet_holds bytes faces ≡ false)
   write_fault = calls.write_fault bytes faces ended d
 
   -- "A short destination gives 24."
-  pub write_short : (write_answer bytes faces ended d ≡ Refused (State DestinationShort)) ↔ ((sheet_holds bytes faces ≡ true) × (length d < sheet_size (list_of bytes)))
+  pub write_short : (write_answer bytes faces ended d ≡ Err (State DestinationShort)) ↔ ((sheet_holds bytes faces ≡ true) × (length d < sheet_size (list_of bytes)))
   write_short = calls.write_short bytes faces ended d
 
   -- "every lent buffer holds what it held before"
-  pub write_refused : (r : Refusal) → write_answer bytes faces ended d ≡ Refused r → write_sheet bytes faces ended d ≡ d
+  pub write_refused : (r : Refusal) → write_answer bytes faces ended d ≡ Err r → write_sheet bytes faces ended d ≡ d
   write_refused = calls.write_refused bytes faces ended d
 
   -- no call writes more
-  pub written-most : (n : ℕ) → All IsByte bytes → write_answer bytes faces ended d ≡ Done n → n ≤ 72489146
+  pub written-most : (n : ℕ) → All IsByte bytes → write_answer bytes faces ended d ≡ Ok n → n ≤ 72489146
   written-most = calls.written-most bytes faces ended d
 
 -- Two calls over the same faces that left equal sheets were lent equal lists, and so the same bytes, and equal last words.
-module _ (faces x y : List ℕ) (e g : Bool) (d c : List ℕ) (n m : ℕ) (p : write_answer x faces e d ≡ Done n) (q : write_answer y faces g c ≡ Done m)
+module _ (faces x y : List ℕ) (e g : Bool) (d c : List ℕ) (n m : ℕ) (p : write_answer x faces e d ≡ Ok n) (q : write_answer y faces g c ≡ Ok m)
     (same : take n (write_sheet x faces e d) ≡ take m (write_sheet y faces g c)) where
   pub written_one : (lent_in x ≡ lent_in y) × (e ≡ g)
   written_one = calls.written_one faces x y e g d c n m p q same
@@ -142,12 +142,12 @@ module _ (faces x y : List ℕ) (e g : Bool) (d c : List ℕ) (n m : ℕ) (p : w
 pub opens_told : (faces : List ℕ) (ws : List (List ℕ)) (ended : Bool) → opens_with (sheet_of faces ws ended) ≡ true
 opens_told = ends.opens_told
 
-pub last-told : (faces : List ℕ) (ws : List (List ℕ)) (ended : Bool) → last_word_in (sheet_of faces ws ended) ≡ cond ended End More
+pub last-told : (faces : List ℕ) (ws : List (List ℕ)) (ended : Bool) → last_word_in (sheet_of faces ws ended) ≡ Some (cond ended End More)
 last-told = ends.last-told
 
 -- "written and compared exactly": of any text
 pub opens_is : (text : List ℕ) → (opens_with text ≡ true) ↔ (take line_size text ≡ filled opening_word)
 opens_is = ends.opens_is
 
-pub last_is_lem : (text : List ℕ) (ended : Bool) → (last_word_in text ≡ cond ended End More) ↔ (last_line text ≡ filled (last_word ended))
+pub last_is_lem : (text : List ℕ) (ended : Bool) → (last_word_in text ≡ Some (cond ended End More)) ↔ (last_line text ≡ filled (last_word ended))
 last_is_lem = ends.last_is_lem

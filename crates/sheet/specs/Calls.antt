@@ -1,9 +1,8 @@
 -- What the call answers, and what it leaves in the destination that it is lent.
-use Rattle.std.specs.Prelude.{ℕ, Bool, cond, ◌&&◌, List}
+use Rattle.std.specs.Prelude.{ℕ, Bool, cond, ◌&&◌, List, Result, Err}
 use Rattle.refusal.specs.declared.InputCause.TheVariants.{SheetFault}
+use Rattle.refusal.specs.declared.Refusal.{Refusal}
 use Rattle.refusal.specs.declared.Refusal.TheVariants.{Input}
-use Rattle.destination.specs.declared.Answer.{Answer}
-use Rattle.destination.specs.declared.Answer.TheVariants.{Refused}
 use Rattle.destination.specs.Stored.{stored_answer, stored_cells}
 use Rattle.faces.specs.Faces.{faces_hold}
 use Rattle.faces.specs.Lent.{list_holds, list_of}
@@ -14,9 +13,9 @@ abbrev pub sheet_holds : List ℕ → List ℕ → Bool
 sheet_holds bytes faces = faces_hold faces && list_holds bytes
 
 -- "A short destination gives 24."
-unfoldable pub write_answer : List ℕ → List ℕ → Bool → List ℕ → Answer
+unfoldable pub write_answer : List ℕ → List ℕ → Bool → List ℕ → Result ℕ Refusal
 write_answer bytes faces ended destination =
-    cond (sheet_holds bytes faces) (stored_answer (sheet_of faces (list_of bytes) ended) destination) (Refused (Input SheetFault))
+    cond (sheet_holds bytes faces) (stored_answer (sheet_of faces (list_of bytes) ended) destination) (Err (Input SheetFault))
 
 unfoldable pub write_sheet : List ℕ → List ℕ → Bool → List ℕ → List ℕ
 write_sheet bytes faces ended destination =

@@ -1,7 +1,7 @@
 -- A sheet's opening and last line read back: document 01's "fixed byte strings for opening and closing lines, written and compared exactly".
-use Rattle.std.specs.Prelude.{ℕ, ◌-◌, Bool, true, false, cond, ◌&&◌, List, [], ◌∷◌, eqb, length, take, drop}
+use Rattle.std.specs.Prelude.{ℕ, ◌-◌, Bool, true, false, cond, ◌&&◌, List, [], ◌∷◌, eqb, length, take, drop, Option, Some, None}
 use Rattle.sheet.specs.declared.LastWord.{LastWord}
-use Rattle.sheet.specs.declared.LastWord.TheVariants.{End, More, Neither}
+use Rattle.sheet.specs.declared.LastWord.TheVariants.{End, More}
 use Rattle.sheet_lines.specs.Lines.{line_size, filled}
 use Rattle.sheet.specs.Sheet.{opening_word, last_word}
 
@@ -23,5 +23,5 @@ last_line text = drop (length text - line_size) text
 abbrev pub closes_with : List ℕ → Bool → Bool
 closes_with text ended = same (last_line text) (filled (last_word ended))
 
-unfoldable pub last_word_in : List ℕ → LastWord
-last_word_in text = cond (closes_with text true) End (cond (closes_with text false) More Neither)
+unfoldable pub last_word_in : List ℕ → Option LastWord
+last_word_in text = cond (closes_with text true) (Some End) (cond (closes_with text false) (Some More) None)

@@ -5,10 +5,9 @@ pub mod ends;
 pub mod reader;
 pub mod writer;
 
-// What the last line of a sheet says.
-#[derive(Clone, Copy)]
+// What the last line of a sheet says: whether the run ended.
+#[derive(Clone, Copy, Debug, PartialEq, Eq)]
 pub enum LastWord {
     End,
     More,
-    Neither,
 }

@@ -8,8 +8,8 @@ ghost use Rattle.sheet.specs.Sheet.{list_lines, sheet_of, lines_taken, sheet_siz
 ghost use Rattle.sheet.specs.Calls.{sheet_holds, write_answer, write_sheet};
 
 use crate::ends::{last_line, opening_line};
-use destination::{Answer, put};
-use faces::list::{letters_at, list_holds};
+use destination::put;
+use faces::list::{Readings, list_holds};
 use faces::{FACES, faces_hold};
 use refusal::{InputCause, Refusal, StateCause};
 use sheet_lines::LINE;
@@ -28,11 +28,8 @@ fn size_of(readings: &[u8]) -> usize
     ensures { result ≡ sheet_size (list_of readings.now) }
 {
     let mut lines = 2;
-    let mut at = 0;
-    while at < readings.len() {
-        let letters = letters_at(readings, at);
-        lines += lines_for(letters);
-        at += 2 + letters;
+    for reading in Readings(readings) {
+        lines += lines_for(reading.len());
     }
     LINE * lines
 }
@@ -45,14 +42,8 @@ fn put_readings(sheet: &mut [u8], at: usize, readings: &[u8], faces: &[u8; FACES
         × (sheet.new ≡ sets sheet.old at (joined (list_lines faces.now 1 (list_of readings.now)))) }
 {
     let mut to = at;
-    let mut n = 1;
-    let mut place = 0;
-    while place < readings.len() {
-        let from = place + 2;
-        let end = from + letters_at(readings, place);
-        to = put_reading(sheet, to, n, &readings[from..end], faces);
-        n += 1;
-        place = end;
+    for (before, reading) in Readings(readings).enumerate() {
+        to = put_reading(sheet, to, before + 1, reading, faces);
     }
     to
 }
@@ -64,25 +55,28 @@ fn write_lines(readings: &[u8], faces: &[u8; FACES], ended: bool, sheet: &mut [u
     ensures { sheet.new ≡ sheet_of faces.now (list_of readings.now) ended
         ++ drop (sheet_size (list_of readings.now)) sheet.old }
 {
-    let opening = opening_line();
-    put(sheet, 0, &opening);
+    put(sheet, 0, &opening_line());
     let end = put_readings(sheet, LINE, readings, faces);
-    let last = last_line(ended);
-    put(sheet, end, &last);
+    put(sheet, end, &last_line(ended));
 }
 
 // Lays the readings out, each lent as its length (two bytes, high first) and its letters, in the faces of letters 1 to 63.
-pub fn write(readings: &[u8], faces: &[u8; FACES], ended: bool, sheet: &mut [u8]) -> Answer
+pub fn write(
+    readings: &[u8],
+    faces: &[u8; FACES],
+    ended: bool,
+    sheet: &mut [u8],
+) -> Result<usize, Refusal>
     ensures { (stored_told result ≡ stored_told (write_answer readings.now faces.now ended sheet.old))
         × (sheet.new ≡ write_sheet readings.now faces.now ended sheet.old) }
 {
     if !holds(readings, faces) {
-        return Answer::Refused(Refusal::Input(InputCause::SheetFault));
+        return Err(Refusal::Input(InputCause::SheetFault));
     }
     let size = size_of(readings);
     if sheet.len() < size {
-        return Answer::Refused(Refusal::State(StateCause::DestinationShort));
+        return Err(Refusal::State(StateCause::DestinationShort));
     }
     write_lines(readings, faces, ended, sheet);
-    Answer::Done(size)
+    Ok(size)
 }

@@ -7,16 +7,43 @@ use sheet::LastWord;
 use sheet::reader::{last_word, opens};
 use sheet::writer::write;
 use sheet_lines::LINE;
+use std::fmt;
+use std::ops::Range;
 
 // Characters of a sheet: the readings take three of its five lines.
 const SHEET: usize = 5 * LINE;
 
 // How many texts are taken for each.
-#[derive(Clone, Copy)]
+#[derive(Clone, Copy, Default)]
 struct Tally {
     readings: u32,
     end: u32,
     more: u32,
+}
+
+impl Tally {
+    // One text more. No count comes near the largest number, so none wraps.
+    fn count(&mut self, text: &[u8]) {
+        if opens(text) {
+            self.readings = self.readings.wrapping_add(1);
+        }
+        match last_word(text) {
+            Some(LastWord::End) => self.end = self.end.wrapping_add(1),
+            Some(LastWord::More) => self.more = self.more.wrapping_add(1),
+            None => {}
+        }
+    }
+}
+
+impl fmt::Display for Tally {
+    fn fmt<W: fmt::Write>(&self, f: &mut fmt::Formatter<W>) -> fmt::Result {
+        let Tally {
+            readings,
+            end,
+            more,
+        } = self;
+        write!(f, "READINGS {readings}, END {end}, MORE {more}")
+    }
 }
 
 // The sheet of two readings, one of 67 letters, which goes on in a second line, and an empty one.
@@ -25,112 +52,70 @@ fn sheet_of(ended: bool) -> [u8; SHEET] {
         b"\x00\x43123456789012345678901234567890123456789012345678901234567890123456!\x00\x00";
     let faces: [u8; FACES] = *b"abcdefghijklmnopqrstuvwxyz0123456789ABCDEFGHIJKLMNOPQRSTUVWXYZ|";
     let mut sheet = [0; SHEET];
-    write(readings, &faces, ended, &mut sheet);
+    let _ = write(readings, &faces, ended, &mut sheet);
     sheet
 }
 
-fn say(rt: &impl Print, text: &[u8]) {
-    let _ = rt.write_all(text);
+fn tell(rt: &impl Print, texts: &str, tally: Tally) {
+    let _ = println!(rt; "{texts}: {tally}");
 }
 
-fn number(rt: &impl Print, before: &[u8], n: u64) {
-    say(rt, before);
-    let _ = rt.print(n);
+// The sheet as it is.
+fn whole(sheet: &[u8; SHEET]) -> Tally {
+    let mut tally = Tally::default();
+    tally.count(sheet);
+    tally
 }
 
-fn tell(rt: &impl Print, texts: &[u8], t: Tally) {
-    say(rt, texts);
-    number(rt, b": READINGS ", t.readings as u64);
-    number(rt, b", END ", t.end as u64);
-    number(rt, b", MORE ", t.more as u64);
-    say(rt, b"\n");
-}
-
-fn none() -> Tally {
-    Tally {
-        readings: 0,
-        end: 0,
-        more: 0,
-    }
-}
-
-// No count comes near the largest number, so none wraps.
-fn one_more(count: u32) -> u32 {
-    count.wrapping_add(1)
-}
-
-// A tally with one text more.
-fn counted(t: Tally, text: &[u8]) -> Tally {
-    let mut with = t;
-    if opens(text) {
-        with.readings = one_more(t.readings);
-    }
-    match last_word(text) {
-        LastWord::End => with.end = one_more(t.end),
-        LastWord::More => with.more = one_more(t.more),
-        LastWord::Neither => (),
-    }
-    with
-}
-
-// A sheet with the character at a place set, where it has that place.
-fn set(sheet: [u8; SHEET], at: usize, c: u8) -> [u8; SHEET] {
-    let mut text = sheet;
-    if at < SHEET {
-        text[at] = c;
-    }
-    text
-}
-
-// Each byte in each place from one up to another.
-fn any_set(sheet: [u8; SHEET], from: usize, to: usize) -> Tally {
-    let mut t = none();
-    for at in from..to {
-        for c in 0..256u16 {
-            let text = set(sheet, at, c as u8);
-            t = counted(t, &text);
+// Each byte in each of some places, where the sheet has them.
+fn any_set(sheet: &[u8; SHEET], places: Range<usize>) -> Tally {
+    let mut tally = Tally::default();
+    for at in places {
+        for c in 0..=u8::MAX {
+            let mut text = *sheet;
+            if let Some(character) = text.get_mut(at) {
+                *character = c;
+            }
+            tally.count(&text);
         }
     }
-    t
+    tally
 }
 
 // Says of a text that closes with a word how many characters it has.
 fn tell_word(rt: &impl Print, text: &[u8]) {
-    match last_word(text) {
-        LastWord::End => number(rt, b"END after ", text.len() as u64),
-        LastWord::More => number(rt, b"MORE after ", text.len() as u64),
-        LastWord::Neither => return,
-    }
-    say(rt, b" characters\n");
-}
-
-fn told(rt: &impl Print, t: Tally, text: &[u8]) -> Tally {
-    tell_word(rt, text);
-    counted(t, text)
+    let word = match last_word(text) {
+        Some(LastWord::End) => "END",
+        Some(LastWord::More) => "MORE",
+        None => return,
+    };
+    let _ = println!(rt; "{word} after {} characters", text.len());
 }
 
 // Each beginning, from no characters to all.
-fn beginnings(rt: &impl Print, sheet: &[u8]) -> Tally {
-    let mut t = none();
-    for end in 0..=sheet.len() {
-        t = told(rt, t, &sheet[..end]);
+fn beginnings(rt: &impl Print, sheet: &[u8; SHEET]) -> Tally {
+    let mut tally = Tally::default();
+    for end in 0..=SHEET {
+        let text = &sheet[..end];
+        tell_word(rt, text);
+        tally.count(text);
     }
-    t
+    tally
 }
 
-fn examine(rt: &impl Print, sheet: [u8; SHEET]) {
-    say(rt, &sheet);
-    tell(rt, b"as it is", counted(none(), &sheet));
-    tell(rt, b"opening line, a byte set", any_set(sheet, 0, LINE));
+fn examine(rt: &impl Print, sheet: &[u8; SHEET]) {
+    let _ = rt.write_all(sheet);
+    tell(rt, "as it is", whole(sheet));
+    tell(rt, "opening line, a byte set", any_set(sheet, 0..LINE));
     tell(
         rt,
-        b"last line, a byte set",
-        any_set(sheet, SHEET - LINE, SHEET),
+        "last line, a byte set",
+        any_set(sheet, SHEET - LINE..SHEET),
     );
-    tell(rt, b"beginnings", beginnings(rt, &sheet));
+    tell(rt, "beginnings", beginnings(rt, sheet));
 }
 
 fn main(rt: HostRuntime) {
-    examine(&rt, sheet_of(true));
-    examine(&rt, sheet_of(false));
+    examine(&rt, &sheet_of(true));
+    examine(&rt, &sheet_of(false));
 }

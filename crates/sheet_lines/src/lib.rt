@@ -14,10 +14,6 @@ pub fn put_end(sheet: &mut [u8], at: usize, end: usize)
     requires { (at ≤ end) × (end < length sheet.old) }
     ensures { sheet.new ≡ sets sheet.old at (replicate (end - at) 32 ++ (10 ∷ [])) }
 {
-    let mut k = at;
-    while k < end {
-        sheet[k] = b' ';
-        k += 1;
-    }
+    sheet[at..end].fill(b' ');
     sheet[end] = b'\n';
 }

@@ -6,12 +6,11 @@ use mathlib.Core.List.{List}
 use lib.ListN.{length, take}
 use Rattle.refusal.specs.declared.InputCause.{InputCause}
 use Rattle.refusal.specs.declared.Refusal.TheVariants.{Input}
-use Rattle.destination.specs.declared.Answer.{Answer}
-use Rattle.destination.specs.declared.Answer.TheVariants.{Refused}
+use Rattle.refusal.specs.declared.Refusal.{Refusal}
+use Rattle.std.specs.Prelude.{Result, Ok, Err}
 use Rattle.destination.specs.Told.{stored_told}
 use Rattle.destination.specs.Stored.{stored_answer, stored_cells}
 use Rattle.table_parser.specs.declared.Gathered.{Gathered}
-use Rattle.table_parser.specs.declared.Read.TheVariants.{Cells, Fault}
 use Rattle.table_format.specs.Table.{Table}
 use Rattle.table_format.specs.Loaded.{most_cells, cells_of}
 use Rattle.table_format.specs.Parse.{Parsed, accepted, turned_down, parsed}
@@ -25,52 +24,55 @@ use Rattle.table_items.proofs.Filled.{length-filled, take-filled}
 
 module _ (text destination : List ℕ) where
   -- the answer and the destination as the reader leaves them
-  abbrev pub Left : Answer → List ℕ → Type 0
+  abbrev pub Left : Result ℕ Refusal → List ℕ → Type 0
   Left r d = (stored_told r ≡ stored_told (read_answer text destination)) × (d ≡ read_cells text destination)
 
-  from-parsed : (p : Parsed) (r : Answer) (d : List ℕ) → parsed text ≡ p → r ≡ read_as p destination → d ≡ read_cells_as p destination → Left r d
+  from-parsed : (p : Parsed) (r : Result ℕ Refusal) (d : List ℕ) → parsed text ≡ p → r ≡ read_as p destination → d ≡ read_cells_as p destination → Left r d
   unfolding read_answer read_cells
   from-parsed p r d e f g = (ap stored_told (f ∙ ap (λ (q : Parsed). read_as q destination) (sym e)), g ∙ ap (λ (q : Parsed). read_cells_as q destination) (sym e))
 
-  module _ (g : Gathered) (made : g ≡ gathered (parsed text)) where
+  module _ {g : Result Gathered InputCause} (made : g ≡ gathered (parsed text)) where
     as_parsed : (p : Parsed) → parsed text ≡ p → g ≡ gathered p
     as_parsed p h = made ∙ ap gathered h
 
-    pub left-fault : (f : InputCause) → g.read ≡ Fault f → Left (Refused (Input f)) destination
+    pub left-fault : (f : InputCause) → g ≡ Err f → Left (Err (Input f)) destination
     left-fault f e = go (parsed text) refl
       where
-        go : (p : Parsed) → parsed text ≡ p → Left (Refused (Input f)) destination
-        go (accepted t) h = let z : ◌≡◌ {A = ℕ} 0 1 = cc (sym e ∙ ap (λ (x : Gathered). x.read) (as_parsed (accepted t) h)) in absurd (omega arith)
+        go : (p : Parsed) → parsed text ≡ p → Left (Err (Input f)) destination
+        go (accepted t) h = let z : ◌≡◌ {A = ℕ} 0 1 = cc (sym e ∙ as_parsed (accepted t) h) in absurd (omega arith)
         go (turned_down cause) h =
-            let q : f ≡ cause = cc (sym e ∙ ap (λ (x : Gathered). x.read) (as_parsed (turned_down cause) h)) in
-            from-parsed (turned_down cause) (Refused (Input f)) destination h (ap (λ (x : InputCause). Refused (Input x)) q) refl
+            let q : f ≡ cause = cc (sym e ∙ as_parsed (turned_down cause) h) in
+            from-parsed (turned_down cause) (Err (Input f)) destination h (ap (λ (x : InputCause). Err (Input x)) q) refl
 
-    module _ (n : ℕ) (e : g.read ≡ Cells n) where
+    module _ (held-in : Gathered) (e : g ≡ Ok held-in) where
       -- the text is a table's, and these are its cells
-      found : (t : Table) × (parsed text ≡ accepted t) × (n ≡ length (cells_of t))
+      found : (t : Table) × (parsed text ≡ accepted t) × (held-in ≡ record { cells = filled_up (cells_of t); count = length (cells_of t) })
       found = go (parsed text) refl
         where
-          go : (p : Parsed) → parsed text ≡ p → (t : Table) × (parsed text ≡ accepted t) × (n ≡ length (cells_of t))
-          go (accepted t) h = (t, h, cc (sym e ∙ ap (λ (x : Gathered). x.read) (as_parsed (accepted t) h)))
-          go (turned_down cause) h = let z : ◌≡◌ {A = ℕ} 0 1 = cc (sym e ∙ ap (λ (x : Gathered). x.read) (as_parsed (turned_down cause) h)) in absurd (omega arith)
+          go : (p : Parsed) → parsed text ≡ p → (t : Table) × (parsed text ≡ accepted t) × (held-in ≡ record { cells = filled_up (cells_of t); count = length (cells_of t) })
+          go (accepted t) h = (t, h, cc (sym e ∙ as_parsed (accepted t) h))
+          go (turned_down cause) h = let z : ◌≡◌ {A = ℕ} 0 1 = cc (sym e ∙ as_parsed (turned_down cause) h) in absurd (omega arith)
 
-      cells-found : g.cells ≡ filled_up (cells_of found.0)
-      cells-found = ap (λ (x : Gathered). x.cells) (as_parsed (accepted found.0) found.1)
+      cells-found : held-in.cells ≡ filled_up (cells_of found.0)
+      cells-found = ap (λ (x : Gathered). x.cells) found.2
 
-      few : n ≤ most_cells
+      count-found : held-in.count ≡ length (cells_of found.0)
+      count-found = ap (λ (x : Gathered). x.count) found.2
+
+      few : held-in.count ≤ most_cells
       few =
           let t = found.0 in
           let keeps = (read-text text t found.1).0 in
           let b = table-bounded t keeps in
-          omega (arith, found.2, length-cells t ((keeps-parts t).0 keeps).classes, b.states, b.initials, b.terminals, b.arcs)
+          omega (arith, count-found, length-cells t ((keeps-parts t).0 keeps).classes, b.states, b.initials, b.terminals, b.arcs)
 
-      pub read-room : n ≤ length g.cells
-      read-room = omega (arith, few, found.2, ap length cells-found, length-filled (cells_of found.0) (omega (arith, few, found.2)))
+      pub read-room : held-in.count ≤ length held-in.cells
+      read-room = omega (arith, few, count-found, ap length cells-found, length-filled (cells_of found.0) (omega (arith, few, count-found)))
 
-      held : take n g.cells ≡ cells_of found.0
-      held = ap (take n) cells-found ∙ take-filled (cells_of found.0) n found.2
+      held : take held-in.count held-in.cells ≡ cells_of found.0
+      held = ap (take held-in.count) cells-found ∙ take-filled (cells_of found.0) held-in.count count-found
 
       -- the cells are stored
-      pub left-stored : (r : Answer) (d : List ℕ) → r ≡ stored_answer (take n g.cells) destination → d ≡ stored_cells (take n g.cells) destination → Left r d
+      pub left-stored : (r : Result ℕ Refusal) (d : List ℕ) → r ≡ stored_answer (take held-in.count held-in.cells) destination → d ≡ stored_cells (take held-in.count held-in.cells) destination → Left r d
       left-stored r d a b =
           from-parsed (accepted found.0) r d found.1 (a ∙ ap (λ (l : List ℕ). stored_answer l destination) held) (b ∙ ap (λ (l : List ℕ). stored_cells l destination) held)

@@ -3,22 +3,15 @@ ghost use Rattle.std.specs.Prelude.{◌≡◌};
 ghost use Rattle.destination.specs.Told.{stored_told};
 ghost use Rattle.table.specs.Calls.{read_answer, read_cells};
 
-use destination::{Answer, store_cells};
+use destination::store;
 use refusal::Refusal;
-use table_parser::Read;
+use table_parser::Gathered;
 
 // A table's text to its cells, from the front of the destination: the text's refusals, then 24.
-pub fn read(text: &[u8], destination: &mut [u16]) -> Answer
+pub fn read(text: &[u8], destination: &mut [u16]) -> Result<usize, Refusal>
     ensures { (stored_told result ≡ stored_told (read_answer text.now destination.old))
         × (destination.new ≡ read_cells text.now destination.old) }
 {
-    let found = table_parser::read_table(text);
-    let read = found.read;
-    match read {
-        Read::Fault(cause) => Answer::Refused(Refusal::Input(cause)),
-        Read::Cells(count) => {
-            let cells = found.cells;
-            store_cells(&cells[..count], destination)
-        }
-    }
+    let Gathered { cells, count } = table_parser::read_table(text)?;
+    store(&cells[..count], destination)
 }

@@ -6,7 +6,6 @@ ghost use Rattle.table_format.specs.Text.{text_of};
 ghost use Rattle.destination.specs.Told.{stored_told};
 ghost use Rattle.table.specs.Calls.{write_answer, write_text};
 
-use destination::Answer;
 use refusal::{Refusal, StateCause};
 use table_format::{
     CLASSES_AT, END_KIND, HEADER_LINE, INITIAL_KIND, INITIALS_AT, STATE_LINE, TERMINAL_KIND,
@@ -18,11 +17,9 @@ fn text_size(cells: &[u16]) -> usize
     ensures { result ≡ length (text_of (table_in cells.now)) }
 {
     let at = table_check::layout_of(cells);
-    let from = at.arcs;
-    let end = at.end;
     let classes = table_printer::class_size(&cells[CLASSES_AT..INITIALS_AT]);
-    let states = cells[1] as usize + cells[2] as usize;
-    let arcs = table_printer::arc_size(&cells[from..end]);
+    let states = at.initials(cells).len() + at.terminals(cells).len();
+    let arcs = table_printer::arc_size(at.arcs(cells));
     HEADER_LINE + classes + STATE_LINE * states + arcs + STATE_LINE
 }
 
@@ -35,9 +32,6 @@ fn write_table(cells: &[u16], text: &mut [u8])
     let classes = table_classes::defined_count(&cells[CLASSES_AT..INITIALS_AT]);
     let lines = 1 + classes + cells[1] + cells[2] + cells[3];
     let at = table_check::layout_of(cells);
-    let terminals = at.terminals;
-    let arcs = at.arcs;
-    let end = at.end;
     table_printer::header_line(text, cells);
     let classes_end = table_printer::class_lines(
         text,
@@ -48,31 +42,30 @@ fn write_table(cells: &[u16], text: &mut [u8])
         text,
         classes_end,
         INITIAL_KIND,
-        &cells[INITIALS_AT..terminals],
+        at.initials(cells),
     );
     let terminals_end = table_printer::state_lines(
         text,
         initials_end,
         TERMINAL_KIND,
-        &cells[terminals..arcs],
+        at.terminals(cells),
     );
-    let arcs_end = table_printer::arc_lines(text, terminals_end, &cells[arcs..end]);
+    let arcs_end = table_printer::arc_lines(text, terminals_end, at.arcs(cells));
     table_printer::number_line(text, arcs_end, END_KIND, lines);
 }
 
 // A loaded table's text, from the front of the destination: 20, then 24.
-pub fn write(cells: &[u16], text: &mut [u8]) -> Answer
+pub fn write(cells: &[u16], text: &mut [u8]) -> Result<usize, Refusal>
     ensures { (stored_told result ≡ stored_told (write_answer cells.now text.old))
         × (text.new ≡ write_text cells.now text.old) }
 {
-    let checked = table_check::check(cells);
-    if checked.ok {
-        let size = text_size(cells);
-        if size <= text.len() {
-            write_table(cells, text);
-            return Answer::Done(size);
-        }
-        return Answer::Refused(Refusal::State(StateCause::DestinationShort));
+    let Some(_) = table_check::check(cells) else {
+        return Err(Refusal::State(StateCause::LoadedTable));
+    };
+    let size = text_size(cells);
+    if text.len() < size {
+        return Err(Refusal::State(StateCause::DestinationShort));
     }
-    Answer::Refused(Refusal::State(StateCause::LoadedTable))
+    write_table(cells, text);
+    Ok(size)
 }

@@ -1,53 +1,68 @@
 -- What the table check tells: cells that pass it hold their table, others hold none.
 use Prim.Native.Nat.{ℕ}
-use native.Mathlib.Omega.{arith}
-use mathlib.Core.Path.{◌≡◌, refl, sym, ap, ◌∙◌}
-use mathlib.Core.Bool.{Bool, true, false, cond, true≢false, ◌&&◌}
+use mathlib.Core.Path.{◌≡◌, refl, ap}
+use mathlib.Core.Bool.{Bool, true, false, cond, ◌&&◌}
 use mathlib.Core.Logic.{◌↔◌}
-use mathlib.Core.Option.{Option, none, some}
+use mathlib.Core.Option as maybe
 use mathlib.Core.List.{List}
 use lib.Dec.{leb}
 use lib.ListN.{length}
+use Rattle.std.specs.Prelude.{Some, None, IsSome}
 use Rattle.table_check.specs.declared.Checked.{Checked}
 use Rattle.table_format.specs.Table.{Table}
 use Rattle.table_format.specs.Rules.{keeps_rules}
 use Rattle.table_format.specs.Loaded.{counts_in, extent, table_in, loaded}
+use Rattle.table_format.specs.Index.{first_arcs}
 use Rattle.table_check.specs.Check.{layout_of, checked_as, checked}
 
-module _ (cells : List ℕ) (r : Checked) (is : r ≡ checked cells) where
+-- the table or none, by the outcome
+abbrev decided : List ℕ → Bool → maybe.Option Table
+decided cells b = cond b (maybe.some (table_in cells)) maybe.none
+
+abbrev passes : List ℕ → Bool
+passes cells = leb (extent (counts_in cells)) (length cells) && keeps_rules (table_in cells)
+
+module _ (cells : List ℕ) (r : Checked) (is : Some r ≡ checked cells) where
+  -- the parts stand where the counts say, and the index is the table's
+  pub told : r ≡ record { layout = layout_of (counts_in cells); first = first_arcs (table_in cells) }
+  unfolding checked loaded
+  told = go (passes cells) is
+    where
+      go : (b : Bool) → Some r ≡ checked_as (layout_of (counts_in cells)) (decided cells b) → r ≡ record { layout = layout_of (counts_in cells); first = first_arcs (table_in cells) }
+      go true e = cc
+      go false e = cc
+
   pub laid : r.layout ≡ layout_of (counts_in cells)
-  unfolding checked
-  laid = ap (λ (x : Checked). x.layout) is ∙ go (loaded cells)
-    where
-      go : (o : Option Table) → (checked_as (layout_of (counts_in cells)) o).layout ≡ layout_of (counts_in cells)
-      go none = refl
-      go (some t) = refl
+  laid = ap (λ (x : Checked). x.layout) told
 
-  -- the table or none, by the outcome
-  abbrev decided : Bool → Option Table
-  decided b = cond b (some (table_in cells)) none
+  pub indexed : r.first ≡ first_arcs (table_in cells)
+  indexed = ap (λ (x : Checked). x.first) told
 
-  pub passed : r.ok ≡ true → loaded cells ≡ some (table_in cells)
+  pub passed : loaded cells ≡ maybe.some (table_in cells)
   unfolding checked loaded
-  passed e = go (leb (extent (counts_in cells)) (length cells) && keeps_rules (table_in cells)) (sym (ap (λ (x : Checked). x.ok) is) ∙ e)
+  passed = go (passes cells) is
     where
-      go : (b : Bool) → (checked_as (layout_of (counts_in cells)) (decided b)).ok ≡ true → decided b ≡ some (table_in cells)
-      go true k = refl
-      go false k = absurd (true≢false (sym k))
+      go : (b : Bool) → Some r ≡ checked_as (layout_of (counts_in cells)) (decided cells b) → decided cells b ≡ maybe.some (table_in cells)
+      go true e = refl
+      go false e = cc
 
-  pub failed : r.ok ≡ false → loaded cells ≡ none
-  unfolding checked loaded
-  failed e = go (leb (extent (counts_in cells)) (length cells) && keeps_rules (table_in cells)) (sym (ap (λ (x : Checked). x.ok) is) ∙ e)
-    where
-      go : (b : Bool) → (checked_as (layout_of (counts_in cells)) (decided b)).ok ≡ false → decided b ≡ none
-      go true k = absurd (true≢false k)
-      go false k = refl
+pub failed : (cells : List ℕ) → None ≡ checked cells → loaded cells ≡ maybe.none
+unfolding checked loaded
+failed cells is = go (passes cells) is
+  where
+    go : (b : Bool) → None ≡ checked_as (layout_of (counts_in cells)) (decided cells b) → decided cells b ≡ maybe.none
+    go true e = cc
+    go false e = refl
 
 -- it passes exactly the cells that hold a table
-pub check_is : (c : List ℕ) → ((checked c).ok ≡ true) ↔ ((t : Table) × (loaded c ≡ some t))
+pub check_is : (c : List ℕ) → IsSome (checked c) ↔ ((t : Table) × (loaded c ≡ maybe.some t))
 unfolding checked
-check_is c = (λ e. to (loaded c) refl e, λ h. ap (λ (p : Option Table). (checked_as (layout_of (counts_in c)) p).ok) h.1)
+check_is c = (λ e. to (loaded c) refl e, λ h. back (loaded c) h.0 h.1)
   where
-    to : (p : Option Table) → loaded c ≡ p → (checked_as (layout_of (counts_in c)) p).ok ≡ true → (t : Table) × (loaded c ≡ some t)
-    to (some t) h e = (t, h)
-    to none h e = let z : ◌≡◌ {A = ℕ} 0 1 = cc in absurd (omega arith)
+    to : (p : maybe.Option Table) → loaded c ≡ p → IsSome (checked_as (layout_of (counts_in c)) p) → (t : Table) × (loaded c ≡ maybe.some t)
+    to (maybe.some t) h e = (t, h)
+    to maybe.none h e = cc
+
+    back : (p : maybe.Option Table) (t : Table) → p ≡ maybe.some t → IsSome (checked_as (layout_of (counts_in c)) p)
+    back (maybe.some u) t h = refl
+    back maybe.none t h = cc

@@ -1,6 +1,6 @@
--- What the table check tells: whether the cells hold a table that keeps the rules, where its parts stand, where each state's arcs begin.
-use Rattle.std.specs.Prelude.{ℕ, ◌≤◌, ◌≡◌, true, false, List, length, replicate}
-use Rattle.std.proofs.Math.Option.{Option, none, some}
+-- What the table check tells, where the cells hold a table that keeps the rules: where its parts stand, where each state's arcs begin.
+use Rattle.std.specs.Prelude.{ℕ, ◌-◌, ◌≤◌, ◌≡◌, List, length, take, drop, Option, None, Some}
+use Rattle.std.proofs.Math.Option as maybe
 use Rattle.table_check.specs.declared.Checked.{Checked}
 use Rattle.table_check.specs.declared.Layout.{Layout}
 use Rattle.table_format.specs.Table.{Table, Counts}
@@ -20,10 +20,20 @@ pub record LaidOut (cells : List ℕ) (l : Layout) : Type 0 where
   pub end_is : l.end ≡ extent (counts_in cells)
   pub whole : extent (counts_in cells) ≤ length cells
 
--- the table check, where l is the layout by the counts
-abbrev pub checked_as : Layout → Option Table → Checked
-checked_as l none = record { ok = false; layout = l; first = replicate 257 0 }
-checked_as l (some t) = record { ok = true; layout = l; first = first_arcs t }
+-- the cells of its parts
+abbrev pub initials_part : List ℕ → Layout → List ℕ
+initials_part cells l = take (l.terminals - l.initials) (drop l.initials cells)
 
-unfoldable pub checked : List ℕ → Checked
+abbrev pub terminals_part : List ℕ → Layout → List ℕ
+terminals_part cells l = take (l.arcs - l.terminals) (drop l.terminals cells)
+
+abbrev pub arcs_part : List ℕ → Layout → List ℕ
+arcs_part cells l = take (l.end - l.arcs) (drop l.arcs cells)
+
+-- the table check, where l is the layout by the counts
+abbrev pub checked_as : Layout → maybe.Option Table → Option Checked
+checked_as l maybe.none = None
+checked_as l (maybe.some t) = Some (record { layout = l; first = first_arcs t })
+
+unfoldable pub checked : List ℕ → Option Checked
 checked cells = checked_as (layout_of (counts_in cells)) (loaded cells)

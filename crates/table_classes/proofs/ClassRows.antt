@@ -6,17 +6,17 @@ use mathlib.Core.Path.{◌≡◌, refl, sym, ap, ap₂, ◌∙◌}
 use mathlib.Core.Bool.{Bool, true, false, not, cond, ◌&&◌, ◌||◌, and_assoc, and-false, and-eq-true_iff}
 use mathlib.Core.Option.{some, none}
 use mathlib.Core.List.{List, [], ◌∷◌, ◌++◌}
-use lib.Dec.{leb, ltb}
-use lib.ListN.{length, get_or, take, drop, set, replicate, length-drop}
+use lib.Dec.{eqb, leb, ltb}
+use lib.ListN.{length, get_or, take, drop, set, replicate, length-drop, drop_of_length-le}
 use lib.Seq.{drop-cons, drop-drop, get_or-take, get_or-drop, take-suc, take-suc-set, take_all, length-take-le}
-use borrow.Author.Tests.{leb-true, lt-ltb, le-ltb, le-leb, lt-leb, eq-eqb}
+use borrow.Author.Tests.{leb-true, ltb-true, lt-ltb, le-ltb, lt-leb, eq-eqb, eqb-true, eqb-false}
+use Rattle.std.specs.List.{list_all, range_with_len}
 use Rattle.table_format.specs.Classes.{class_count, row_width, letters_in, is_defined}
 use Rattle.table_format.specs.Rules.{any, each, letters_rise, class_holds, is_blank, row_holds, classes_keep, keeps_rules}
 use Rattle.table_format.specs.Loaded.{classes_at, class_cells, initials_at, counts_in, extent, rows_cells, rows_in, classes_in, table_in, loaded}
-use Rattle.table_format.proofs.Tests.{and_both}
-use Rattle.table_format.proofs.Each.{any_none, any_some, each_more, each-fails, each-done}
 use Rattle.table_format.proofs.Classes.{blank-zeros, length-rows_in, row_at, rows_of, cells-small}
 use Rattle.table_format.proofs.Rules.{keeps-parts}
+use Rattle.table_classes.proofs.Chains.{all_each}
 
 -- Letters that rise.
 
@@ -31,26 +31,10 @@ module _ (m x : ℕ) (b : Bool) where
   pub next-high : 63 < x → (is_next m x && b) ≡ false
   next-high h = ap (λ (t : Bool). (ltb m x && t) && b) (lt-leb x 63 h) ∙ ap (λ (t : Bool). t && b) (and-false (ltb m x))
 
-  pub next_holds_lem : m < x → x ≤ 63 → (is_next m x && b) ≡ b
-  next_holds_lem h k = ap (λ (t : Bool). t && b) (and_both (lt-ltb m x h) (le-leb x 63 k))
-
 -- What a list shows from place k on, by the cell there.
 module _ (l : List ℕ) (k : ℕ) (h : k < length l) where
   front : drop k l ≡ get_or l k 0 ∷ drop (k + 1) l
   front = drop-cons l k 0 h ∙ ap (λ (n : ℕ). get_or l k 0 ∷ drop n l) (sym (add-one k))
-
-  pub rise-step : (m : ℕ) → letters_rise m (drop k l) ≡ (is_next m (get_or l k 0) && letters_rise (get_or l k 0) (drop (k + 1) l))
-  rise-step m = ap (letters_rise m) front
-
-  -- a letter over 63 ends the rise
-  pub rise_high : (m : ℕ) → 63 < get_or l k 0 → letters_rise m (drop k l) ≡ false
-  rise_high m p = rise-step m ∙ next-high m (get_or l k 0) (letters_rise (get_or l k 0) (drop (k + 1) l)) p
-
-  pub blank-letter : (get_or l k 0 ≡ 0 → ⊥) → is_blank (drop k l) ≡ false
-  blank-letter ne = ap is_blank front ∙ ap (λ (t : Bool). not (t || any (λ x. ltb 0 x) (drop (k + 1) l))) (lt-ltb 0 (get_or l k 0) (omega (arith, ne)))
-
-  pub blank-zero : get_or l k 0 ≡ 0 → is_blank (drop k l) ≡ is_blank (drop (k + 1) l)
-  blank-zero z = ap is_blank front ∙ ap (λ (x : ℕ). is_blank (x ∷ drop (k + 1) l)) z
 
 -- Rows.
 
@@ -67,12 +51,6 @@ fills-cons m zero row p = absurd (omega arith)
 fills-cons m (suc x) row p = and_assoc (is_next m (suc x)) (letters_rise (suc x) (letters_in row)) (is_blank (drop (length (letters_in row)) row))
 
 module _ (row : List ℕ) (k : ℕ) (h : k < length row) (m : ℕ) where
-  pub fills-zero : get_or row k 0 ≡ 0 → fills m (drop k row) ≡ is_blank (drop k row)
-  fills-zero z = ap (fills m) zeros ∙ sym (ap is_blank zeros)
-    where
-      zeros : drop k row ≡ 0 ∷ drop (k + 1) row
-      zeros = front row k h ∙ ap (λ (x : ℕ). x ∷ drop (k + 1) row) z
-
   pub fills-step : (get_or row k 0 ≡ 0 → ⊥) → fills m (drop k row) ≡ (is_next m (get_or row k 0) && fills (get_or row k 0) (drop (k + 1) row))
   fills-step ne = ap (fills m) (front row k h) ∙ fills-cons m (get_or row k 0) (drop (k + 1) row) (omega (arith, ne))
 
@@ -82,10 +60,6 @@ module _ (row : List ℕ) (k : ℕ) (h : k < length row) (m : ℕ) where
 pub blank-keeps : (cells : List ℕ) → length cells ≡ class_cells → is_blank cells ≡ true → classes_keep (rows_in class_count cells) ≡ true
 unfolding rows_in classes_keep row_holds each
 blank-keeps cells e b = ap (λ (l : List ℕ). classes_keep (rows_in class_count l)) (blank-zeros cells b ∙ ap (λ (n : ℕ). replicate n 0) e)
-
--- whether the first rows hold
-abbrev pub hold_to : ℕ → List ℕ → Bool
-hold_to c cells = each (λ before row. row_holds row) [] (take c (rows_in class_count cells))
 
 rows-keep : (cells : List ℕ) → classes_keep (rows_in class_count cells) ≡ each (λ before row. row_holds row) [] (rows_in class_count cells)
 unfolding classes_keep
@@ -105,17 +79,13 @@ module _ (cells : List ℕ) (c : ℕ) (h : c < class_count) where
   part-row : get_or (rows_in class_count cells) c [] ≡ part cells c
   part-row = row_at class_count cells c h ∙ ap (λ (n : ℕ). take n (drop (row_width * c) cells)) (sym width)
 
-  inside : c < length (rows_in class_count cells)
-  inside = omega (arith, length-rows_in class_count cells)
-
-  pub row-fails : row_holds (part cells c) ≡ false → classes_keep (rows_in class_count cells) ≡ false
-  row-fails e = rows-keep cells ∙ each-fails (λ before row. row_holds row) [] (rows_in class_count cells) c inside (ap row_holds part-row ∙ e)
-
-  pub row_more : hold_to c cells ≡ true → row_holds (part cells c) ≡ true → hold_to (c + 1) cells ≡ true
-  row_more e f = rw add-one (each_more (λ before row. row_holds row) [] (rows_in class_count cells) c inside e (ap row_holds part-row ∙ f))
-
-pub rows-done : (cells : List ℕ) (c : ℕ) → class_count ≤ c → hold_to c cells ≡ true → classes_keep (rows_in class_count cells) ≡ true
-rows-done cells c h e = rows-keep cells ∙ each-done (λ before row. row_holds row) (rows_in class_count cells) c (omega (arith, length-rows_in class_count cells)) e
+-- each row holds, by its place
+pub rows_all_hold : (cells : List ℕ) → list_all (λ c. row_holds (part cells c)) (range_with_len 0 class_count) ≡ classes_keep (rows_in class_count cells)
+rows_all_hold cells =
+    let size = length-rows_in class_count cells in
+    ap (λ (n : ℕ). list_all (λ c. row_holds (part cells c)) (range_with_len 0 n)) (sym size)
+    ∙ all_each row_holds [] (rows_in class_count cells) (λ c. row_holds (part cells c)) (λ c h. ap row_holds (sym (part-row cells c (omega arith))))
+    ∙ sym (rows-keep cells)
 
 -- a class is defined where its first cell holds a letter
 pub defined_at : (cells : List ℕ) (c : ℕ) → c < class_count → is_defined (get_or (rows_in class_count cells) c []) ≡ ltb 0 (get_or cells (row_width * c) 0)
@@ -123,39 +93,32 @@ defined_at cells c h =
     ap is_defined (row_at class_count cells c h)
     ∙ ap (ltb 0) (get_or-take row_width (drop (row_width * c) cells) 0 0 (omega arith) ∙ get_or-drop (row_width * c) cells 0 0 ∙ ap (λ (n : ℕ). get_or cells n 0) {x = row_width * c + 0} {y = row_width * c} (omega arith))
 
-module _ (cells : List ℕ) (class : ℕ) (letters : List ℕ) where
-  pub class_over : class_count ≤ class → class_holds (rows_in class_count cells) class letters ≡ false
-  unfolding class_holds
-  class_over h =
-      ap (λ (t : Bool). t && (not (any is_defined (drop class (rows_in class_count cells))) && letters_rise 0 letters)) (le-ltb class class_count h)
+-- that a class is not defined, by that cell
+abbrev pub is_free : List ℕ → ℕ → Bool
+is_free cells c = eqb (get_or cells (row_width * c) 0) 0
 
-  -- by whether some class from it on is defined
-  by_defined : (b : Bool) → class < class_count → any is_defined (drop class (rows_in class_count cells)) ≡ b
-      → class_holds (rows_in class_count cells) class letters ≡ (not b && letters_rise 0 letters)
-  unfolding class_holds
-  by_defined b h e = ap₂ (λ (s t : Bool). s && (not t && letters_rise 0 letters)) (lt-ltb class class_count h) e
+-- the rows from class c on hold no class where n cells of theirs show none
+free_from : (cells : List ℕ) (n c : ℕ) → c + n ≡ class_count → not (any is_defined (drop c (rows_in class_count cells))) ≡ list_all (is_free cells) (range_with_len c n)
+free_from cells zero c e = ap (λ (rows : List (List ℕ)). not (any is_defined rows)) (drop_of_length-le (rows_in class_count cells) {i = c} (omega (arith, length-rows_in class_count cells)))
+free_from cells (suc n) c e =
+    ap (λ (rows : List (List ℕ)). not (any is_defined rows)) (drop-cons (rows_in class_count cells) c [] (omega (arith, length-rows_in class_count cells)))
+    ∙ ap (λ (b : Bool). not (b || any is_defined (drop (suc c) (rows_in class_count cells)))) (defined_at cells c (omega arith))
+    ∙ go (is_free cells c) refl
+    ∙ ap (λ (b : Bool). is_free cells c && b) (ap (λ (k : ℕ). not (any is_defined (drop k (rows_in class_count cells)))) (sym (add-one c)) ∙ free_from cells n (c + 1) (omega arith))
+  where
+    go : (b : Bool) → is_free cells c ≡ b → not (ltb 0 (get_or cells (row_width * c) 0) || any is_defined (drop (suc c) (rows_in class_count cells))) ≡ (b && not (any is_defined (drop (suc c) (rows_in class_count cells))))
+    go true f = ap (λ (b : Bool). not (b || any is_defined (drop (suc c) (rows_in class_count cells)))) (le-ltb 0 (get_or cells (row_width * c) 0) (omega (arith, eqb-true (get_or cells (row_width * c) 0) 0 f)))
+    go false f = ap (λ (b : Bool). not (b || any is_defined (drop (suc c) (rows_in class_count cells)))) (lt-ltb 0 (get_or cells (row_width * c) 0) (let n = eqb-false (get_or cells (row_width * c) 0) 0 f in omega arith))
 
-  later-count : length (drop class (rows_in class_count cells)) ≡ class_count - class
-  later-count = length-drop class (rows_in class_count cells) ∙ ap (λ (n : ℕ). n - class) (length-rows_in class_count cells)
-
-  later-at : (k : ℕ) → class + k < class_count → is_defined (get_or (drop class (rows_in class_count cells)) k []) ≡ ltb 0 (get_or cells (row_width * (class + k)) 0)
-  later-at k h = ap is_defined (get_or-drop class (rows_in class_count cells) k []) ∙ defined_at cells (class + k) h
-
-  pub class_defined : (c : ℕ) → c < class_count → class ≤ c → (get_or cells (row_width * c) 0 ≡ 0 → ⊥) → class_holds (rows_in class_count cells) class letters ≡ false
-  class_defined c h le ne =
-      by_defined true (omega arith)
-      (any_some is_defined [] (drop class (rows_in class_count cells)) (c - class) (omega (arith, later-count))
-      (later-at (c - class) (omega arith) ∙ ap (λ (n : ℕ). ltb 0 (get_or cells (row_width * n) 0)) same ∙ lt-ltb 0 (get_or cells (row_width * c) 0) (omega (arith, ne))))
-    where
-      same : class + (c - class) ≡ c
-      same = omega arith
-
-  pub class_free : class < class_count → ((c : ℕ) → c < class_count → class ≤ c → get_or cells (row_width * c) 0 ≡ 0)
-      → class_holds (rows_in class_count cells) class letters ≡ letters_rise 0 letters
-  class_free h free =
-      by_defined false h
-      (any_none is_defined [] (drop class (rows_in class_count cells))
-      (λ k i. later-at k (omega (arith, later-count)) ∙ ap (ltb 0) (free (class + k) (omega (arith, later-count)) (omega arith))))
+pub class_by_cells : (cells : List ℕ) (class : ℕ) (letters : List ℕ)
+    → class_holds (rows_in class_count cells) class letters ≡ ((ltb class class_count && list_all (is_free cells) (range_with_len class (class_count - class))) && letters_rise 0 letters)
+unfolding class_holds
+class_by_cells cells class letters = go (ltb class class_count) refl
+  where
+    go : (b : Bool) → ltb class class_count ≡ b
+        → (b && (not (any is_defined (drop class (rows_in class_count cells))) && letters_rise 0 letters)) ≡ ((b && list_all (is_free cells) (range_with_len class (class_count - class))) && letters_rise 0 letters)
+    go true e = ap (λ (t : Bool). t && letters_rise 0 letters) (free_from cells (class_count - class) class (omega (arith, ltb-true class class_count e)))
+    go false e = refl
 
 -- Elements copied one by one: one more, and all.
 

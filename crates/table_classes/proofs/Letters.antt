@@ -3,12 +3,15 @@ use Prim.Native.Nat.{ℕ, zero, suc, ◌+◌, ◌-◌, ◌*◌, ◌≤◌, ◌<�
 use native.Mathlib.Omega.{arith}
 use native.Mathlib.Numerals.{add-one}
 use mathlib.Core.Path.{◌≡◌, refl, sym, ap, ◌∙◌}
-use mathlib.Core.Bool.{Bool, true, false, cond}
+use mathlib.Core.Bool.{Bool, true, false, not, cond}
 use mathlib.Core.List.{List, [], ◌∷◌}
 use lib.Dec.{ltb}
 use lib.ListN.{length, get_or, take, drop, length-drop, drop_of_length-le}
 use lib.Seq.{drop-cons, get_or-take, get_or-drop, length-take-le}
-use borrow.Author.Tests.{lt-ltb, le-ltb}
+use borrow.Author.Tests.{lt-ltb, le-ltb, ltb-false, ne_eqb}
+use Rattle.std.specs.Prelude.{Some, None, nat_eq}
+use Rattle.std.specs.List.{position, position_or_len}
+use Rattle.std.specs.Option.{unwrap_or}
 use Rattle.table_format.specs.Classes.{class_count, row_width, letters_in, is_defined}
 use Rattle.table_format.specs.Loaded.{class_cells, rows_in}
 use Rattle.table_format.specs.Text.{class_bytes, class_lines}
@@ -16,30 +19,26 @@ use Rattle.table_format.proofs.Classes.{length-rows_in, row_at}
 
 -- The letters of a row.
 
--- a letter is the first of them
-letter-first : (x : ℕ) (row : List ℕ) → (x ≡ 0 → ⊥) → letters_in (x ∷ row) ≡ x ∷ letters_in row
-letter-first zero row n = absurd (n refl)
-letter-first (suc x) row n = refl
-
--- one letter more is looked at
-pub letters-turn : (row : List ℕ) (k : ℕ) → k < length row → (get_or row k 0 ≡ 0 → ⊥) → length (letters_in (drop k row)) ≡ 1 + length (letters_in (drop (k + 1) row))
-letters-turn row k h n =
-    ap length (ap letters_in (drop-cons row k 0 h) ∙ letter-first (get_or row k 0) (drop (suc k) row) n)
-    ∙ ap (λ (i : ℕ). suc (length (letters_in (drop i row)))) (sym (add-one k))
-    ∙ omega arith
-
--- a 0 ends them
-pub letters_stop : (row : List ℕ) (k : ℕ) → k < length row → get_or row k 0 ≡ 0 → letters_in (drop k row) ≡ []
-letters_stop row k h e = ap letters_in (drop-cons row k 0 h ∙ ap (λ (x : ℕ). x ∷ drop (suc k) row) e)
-
-pub letters-end : (row : List ℕ) (k : ℕ) → length row ≤ k → letters_in (drop k row) ≡ []
-letters-end row k h = ap letters_in (drop_of_length-le row h)
+-- they reach to the first 0
+pub letters_to : (row : List ℕ) → position_or_len (λ x. nat_eq x 0) row ≡ length (letters_in row)
+letters_to [] = refl
+letters_to (zero ∷ row) = refl
+letters_to (suc x ∷ row) =
+    ap (λ (b : Bool). cond (not b) (1 + position_or_len (λ x. nat_eq x 0) row) 0) (ne_eqb (suc x) 0 (λ e. omega arith)) ∙ omega (arith, letters_to row)
 
 -- they open the row
 pub letters-few : (row : List ℕ) → length (letters_in row) ≤ length row
 letters-few [] = omega arith
 letters-few (zero ∷ row) = omega arith
 letters-few (suc x ∷ row) = omega (arith, letters-few row)
+
+-- the place of the first 0, or else the end
+pub letters_found : (row : List ℕ) → unwrap_or (position (λ x. nat_eq x 0) row) (length row) ≡ length (letters_in row)
+letters_found row = go (ltb (position_or_len (λ x. nat_eq x 0) row) (length row)) refl
+  where
+    go : (b : Bool) → ltb (position_or_len (λ x. nat_eq x 0) row) (length row) ≡ b → unwrap_or (cond b (Some (position_or_len (λ x. nat_eq x 0) row)) None) (length row) ≡ length (letters_in row)
+    go true e = letters_to row
+    go false e = omega (arith, letters-few row, letters_to row, ltb-false (position_or_len (λ x. nat_eq x 0) row) (length row) e)
 
 pub letters_open : (row : List ℕ) → take (length (letters_in row)) row ≡ letters_in row
 letters_open [] = refl

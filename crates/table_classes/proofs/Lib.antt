@@ -2,3 +2,4 @@
 pub mod ClassRows
 pub mod Arcs
 pub mod Letters
+pub mod Chains

@@ -11,46 +11,31 @@ ghost use Rattle.table_format.specs.Cells.{arc_said};
 
 use table_format::{Arc, CLASS_COUNT, CLASSES_AT, FIRST_CLASS, ROW_WIDTH};
 
-// Whether letters rise, from 1 to 63.
-#[tactic(auto, using(crate::proofs::ClassRows::rise_high))]
+// Whether letters rise, from 1 to 63. The loop of row_holds also ends at a 0, and is over cells: the contract of one function for both would speak
+// of each conversion that its type may make, and be longer than either loop.
 fn letters_rise(letters: &[u8]) -> bool
     ensures { result ≡ letters_rise 0 letters.now }
 {
     let mut last = 0;
-    let mut k = 0;
-    while k < letters.len() {
-        let letter = letters[k];
-        if letter <= last {
+    for letter in letters {
+        if *letter <= last || 63 < *letter {
             return false;
         }
-        if 63 < letter {
-            return false;
-        }
-        last = letter;
-        k += 1;
+        last = *letter;
     }
     true
 }
 
-// 34, of a class line: the class is one of 0 to 7, none from it on is defined yet, and its letters rise.
+// 34, of a class line: the class is one of 0 to 7, none from it on is defined yet, and its letters rise. The rows are a part cut out of a table's
+// cells, here and below, and so a slice with a clause on its length: an array's reference would have to be converted at each call.
 pub fn class_holds(rows: &[u16], class: u8, letters: &[u8]) -> bool
     requires { length rows.now ≡ class_cells }
     ensures { result ≡ class_holds (rows_in class_count rows.now) class letters.now }
 {
-    let class = class as usize;
-    if CLASS_COUNT <= class {
-        return false;
-    }
-    let mut c = 0;
-    while c < CLASS_COUNT {
-        if rows[ROW_WIDTH * c] != 0 {
-            if class <= c {
-                return false;
-            }
-        }
-        c += 1;
-    }
-    letters_rise(letters)
+    let class = usize::from(class);
+    class < CLASS_COUNT
+        && (class..CLASS_COUNT).all(|c| rows[ROW_WIDTH * c] == 0)
+        && letters_rise(letters)
 }
 
 // 34, of an arc: no class, or a defined one, the same on both sides.
@@ -64,11 +49,8 @@ pub fn arc_class_holds(rows: &[u16], arc: Arc) -> bool
     if arc.upper != arc.lower {
         return false;
     }
-    let class = (arc.upper - FIRST_CLASS) as usize;
-    if CLASS_COUNT <= class {
-        return false;
-    }
-    rows[ROW_WIDTH * class] != 0
+    let class = usize::from(arc.upper - FIRST_CLASS);
+    class < CLASS_COUNT && rows[ROW_WIDTH * class] != 0
 }
 
 // Whether cells hold only 0. The loop goes through all of them, so that several are compared at once.
@@ -76,12 +58,10 @@ fn is_blank(cells: &[u16]) -> bool
     ensures { result ≡ is_blank cells.now }
 {
     let mut blank = true;
-    let mut k = 0;
-    while k < cells.len() {
-        if cells[k] != 0 {
+    for x in cells {
+        if *x != 0 {
             blank = false;
         }
-        k += 1;
     }
     blank
 }
@@ -90,14 +70,7 @@ fn is_blank(cells: &[u16]) -> bool
 pub fn letters_in(row: &[u16]) -> usize
     ensures { result ≡ length (letters_in row.now) }
 {
-    let mut k = 0;
-    while k < row.len() {
-        if row[k] == 0 {
-            return k;
-        }
-        k += 1;
-    }
-    k
+    row.iter().position(|x| *x == 0).unwrap_or(row.len())
 }
 
 // A row holds letters that rise, and is filled up with 0.
@@ -106,20 +79,14 @@ fn row_holds(row: &[u16]) -> bool
     ensures { result ≡ row_holds row.now }
 {
     let mut last = 0;
-    let mut k = 0;
-    while k < row.len() {
-        let x = row[k];
-        if x == 0 {
+    for (k, x) in row.iter().enumerate() {
+        if *x == 0 {
             return is_blank(&row[k..]);
         }
-        if x <= last {
+        if *x <= last || 63 < *x {
             return false;
         }
-        if 63 < x {
-            return false;
-        }
-        last = x;
-        k += 1;
+        last = *x;
     }
     true
 }
@@ -129,18 +96,8 @@ pub fn classes_hold(rows: &[u16]) -> bool
     requires { length rows.now ≡ class_cells }
     ensures { result ≡ classes_keep (rows_in class_count rows.now) }
 {
-    if is_blank(rows) {
-        return true;
-    }
-    let mut c = 0;
-    while c < CLASS_COUNT {
-        let at = ROW_WIDTH * c;
-        if !row_holds(&rows[at..at + ROW_WIDTH]) {
-            return false;
-        }
-        c += 1;
-    }
-    true
+    is_blank(rows)
+        || (0..CLASS_COUNT).all(|c| row_holds(&rows[ROW_WIDTH * c..ROW_WIDTH * c + ROW_WIDTH]))
 }
 
 // How many classes are defined.
@@ -149,12 +106,10 @@ pub fn defined_count(rows: &[u16]) -> u16
     ensures { result ≡ length (class_lines 0 (rows_in class_count rows.now)) }
 {
     let mut count = 0;
-    let mut c = 0;
-    while c < CLASS_COUNT {
+    for c in 0..CLASS_COUNT {
         if rows[ROW_WIDTH * c] != 0 {
             count += 1;
         }
-        c += 1;
     }
     count
 }
@@ -166,10 +121,8 @@ fn row_at(table: &[u16], at: usize) -> [u8; 16]
     ensures { result ≡ take row_width (drop at table.now) }
 {
     let mut row = [0u8; 16];
-    let mut k = 0;
-    while k < ROW_WIDTH {
-        row[k] = table[at + k] as u8;
-        k += 1;
+    for (k, cell) in table[at..at + ROW_WIDTH].iter().enumerate() {
+        row[k] = *cell as u8;
     }
     row
 }
@@ -180,10 +133,8 @@ pub fn rows(table: &[u16]) -> [[u8; 16]; 8]
     ensures { result ≡ (table_in table.now).classes }
 {
     let mut rows = [[0u8; 16]; 8];
-    let mut c = 0;
-    while c < CLASS_COUNT {
-        rows[c] = row_at(table, CLASSES_AT + ROW_WIDTH * c);
-        c += 1;
+    for (c, row) in rows.iter_mut().enumerate() {
+        *row = row_at(table, CLASSES_AT + ROW_WIDTH * c);
     }
     rows
 }

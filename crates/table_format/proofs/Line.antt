@@ -7,8 +7,7 @@ use mathlib.Core.List.{List, [], ◌∷◌, ◌++◌, map, append_assoc}
 use lib.Dec.{eqb, ltb}
 use lib.ListN.{length}
 use borrow.Author.Tests.{ltb-true, ltb-false, eqb-true, eqb-false, ne_eqb, not-false}
-use Rattle.hexadecimal.specs.declared.Decoded.{Decoded}
-use Rattle.hexadecimal.specs.declared.Decoded.TheVariants.{Value, Invalid}
+use Rattle.std.specs.Prelude.{Option, Some, None}
 use Rattle.hexadecimal.specs.Hex.{value_of, decoded, digit_of, encoded}
 use Rattle.hexadecimal.proofs.Hex.{digit_low, digit_high, value_digit, decoded_of, decoded-encoded, encoded-decoded}
 use Rattle.table_format.specs.Rules.{is_empty, any}
@@ -100,17 +99,17 @@ join_lines_lem x bs e = sym (text-lines x) ∙ ap text_from e ∙ text_join bs
 -- Bytes and their characters.
 
 pub length-chars : (b : List ℕ) → length (chars_of b) ≡ 2 * length b
-unfolding chars_of
+unfolding chars_of encoded
 length-chars [] = refl
 length-chars (x ∷ b) = let e : length (chars_of b) ≡ 2 * length b = length-chars b in omega arith
 
 pub chars-append : (x y : List ℕ) → chars_of (x ++ y) ≡ chars_of x ++ chars_of y
-unfolding chars_of
+unfolding chars_of encoded
 chars-append [] y = refl
-chars-append (b ∷ x) y = ap (λ (l : List ℕ). (encoded b).high ∷ (encoded b).low ∷ l) (chars-append x y)
+chars-append (b ∷ x) y = ap (λ (l : List ℕ). encoded b ++ l) (chars-append x y)
 
 pub bytes-chars : (b : List ℕ) → All IsByte b → bytes_of (chars_of b) ≡ b
-unfolding bytes_of chars_of
+unfolding bytes_of chars_of encoded
 bytes-chars [] h = refl
 bytes-chars (x ∷ b) h = ap₂ (λ (n : ℕ) (l : List ℕ). n ∷ l) (ap byte_in (decoded-encoded x h.0)) (bytes-chars b h.1)
 
@@ -118,7 +117,7 @@ abbrev pub no_value : ℕ → Bool
 no_value c = not (is_value (value_of c))
 
 digit_value : (v : ℕ) → no_value (digit_of v) ≡ false
-digit_value v = ap (λ (d : Decoded). not (is_value d)) (value_digit v)
+digit_value v = ap (λ (d : Option ℕ). not (is_value d)) (value_digit v)
 
 chars-values : (b : List ℕ) → any no_value (chars_of b) ≡ false
 unfolding chars_of encoded
@@ -126,7 +125,7 @@ chars-values [] = refl
 chars-values (x ∷ b) = simp (digit_value (x / 16), digit_value x, chars-values b)
 
 pub line-well : (b : List ℕ) → is_empty b ≡ false → malformed (line_with b) ≡ false
-unfolding malformed chars_of
+unfolding malformed chars_of encoded
 line-well [] h = h
 line-well (x ∷ b) h = ap₂ (λ (p q : Bool). p || (q || false)) even (chars-values (x ∷ b))
   where
@@ -134,13 +133,13 @@ line-well (x ∷ b) h = ap₂ (λ (p q : Bool). p || (q || false)) even (chars-v
     even = ne_eqb (length (chars_of (x ∷ b)) % 2) 1 (λ e. omega (arith, length-chars (x ∷ b)))
 
 -- two characters with values are a byte's
-pair-byte : (c d : ℕ) → no_value c ≡ false → no_value d ≡ false → (b : ℕ) × (decoded c d ≡ Value b)
+pair-byte : (c d : ℕ) → no_value c ≡ false → no_value d ≡ false → (b : ℕ) × (decoded c d ≡ Some b)
 pair-byte c d h k = go (value_of c) (value_of d) refl refl
   where
-    go : (u v : Decoded) → value_of c ≡ u → value_of d ≡ v → (b : ℕ) × (decoded c d ≡ Value b)
-    go (Value u) (Value v) p q = (u * 16 + v, decoded_of c d u v p q)
-    go (Value u) Invalid p q = let z : true ≡ false = sym (ap (λ (x : Decoded). not (is_value x)) q) ∙ k in absurd (true≢false z)
-    go Invalid v p q = let z : true ≡ false = sym (ap (λ (x : Decoded). not (is_value x)) p) ∙ h in absurd (true≢false z)
+    go : (u v : Option ℕ) → value_of c ≡ u → value_of d ≡ v → (b : ℕ) × (decoded c d ≡ Some b)
+    go (Some u) (Some v) p q = (u * 16 + v, decoded_of c d u v p q)
+    go (Some u) None p q = let z : true ≡ false = sym (ap (λ (x : Option ℕ). not (is_value x)) q) ∙ k in absurd (true≢false z)
+    go None v p q = let z : true ≡ false = sym (ap (λ (x : Option ℕ). not (is_value x)) p) ∙ h in absurd (true≢false z)
 
 chars-bytes : (cs : List ℕ) → (length cs % 2 ≡ 1 → ⊥) → any no_value cs ≡ false → (cs ≡ chars_of (bytes_of cs)) × All IsByte (bytes_of cs)
 unfolding bytes_of chars_of
@@ -154,13 +153,13 @@ chars-bytes (c ∷ d ∷ cs) h k = go (pair-byte c d k₁.0 k₂.0) (chars-bytes
     k₂ : (no_value d ≡ false) × (any no_value cs ≡ false)
     k₂ = neither _ _ k₁.1
 
-    go : (b : ℕ) × (decoded c d ≡ Value b) → (cs ≡ chars_of (bytes_of cs)) × All IsByte (bytes_of cs)
+    go : (b : ℕ) × (decoded c d ≡ Some b) → (cs ≡ chars_of (bytes_of cs)) × All IsByte (bytes_of cs)
         → (c ∷ d ∷ cs ≡ chars_of (bytes_of (c ∷ d ∷ cs))) × All IsByte (bytes_of (c ∷ d ∷ cs))
     go (b, e) (p, q) =
         let n : byte_in (decoded c d) ≡ b = ap byte_in e in
         let w = encoded-decoded c d b e in
-        let f : record { high = c; low = d } ≡ encoded (byte_in (decoded c d)) = sym (ap encoded n ∙ w.1) in
-        (λ i. (f i).high ∷ (f i).low ∷ p i, (omega arith, q))
+        let f : c ∷ d ∷ [] ≡ encoded (byte_in (decoded c d)) = sym (ap encoded n ∙ w.1) in
+        (ap₂ (λ (x y : List ℕ). x ++ y) f p, (omega arith, q))
 
 -- a line that is not malformed says its bytes
 pub line_bytes_lem : (l : Line) → malformed l ≡ false → (l ≡ line_with (bytes_of l.chars)) × All IsByte (bytes_of l.chars)

@@ -1,7 +1,5 @@
 -- Document 01, "Lines of the text": a text is cut at its line feeds (character 10); a line is two capital digits for each byte.
-use Rattle.std.specs.Prelude.{ℕ, ◌+◌, ◌*◌, ◌%◌, Bool, true, false, not, cond, ◌||◌, List, [], ◌∷◌, ◌++◌, eqb, length}
-use Rattle.hexadecimal.specs.declared.Decoded.{Decoded}
-use Rattle.hexadecimal.specs.declared.Decoded.TheVariants.{Value, Invalid}
+use Rattle.std.specs.Prelude.{ℕ, ◌+◌, ◌*◌, ◌%◌, Bool, true, false, not, cond, ◌||◌, List, [], ◌∷◌, ◌++◌, eqb, length, Option, Some, None}
 use Rattle.hexadecimal.specs.Hex.{value_of, decoded, encoded}
 use Rattle.table_format.specs.Rules.{is_empty, any}
 
@@ -22,9 +20,9 @@ unfoldable pub lines_of : List ℕ → List Line
 lines_of [] = []
 lines_of (c ∷ cs) = cond (eqb c 10) (record { chars = []; fed = true } ∷ lines_of cs) (with_char c (lines_of cs))
 
-abbrev pub is_value : Decoded → Bool
-is_value (Value v) = true
-is_value Invalid = false
+abbrev pub is_value : Option ℕ → Bool
+is_value (Some v) = true
+is_value None = false
 
 -- 1: the line is empty, has an odd count of digits, a character other than 0-9, A-F, or lacks its line feed
 unfoldable pub malformed : Line → Bool
@@ -33,9 +31,9 @@ malformed l =
     || (eqb (length l.chars % 2) 1 || (any (λ c. not (is_value (value_of c))) l.chars || not l.fed))
 
 -- the bytes that a line's characters say, two to a byte
-abbrev pub byte_in : Decoded → ℕ
-byte_in (Value v) = v
-byte_in Invalid = 0
+abbrev pub byte_in : Option ℕ → ℕ
+byte_in (Some v) = v
+byte_in None = 0
 
 unfoldable pub bytes_of : List ℕ → List ℕ
 bytes_of [] = []
@@ -45,7 +43,7 @@ bytes_of (h ∷ l ∷ cs) = byte_in (decoded h l) ∷ bytes_of cs
 -- the characters that say bytes, and the line with its line feed
 unfoldable pub chars_of : List ℕ → List ℕ
 chars_of [] = []
-chars_of (b ∷ bs) = (encoded b).high ∷ (encoded b).low ∷ chars_of bs
+chars_of (b ∷ bs) = encoded b ++ chars_of bs
 
 abbrev pub line_text : List ℕ → List ℕ
 line_text bs = chars_of bs ++ (10 ∷ [])

@@ -1,8 +1,9 @@
-// What a table, its cells and its text are, as definitions with their laws. The only code takes an arc out of its cells.
+// What a table, its cells and its text are, as definitions with their laws. The only code takes an arc out of its cells and gives its cells.
 #![tactic(auto)]
 
 ghost use Rattle.std.specs.Prelude.{◌≡◌, ◌<◌};
-ghost use Rattle.table_format.specs.Cells.{arc_count, arc_of, arc_held};
+ghost use Rattle.table_format.specs.Cells.{arc_count, arc_of, arc_held, arc_said};
+ghost use Rattle.table_format.specs.Loaded.{arc_cells};
 
 // The cells of an arc.
 pub const ARC_WIDTH: usize = 5;
@@ -80,13 +81,28 @@ pub const PENALTY_LINE: usize = 2 * PENALTY_BYTES + 1;
 pub const MOST_PENALTY: u16 = 255;
 
 // An arc, out of its cells.
-#[derive(Clone, Copy)]
+#[derive(Clone, Copy, Debug, PartialEq, Eq)]
 pub struct Arc {
     pub source: u16,
     pub upper: u16,
     pub lower: u16,
     pub target: u16,
     pub penalty: u16,
+}
+
+impl Arc {
+    // Its cells.
+    pub fn cells(self) -> [u16; ARC_WIDTH]
+        ensures { result ≡ arc_cells (arc_said self) }
+    {
+        [
+            self.source,
+            self.upper,
+            self.lower,
+            self.target,
+            self.penalty,
+        ]
+    }
 }
 
 // The arc of number `n`.

@@ -3,6 +3,6 @@ pub mod LineKinds
 pub mod Parts
 pub mod Rows
 pub mod Filled
-pub mod Draft
+pub mod Tracked
 pub mod Judged
 pub mod More

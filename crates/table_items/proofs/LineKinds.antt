@@ -1,24 +1,24 @@
 -- The kinds of the lines after the header's: which one is due, what a line of each adds, and what it earns.
 use Prim.Native.Nat.{ℕ, ◌+◌, ◌<◌, ◌≤◌}
 use native.Mathlib.Omega.{arith}
-use native.Mathlib.Numerals.{add-one, add-two, add-three, add-four}
 use mathlib.Core.Path.{◌≡◌, refl, sym, ap, ap₂, ◌∙◌}
 use mathlib.Core.Logic.{⊎_elim}
 use mathlib.Core.Bool.{Bool, true, false, cond, not, ◌&&◌, ◌||◌, and-false, or-false}
 use mathlib.Core.List.{List, [], ◌∷◌}
 use lib.Dec.{eqb, leb}
-use lib.ListN.{length, get_or, set}
-use lib.Seq.{sets}
+use lib.ListN.{length, get_or}
 use borrow.Author.Tests.{leb-true, eqb-true, eq-eqb, ne_eqb, le-leb, lt-leb, lt-ltb, le-ltb}
 use Rattle.refusal.specs.declared.InputCause.{InputCause}
 use Rattle.refusal.specs.declared.InputCause.TheVariants.{Misplaced}
-use Rattle.table_rules.specs.declared.Judged.TheVariants.{Kept, Broken}
+use Rattle.std.specs.Prelude.{Result, Ok, Err}
 use Rattle.table_format.specs.Table.{Table, Counts}
 use Rattle.table_format.specs.Loaded.{initials_at, terminals_at, arcs_at, extent}
 use Rattle.table_format.specs.Text.{line_bytes}
 use Rattle.table_rules.specs.Judge.{judged}
 use Rattle.table_format.specs.Parse.{has_form, in_place, LineKind, class, initial, terminal, arc, end, code_of, width_of, penalty_kind, penalty_width, number_at, class_from, letters_from, is_of, item_faults, kind_faults}
-use Rattle.table_items.specs.Draft.{taken_as_class, kind_after, IsItem, place_of, filled_after, item_cells, item_key}
+use Rattle.table_items.specs.declared.LineKind.{LineKind as CodedKind}
+use Rattle.table_items.specs.declared.LineKind.TheVariants as Coded
+use Rattle.table_items.specs.Draft.{kind_said, taken_as_class, kind_after, one_number, IsItem, place_of, filled_after, item_cells, item_key}
 use Rattle.table_format.proofs.Tests.{and_left, and_right, and_both, or_cases}
 use Rattle.table_format.proofs.Parse.{judges_class}
 use Rattle.table_format.proofs.ClassLines.{ClassForm, class_form, ClassKept, class_kept}
@@ -37,43 +37,45 @@ not_taken filled first n = go (eqb filled initials_at) refl
     go false e = ap (λ (x : Bool). x && eqb first (code_of class)) e
 
 module _ (c : Counts) (filled first : ℕ) where
-  pub after_class : taken_as_class filled first ≡ true → kind_after c filled first ≡ code_of class
+  pub after_class : taken_as_class filled first ≡ true → kind_after c filled first ≡ class
   unfolding kind_after
   after_class h = simp h
 
   module _ (none : taken_as_class filled first ≡ false) where
-    pub after-initial : filled < terminals_at c → kind_after c filled first ≡ code_of initial
+    pub after-initial : filled < terminals_at c → kind_after c filled first ≡ initial
     unfolding kind_after
     after-initial h = simp (none, lt-ltb filled (terminals_at c) h)
 
-    pub after-terminal : terminals_at c ≤ filled → filled < arcs_at c → kind_after c filled first ≡ code_of terminal
+    pub after-terminal : terminals_at c ≤ filled → filled < arcs_at c → kind_after c filled first ≡ terminal
     unfolding kind_after
     after-terminal h k = simp (none, le-ltb filled (terminals_at c) h, lt-ltb filled (arcs_at c) k)
 
-    pub after-arc : arcs_at c ≤ filled → filled < extent c → kind_after c filled first ≡ code_of arc
+    pub after-arc : arcs_at c ≤ filled → filled < extent c → kind_after c filled first ≡ arc
     unfolding kind_after
     after-arc h k = simp (none, le-ltb filled (terminals_at c) (omega arith), le-ltb filled (arcs_at c) h, lt-ltb filled (extent c) k)
 
-    pub after_end_lem : extent c ≤ filled → kind_after c filled first ≡ code_of end
+    pub after_end_lem : extent c ≤ filled → kind_after c filled first ≡ end
     unfolding kind_after
     after_end_lem h = simp (none, le-ltb filled (terminals_at c) (omega arith), le-ltb filled (arcs_at c) (omega arith), le-ltb filled (extent c) h)
 
--- Kinds by their first byte.
+-- The kinds as code holds them.
 
-abbrev kind_for : ℕ → LineKind
-kind_for n =
-    cond (eqb n (code_of class)) class
-    (cond (eqb n (code_of initial)) initial (cond (eqb n (code_of terminal)) terminal (cond (eqb n (code_of arc)) arc end)))
+abbrev pub kind_held : LineKind → CodedKind
+kind_held class = Coded.Class
+kind_held initial = Coded.Initial
+kind_held terminal = Coded.Terminal
+kind_held arc = Coded.Arc
+kind_held end = Coded.End
 
-kind_for_lem : (k : LineKind) → kind_for (code_of k) ≡ k
-kind_for_lem class = refl
-kind_for_lem initial = refl
-kind_for_lem terminal = refl
-kind_for_lem arc = refl
-kind_for_lem end = refl
+kind_held-said : (h : CodedKind) → kind_held (kind_said h) ≡ h
+kind_held-said Coded.Class = refl
+kind_held-said Coded.Initial = refl
+kind_held-said Coded.Terminal = refl
+kind_held-said Coded.Arc = refl
+kind_held-said Coded.End = refl
 
-pub kind-one : (n : ℕ) (k : LineKind) → n ≡ code_of k → k ≡ kind_for n
-kind-one n k e = sym (kind_for_lem k) ∙ ap kind_for (sym e)
+pub kind_held_at : {h : CodedKind} (k : LineKind) → kind_said h ≡ k → h ≡ kind_held k
+kind_held_at {h} k e = sym (kind_held-said h) ∙ ap kind_held e
 
 -- The form of a line.
 
@@ -91,6 +93,9 @@ module _ (code width : ℕ) (b : List ℕ) where
 module _ (b : List ℕ) where
   pub class_is : get_or b 0 0 ≡ code_of class → width_of class ≤ length b → length b ≤ line_bytes → is_of class b ≡ true
   class_is e h k = and_both (eq-eqb (get_or b 0 0) (code_of class) e) (and_both (le-leb (width_of class) (length b) h) (le-leb (length b) line_bytes k))
+
+  pub class_other : (get_or b 0 0 ≡ code_of class → ⊥) → is_of class b ≡ false
+  class_other n = ap (λ (x : Bool). x && (leb (width_of class) (length b) && leb (length b) line_bytes)) (ne_eqb (get_or b 0 0) (code_of class) n)
 
   pub class_short : length b < width_of class → is_of class b ≡ false
   class_short h =
@@ -124,13 +129,6 @@ module _ (b : List ℕ) where
     pub arc-penalised : get_or b 0 0 ≡ penalty_kind → length b ≡ penalty_width → is_of arc b ≡ not (eqb (get_or b 7 0) 0)
     arc-penalised e w = penalised (has_form_lem penalty_kind penalty_width b e w)
 
-pub not_first : (k : LineKind) (b : List ℕ) → (code_of k ≡ code_of arc → ⊥) → (get_or b 0 0 ≡ code_of k → ⊥) → is_of k b ≡ false
-not_first class b h n = ap (λ (x : Bool). x && (leb (width_of class) (length b) && leb (length b) line_bytes)) (ne_eqb (get_or b 0 0) (code_of class) n)
-not_first initial b h n = not_code (code_of initial) (width_of initial) b n
-not_first terminal b h n = not_code (code_of terminal) (width_of terminal) b n
-not_first arc b h n = absurd (h refl)
-not_first end b h n = not_code (code_of end) (width_of end) b n
-
 -- the array of a line has room for each of its bytes
 
 few : (code width : ℕ) (b : List ℕ) → width ≤ line_bytes → has_form code width b ≡ true → length b ≤ line_bytes
@@ -147,21 +145,7 @@ form_short end b e = few (code_of end) (width_of end) b (omega arith) e
 
 -- Kinds that are none of the others.
 
-pub not-state : (k : LineKind) (b : List ℕ) → (code_of k ≡ code_of class → ⊥) → (code_of k ≡ code_of arc → ⊥) → (length b ≡ width_of initial → ⊥) → is_of k b ≡ false
-not-state class b g h n = absurd (g refl)
-not-state initial b g h n = not_wide (code_of initial) (width_of initial) b n
-not-state terminal b g h n = not_wide (code_of terminal) (width_of terminal) b n
-not-state arc b g h n = absurd (h refl)
-not-state end b g h n = not_wide (code_of end) (width_of end) b n
-
-pub end-only : (k : LineKind) → (code_of k ≡ code_of class → ⊥) → (code_of k ≡ code_of initial → ⊥) → (code_of k ≡ code_of terminal → ⊥) → (code_of k ≡ code_of arc → ⊥) → k ≡ end
-end-only class d f g h = absurd (d refl)
-end-only initial d f g h = absurd (f refl)
-end-only terminal d f g h = absurd (g refl)
-end-only arc d f g h = absurd (h refl)
-end-only end d f g h = refl
-
-pub item-only : (k : LineKind) → (code_of k ≡ code_of end → ⊥) → IsItem k
+pub item-only : (k : LineKind) → (k ≡ end → ⊥) → IsItem k
 item-only class f = tt
 item-only initial f = tt
 item-only terminal f = tt
@@ -170,7 +154,7 @@ item-only end f = absurd (f refl)
 
 -- What a line of an item adds to the cells, and its key.
 
-pub cells-one : (k : LineKind) (b : List ℕ) (n filled : ℕ) → (code_of k ≡ code_of class → ⊥) → (code_of k ≡ code_of arc → ⊥) → IsItem k → n ≡ number_at b 1
+pub cells-one : (k : LineKind) (b : List ℕ) (n filled : ℕ) → (k ≡ class → ⊥) → (k ≡ arc → ⊥) → IsItem k → n ≡ number_at b 1
     → (item_cells k b ≡ n ∷ []) × (place_of k b filled ≡ filled) × (filled_after k b filled ≡ filled + 1)
 cells-one class b n filled g h i e = absurd (g refl)
 cells-one initial b n filled g h i e = (ap (λ (m : ℕ). m ∷ []) (sym e), refl, refl)
@@ -178,36 +162,56 @@ cells-one terminal b n filled g h i e = (ap (λ (m : ℕ). m ∷ []) (sym e), re
 cells-one arc b n filled g h i e = absurd (h refl)
 cells-one end b n filled g h i e = absurd i
 
-pub key-none : (k : LineKind) (b : List ℕ) → (code_of k ≡ code_of initial → ⊥) → (code_of k ≡ code_of arc → ⊥) → IsItem k → item_key k b ≤ 0
+pub key-none : (k : LineKind) (b : List ℕ) → (k ≡ initial → ⊥) → (k ≡ arc → ⊥) → IsItem k → item_key k b ≤ 0
 key-none class b h g i = omega arith
 key-none initial b h g i = absurd (h refl)
 key-none terminal b h g i = omega arith
 key-none arc b h g i = absurd (g refl)
 key-none end b h g i = absurd i
 
-pub put_five : (l : List ℕ) (i x y z w v : ℕ) → set (set (set (set (set l i x) (i + 1) y) (i + 2) z) (i + 3) w) (i + 4) v ≡ sets l i (x ∷ y ∷ z ∷ w ∷ v ∷ [])
-put_five l i x y z w v = simp (add-one, add-two, add-three, add-four)
-
 -- What a line earns: misplaced, or what its item earns.
 
-pub misplaced : {x : Bool} (faults : List InputCause) → x ≡ false → judged (in_place x faults) ≡ Broken Misplaced
+pub misplaced : {x : Bool} (faults : List InputCause) → x ≡ false → judged (in_place x faults) ≡ Err Misplaced
 misplaced faults e = ap (λ (x : Bool). judged (in_place x faults)) e
 
 pub placed : {x : Bool} (faults : List InputCause) → x ≡ true → judged (in_place x faults) ≡ judged faults
 placed faults e = ap (λ (x : Bool). judged (in_place x faults)) e
 
-pub kept_form : (k : LineKind) (t : Table) (b : List ℕ) → judged (kind_faults k t b) ≡ Kept → is_of k b ≡ true
+pub kept_form : (k : LineKind) (t : Table) (b : List ℕ) → judged (kind_faults k t b) ≡ Ok tt → is_of k b ≡ true
 kept_form k t b e = go (is_of k b) refl
   where
     go : (x : Bool) → is_of k b ≡ x → is_of k b ≡ true
     go true h = h
     go false h = cc (sym (misplaced (item_faults k t b) h) ∙ e)
 
-pub kept-item : (k : LineKind) (t : Table) (b : List ℕ) → judged (kind_faults k t b) ≡ Kept → judged (item_faults k t b) ≡ Kept
+pub kept-item : (k : LineKind) (t : Table) (b : List ℕ) → judged (kind_faults k t b) ≡ Ok tt → judged (item_faults k t b) ≡ Ok tt
 kept-item k t b e = sym (placed (item_faults k t b) (kept_form k t b e)) ∙ e
 
+-- the number of a line that is to have one
+pub one-misplaced : (code : ℕ) (b : List ℕ) → has_form code (width_of initial) b ≡ false → Err Misplaced ≡ one_number code b
+one-misplaced code b h = sym (ap (λ (x : Bool). cond {A = Result ℕ InputCause} x (Ok (number_at b 1)) (Err Misplaced)) h)
+
+pub one-said : (code : ℕ) (b : List ℕ) {n : ℕ} → has_form code (width_of initial) b ≡ true → n ≡ number_at b 1 → Ok n ≡ one_number code b
+one-said code b h e = ap Ok e ∙ sym (ap (λ (x : Bool). cond {A = Result ℕ InputCause} x (Ok (number_at b 1)) (Err Misplaced)) h)
+
+-- what a line that is to have one number earns: misplaced, where it has none, or what its item earns
+module _ (code : ℕ) (b : List ℕ) {r : Result ℕ InputCause} (told : r ≡ one_number code b) where
+  pub one-none : {e : InputCause} → r ≡ Err e → (faults : List InputCause) → judged (in_place (has_form code (width_of initial) b) faults) ≡ Err e
+  one-none {e} is faults = go (has_form code (width_of initial) b) refl
+    where
+      go : (x : Bool) → has_form code (width_of initial) b ≡ x → judged (in_place (has_form code (width_of initial) b) faults) ≡ Err e
+      go true h = absurd (let z : ◌≡◌ {A = ℕ} 0 1 = cc (sym is ∙ told ∙ ap (λ (x : Bool). cond {A = Result ℕ InputCause} x (Ok (number_at b 1)) (Err Misplaced)) h) in omega arith)
+      go false h = misplaced faults h ∙ ap Err (cc (sym is ∙ told ∙ ap (λ (x : Bool). cond {A = Result ℕ InputCause} x (Ok (number_at b 1)) (Err Misplaced)) h))
+
+  pub one-some : {n : ℕ} → r ≡ Ok n → (has_form code (width_of initial) b ≡ true) × (n ≡ number_at b 1)
+  one-some {n} is = go (has_form code (width_of initial) b) refl
+    where
+      go : (x : Bool) → has_form code (width_of initial) b ≡ x → (has_form code (width_of initial) b ≡ true) × (n ≡ number_at b 1)
+      go true h = (h, cc (sym is ∙ told ∙ ap (λ (x : Bool). cond {A = Result ℕ InputCause} x (Ok (number_at b 1)) (Err Misplaced)) h))
+      go false h = absurd (let z : ◌≡◌ {A = ℕ} 0 1 = cc (sym is ∙ told ∙ ap (λ (x : Bool). cond {A = Result ℕ InputCause} x (Ok (number_at b 1)) (Err Misplaced)) h) in omega arith)
+
 -- what a class line that earns no refusal says
-pub class_held : (t : Table) (b : List ℕ) → judged (kind_faults class t b) ≡ Kept → ClassForm b × ClassKept t.classes (class_from b) (letters_from b)
+pub class_held : (t : Table) (b : List ℕ) → judged (kind_faults class t b) ≡ Ok tt → ClassForm b × ClassKept t.classes (class_from b) (letters_from b)
 class_held t b e = (
   class_form b (kept_form class t b e),
   class_kept t.classes (class_from b) (letters_from b) (sym (judges_class t b) ∙ kept-empty (item_faults class t b) (kept-item class t b e)),

@@ -6,7 +6,7 @@ use mathlib.Core.Bool.{true}
 use mathlib.Core.List.{List, [], ◌∷◌, ◌++◌, append_assoc, append-nil}
 use lib.ListN.{length, set, replicate, length-append}
 use lib.Seq.{sets, length-sets}
-use Rattle.table_rules.specs.declared.Judged.TheVariants.{Kept}
+use Rattle.std.specs.Prelude.{Ok}
 use Rattle.table_format.specs.Table.{Arc, Table, Counts}
 use Rattle.table_format.specs.Classes.{class_count, row_width, row_with, no_classes}
 use Rattle.table_format.specs.Rules.{each, counts_hold, initial_faults, terminal_faults, arc_faults, arcs_keep}
@@ -24,7 +24,7 @@ use Rattle.table_items.proofs.LineKinds.{kept-item, class_held}
 use Rattle.table_items.proofs.Parts.{sets-left, sets_right}
 use Rattle.table_items.proofs.Rows.{rows-set}
 use Rattle.table_items.proofs.Filled.{sets-filled, sets-within, filled-zeros}
-use Rattle.table_items.proofs.Draft.{filled_at, lists_due}
+use Rattle.table_items.proofs.Tracked.{filled_at, lists_due}
 
 abbrev pub extend : LineKind → Table → List ℕ → Table
 extend class t b = table_with t.states (set t.classes (class_from b) (row_with (letters_from b))) t.initials t.terminals t.arcs
@@ -132,7 +132,7 @@ module _ {c : Counts} {t : Table} {lines filled top : ℕ} {cells : List ℕ} (T
         ap (λ (x : List ℕ). sets x (row_at b) row) T.cells_are
         ∙ sets-within (draft_cells c t) (row_at b) row (omega (arith, row-long, T.filled_is, filled_at T)) ∙ ap filled_up draft_class
 
-  pub tracks-more : (k : LineKind) → due c t b ≡ k → IsItem k → judged (kind_faults k t b) ≡ Kept → item_key k b ≤ top'
+  pub tracks-more : (k : LineKind) → due c t b ≡ k → IsItem k → judged (kind_faults k t b) ≡ Ok tt → item_key k b ≤ top'
       → Tracks c (extend k t b) (lines + 1) (filled_after k b filled) top' (sets cells (place_of k b filled) (item_cells k b))
   unfolding item_faults each
   tracks-more class e i kept key =

@@ -3,9 +3,10 @@ use Prim.Native.Nat.{ℕ, zero, suc, ◌+◌, ◌-◌, ◌*◌, ◌≤◌, ◌<�
 use native.Mathlib.Omega.{arith}
 use native.Mathlib.Numerals.{add-one}
 use mathlib.Core.Path.{◌≡◌, refl, sym, ap, ap₂, ◌∙◌}
-use mathlib.Core.List.{List, [], ◌∷◌, ◌++◌, append-nil}
+use mathlib.Core.List.{List, [], ◌∷◌, ◌++◌, append_assoc, append-nil}
 use lib.ListN.{length, get_or, take, drop, set, replicate, length-drop, drop_of_length-le}
-use lib.Seq.{sets, sets-eq, length-take-le, take-suc, take_at, take-take, drop-append-le}
+use lib.Seq.{sets, sets-eq, drop-drop, length-take-le, take-suc, take_at, take-take, drop-append-le}
+use borrow.Rule.Slice.PartMut.{put_mid}
 use Rattle.table_format.specs.Classes.{class_count, row_width, row_with}
 use Rattle.table_format.specs.Rules.{class_holds}
 use Rattle.table_format.specs.Loaded.{classes_at, class_cells, rows_cells, rows_in, classes_in}
@@ -37,6 +38,12 @@ pub stored_more : (cells : List ℕ) (at k : ℕ) (l : List ℕ) {v : ℕ} → k
 stored_more cells at k l {v} h e =
     sets-append cells at (at + k) (take k l) (v ∷ []) (omega (arith, length-take-le k l (omega arith)))
     ∙ ap (sets cells at) (ap (λ (x : ℕ). take k l ++ (x ∷ [])) e ∙ sym (take-suc l k 0 h) ∙ ap (λ (n : ℕ). take n l) (sym (add-one k)))
+
+-- a list put in the place of as many cells
+pub part_set : (cells : List ℕ) (at k : ℕ) (part l : List ℕ) → k ≡ length l → part ≡ l → at + k ≤ length cells → put_mid at k cells part ≡ sets cells at l
+part_set cells at k part l w e h =
+    ap₂ (λ (x y : List ℕ). take at cells ++ (x ++ y)) e (drop-drop k at cells ∙ at_equal (λ n. drop n cells) (at + k) (at + length l) (omega arith))
+    ∙ sym (append_assoc (take at cells) l (drop (at + length l) cells)) ∙ sym (sets-eq l cells at (omega arith))
 
 -- rows are those of the cells that hold them
 pub rows-front : (n : ℕ) (cells : List ℕ) → rows_in n (take (row_width * n) cells) ≡ rows_in n cells

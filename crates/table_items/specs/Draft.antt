@@ -1,12 +1,16 @@
 -- What the code of the reader holds of a table while it reads the lines after the header's.
-use Rattle.std.specs.Prelude.{ℕ, ◌+◌, ◌-◌, ◌*◌, ◌≤◌, ◌<◌, ◌≡◌, Bool, true, cond, ◌&&◌, List, [], ◌∷◌, ◌++◌, eqb, ltb, length, get_or, take, drop, replicate}
+use Rattle.std.specs.Prelude.{ℕ, ◌+◌, ◌-◌, ◌*◌, ◌≤◌, ◌<◌, ◌≡◌, Bool, true, cond, ◌&&◌, List, [], ◌∷◌, ◌++◌, eqb, ltb, length, get_or, take, drop, replicate, Result, Ok, Err}
+use Rattle.refusal.specs.declared.InputCause.{InputCause}
+use Rattle.refusal.specs.declared.InputCause.TheVariants.{Misplaced}
 use Rattle.table_format.specs.Table.{Arc, Table, Counts}
 use Rattle.table_format.specs.Classes.{row_width, row_with}
 use Rattle.table_format.specs.Rules.{counts_hold, classes_keep, initials_keep, terminals_keep, arcs_keep}
 use Rattle.table_format.specs.Loaded.{arc_width, classes_at, initials_at, most_cells, count_cells, rows_cells, arc_cells, arcs_cells, counts_in, classes_in, terminals_at, arcs_at, extent}
 use Rattle.table_format.specs.Text.{lines_before}
-use Rattle.table_format.specs.Parse.{LineKind, class, initial, terminal, arc, end, code_of, due, number_at, arc_from, class_from, letters_from}
+use Rattle.table_format.specs.Parse.{LineKind, class, initial, terminal, arc, end, code_of, width_of, has_form, due, number_at, arc_from, class_from, letters_from}
 use Rattle.table_format.specs.Cells.{arcs_as}
+use Rattle.table_items.specs.declared.LineKind.{LineKind as CodedKind}
+use Rattle.table_items.specs.declared.LineKind.TheVariants as Coded
 use Rattle.table_rules.specs.Judge.{largest, state_key, arc_key}
 
 -- cells filled up with 0, to the most that a table can have
@@ -17,16 +21,27 @@ filled_up cells = cells ++ replicate (most_cells - length cells) 0
 unfoldable pub draft_cells : Counts → Table → List ℕ
 draft_cells c t = count_cells c ++ (rows_cells t.classes ++ (t.initials ++ (t.terminals ++ arcs_cells t.arcs)))
 
+-- the kind of a line, as code holds it
+abbrev pub kind_said : CodedKind → LineKind
+kind_said Coded.Class = class
+kind_said Coded.Initial = initial
+kind_said Coded.Terminal = terminal
+kind_said Coded.Arc = arc
+kind_said Coded.End = end
+
 -- a line is taken as a class's where its first byte is a class's and no initial state has been read
 abbrev pub taken_as_class : ℕ → ℕ → Bool
 taken_as_class filled first = eqb filled initials_at && eqb first (code_of class)
 
--- the kind of the next line, as its first byte (of an arc's, the one without a penalty), by the counts, the cells so far and the first byte that it has
-unfoldable pub kind_after : Counts → ℕ → ℕ → ℕ
+-- the kind of the next line, by the counts, the cells so far and the first byte that it has
+unfoldable pub kind_after : Counts → ℕ → ℕ → LineKind
 kind_after c filled first =
-    code_of
-    (cond (taken_as_class filled first) class
-    (cond (ltb filled (terminals_at c)) initial (cond (ltb filled (arcs_at c)) terminal (cond (ltb filled (extent c)) arc end))))
+    cond (taken_as_class filled first) class
+    (cond (ltb filled (terminals_at c)) initial (cond (ltb filled (arcs_at c)) terminal (cond (ltb filled (extent c)) arc end)))
+
+-- the number of a line that is of a first byte and one number, as the line of a state and the end line are; other lines are misplaced there
+abbrev pub one_number : ℕ → List ℕ → Result ℕ InputCause
+one_number code b = cond (has_form code (width_of initial) b) (Ok (number_at b 1)) (Err Misplaced)
 
 -- the kinds of items
 abbrev pub IsItem : LineKind → Type 0
@@ -92,12 +107,12 @@ pub record Tracks (c : Counts) (t : Table) (lines filled top : ℕ) (cells : Lis
   pub top-arcs : largest arc_key t.arcs ≤ top
 
 -- some table is so tracked, and a line of this kind is due
-pub record Drafted (lines filled top : ℕ) (cells : List ℕ) (kind : ℕ) : Type 0 where
+pub record Drafted (lines filled top : ℕ) (cells : List ℕ) (kind : LineKind) : Type 0 where
   pub counts : Counts
   pub table : Table
   pub bytes : List ℕ
   pub tracks : Tracks counts table lines filled top cells
-  pub kind-is : kind ≡ code_of (due counts table bytes)
+  pub kind-is : kind ≡ due counts table bytes
 
 -- the arcs in the cells so far
 abbrev pub arcs_held : List ℕ → ℕ → List Arc

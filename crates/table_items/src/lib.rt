@@ -8,130 +8,94 @@ ghost use Rattle.table_format.specs.Classes.{class_count};
 ghost use Rattle.table_format.specs.Rules.{class_faults, arc_faults};
 ghost use Rattle.table_format.specs.Loaded.{initials_at, arc_width, counts_in, classes_in};
 ghost use Rattle.table_format.specs.Text.{line_bytes};
-ghost use Rattle.table_format.specs.Parse.{LineKind, class, arc, code_of, in_place, is_of, due, arc_from, class_from, letters_from, kind_faults};
+ghost use Rattle.table_format.specs.Parse.{class, arc, has_form, in_place, is_of, due, arc_from, class_from, letters_from, kind_faults};
 ghost use Rattle.table_rules.specs.Judge.{judged};
 ghost use Rattle.table_scanner.specs.Scan.{padded};
-ghost use Rattle.table_items.specs.Draft.{kind_after, IsItem, Tracks, Drafted, arcs_held, ArcsReady, row_at, place_of, filled_after, item_cells, item_key};
+ghost use Rattle.table_items.specs.Draft.{kind_said, kind_after, one_number, IsItem, Tracks, Drafted, arcs_held, ArcsReady, row_at, place_of, filled_after, item_cells, item_key};
 
 use refusal::InputCause;
 use table_format::{
     ARC_BYTES, ARC_KIND, ARC_WIDTH, CLASS_BYTES, CLASS_KIND, CLASSES_AT, END_KIND, INITIAL_KIND,
     INITIALS_AT, LINE_BYTES, PENALTY_BYTES, PENALTY_KIND, ROW_WIDTH, STATE_BYTES, TERMINAL_KIND,
 };
-use table_rules::Judged;
 use table_scanner::{arc_in, number_at};
 
-// The kind of the next line, from the counts, the cells so far and the line's first byte.
-pub fn kind_due(cells: &[u16], filled: usize, first: u8) -> u8
-    requires { initials_at ≤ length cells.now }
-    ensures { result ≡ kind_after (counts_in cells.now) filled first }
-{
-    if filled == INITIALS_AT {
-        if first == CLASS_KIND {
-            return CLASS_KIND;
+// The kinds of the lines after the header's.
+#[derive(Clone, Copy, Debug, PartialEq, Eq)]
+pub enum LineKind {
+    Class,
+    Initial,
+    Terminal,
+    Arc,
+    End,
+}
+
+// What a line says: its bytes, from the front of an array that is filled up with 0, as far as it has room, and how many they are.
+#[derive(Clone, Copy)]
+pub struct ItemLine {
+    pub bytes: [u8; LINE_BYTES],
+    pub count: usize,
+}
+
+// How far a table has been read: its lines so far, its cells so far, and a number that no key of its items is above.
+#[derive(Clone, Copy)]
+pub struct Draft {
+    pub lines: usize,
+    pub filled: usize,
+    pub top: u64,
+}
+
+impl ItemLine {
+    // Whether the line has a form: a first byte, and how many bytes.
+    fn has_form(self, kind: u8, count: usize) -> bool
+        ensures { (b : List ℕ) → self.bytes ≡ padded b → self.count ≡ length b → result ≡ has_form kind count b }
+    {
+        self.bytes[0] == kind && self.count == count
+    }
+
+    // The number of a line of a kind and one number: an initial state's, a terminal state's, the end's.
+    fn number(self, kind: u8) -> Result<u16, InputCause>
+        ensures { (b : List ℕ) → self.bytes ≡ padded b → self.count ≡ length b → result ≡ one_number kind b }
+    {
+        if !self.has_form(kind, STATE_BYTES) {
+            return Err(InputCause::Misplaced);
         }
+        Ok(number_at(self.bytes, 1))
     }
-    let terminals = INITIALS_AT + widen::cell_as_index(cells[1]);
-    if filled < terminals {
-        return INITIAL_KIND;
-    }
-    let arcs = terminals + widen::cell_as_index(cells[2]);
-    if filled < arcs {
-        return TERMINAL_KIND;
-    }
-    if filled < arcs + ARC_WIDTH * widen::cell_as_index(cells[3]) {
-        return ARC_KIND;
-    }
-    END_KIND
-}
 
-// What a class line earns, after the classes before it.
-fn class_item(cells: &[u16], bytes: [u8; LINE_BYTES], count: usize) -> Judged
-    requires { initials_at ≤ length cells.now }
-    ensures { (b : List ℕ) → bytes ≡ padded b → count ≡ length b → get_or b 0 0 ≡ code_of class
-        → result ≡ judged (in_place (is_of class b) (class_faults (classes_in cells.now) (class_from b) (letters_from b))) }
-{
-    if count < CLASS_BYTES {
-        return Judged::Broken(InputCause::Misplaced);
+    // What a class line earns, after the classes before it.
+    fn class_fault(self, cells: &[u16]) -> Result<(), InputCause>
+        requires { initials_at ≤ length cells.now }
+        ensures { (b : List ℕ) → self.bytes ≡ padded b → self.count ≡ length b
+            → result ≡ judged (in_place (is_of class b) (class_faults (classes_in cells.now) (class_from b) (letters_from b))) }
+    {
+        if self.bytes[0] != CLASS_KIND || self.count < CLASS_BYTES || LINE_BYTES < self.count {
+            return Err(InputCause::Misplaced);
+        }
+        let rows = &cells[CLASSES_AT..INITIALS_AT];
+        if !table_classes::class_holds(rows, self.bytes[1], &self.bytes[2..self.count]) {
+            return Err(InputCause::ClassFault);
+        }
+        Ok(())
     }
-    if LINE_BYTES < count {
-        return Judged::Broken(InputCause::Misplaced);
-    }
-    if table_classes::class_holds(&cells[CLASSES_AT..INITIALS_AT], bytes[1], &bytes[2..count]) {
-        Judged::Kept
-    } else {
-        Judged::Broken(InputCause::ClassFault)
-    }
-}
 
-// Whether a line is an arc's, by its first byte and its length: of a kind of its own where it has a penalty, which is then not 0.
-fn is_arc_line(bytes: [u8; LINE_BYTES], count: usize) -> bool
-    ensures { (b : List ℕ) → bytes ≡ padded b → count ≡ length b → result ≡ is_of arc b }
-{
-    if bytes[0] == ARC_KIND {
-        return count == ARC_BYTES;
+    // Whether a line is an arc's, by its first byte and its length: of a kind of its own where it has a penalty, which is then not 0.
+    fn is_arc(self) -> bool
+        ensures { (b : List ℕ) → self.bytes ≡ padded b → self.count ≡ length b → result ≡ is_of arc b }
+    {
+        self.has_form(ARC_KIND, ARC_BYTES)
+            || self.has_form(PENALTY_KIND, PENALTY_BYTES) && self.bytes[7] != 0
     }
-    if bytes[0] != PENALTY_KIND {
-        return false;
-    }
-    if count != PENALTY_BYTES {
-        return false;
-    }
-    bytes[7] != 0
-}
 
-// What an arc line earns, after the arcs before it.
-fn arc_item(cells: &[u16], bytes: [u8; LINE_BYTES], count: usize, filled: usize, top: u64) -> Judged
-    requires { ArcsReady cells.now filled top }
-    ensures { (b : List ℕ) → bytes ≡ padded b → count ≡ length b
-        → result ≡ judged (in_place (is_of arc b) (arc_faults (get_or cells.now 0 0) (classes_in cells.now) (arcs_held cells.now filled) (arc_from b))) }
-{
-    if !is_arc_line(bytes, count) {
-        return Judged::Broken(InputCause::Misplaced);
-    }
-    let from = INITIALS_AT + widen::cell_as_index(cells[1]) + widen::cell_as_index(cells[2]);
-    let rows = &cells[CLASSES_AT..INITIALS_AT];
-    table_rules::arc_fault(rows, &cells[from..filled], cells[0], arc_in(bytes), top)
-}
-
-// What a line earns, of the kind that is due.
-pub fn item_fault(
-    cells: &[u16],
-    kind: u8,
-    bytes: [u8; LINE_BYTES],
-    count: usize,
-    lines: usize,
-    filled: usize,
-    top: u64,
-) -> Judged
-    requires { Drafted lines filled top cells.now kind }
-    ensures { (c : Counts) (t : Table) (b : List ℕ) → Tracks c t lines filled top cells.now → kind ≡ code_of (due c t b)
-        → bytes ≡ padded b → count ≡ length b → result ≡ judged (kind_faults (due c t b) t b) }
-{
-    if kind == ARC_KIND {
-        return arc_item(cells, bytes, count, filled, top);
-    }
-    if bytes[0] != kind {
-        return Judged::Broken(InputCause::Misplaced);
-    }
-    if kind == CLASS_KIND {
-        return class_item(cells, bytes, count);
-    }
-    if count != STATE_BYTES {
-        return Judged::Broken(InputCause::Misplaced);
-    }
-    let number = number_at(bytes, 1);
-    if kind == INITIAL_KIND {
-        return table_rules::initial_fault(&cells[INITIALS_AT..filled], cells[0], number, top);
-    }
-    if kind == TERMINAL_KIND {
-        let from = INITIALS_AT + widen::cell_as_index(cells[1]);
-        return table_rules::terminal_fault(&cells[from..filled], cells[0], number);
-    }
-    if widen::cell_as_index(number) == lines {
-        Judged::Kept
-    } else {
-        Judged::Broken(InputCause::LineCount)
+    // The key of the line's item, 0 where it has none.
+    pub fn key(self, kind: LineKind) -> u64
+        ensures { (b : List ℕ) → IsItem (kind_said kind) → self.bytes ≡ padded b → item_key (kind_said kind) b ≤ result }
+    {
+        match kind {
+            LineKind::Initial => table_rules::state_key(number_at(self.bytes, 1)),
+            LineKind::Arc => table_rules::arc_key(arc_in(self.bytes)),
+            _ => 0,
+        }
     }
 }
 
@@ -140,47 +104,102 @@ fn put_class(cells: &mut [u16], bytes: [u8; LINE_BYTES])
     requires { (get_or bytes 1 0 < class_count) × (initials_at ≤ length cells.old) }
     ensures { cells.new ≡ sets cells.old (row_at bytes) (drop 2 bytes) }
 {
-    let at = CLASSES_AT + ROW_WIDTH * widen::byte_as_index(bytes[1]);
-    let mut k = 0;
-    while k < ROW_WIDTH {
-        cells[at + k] = widen::byte_as_cell(bytes[k + 2]);
-        k += 1;
+    let at = CLASSES_AT + ROW_WIDTH * usize::from(bytes[1]);
+    for k in 0..ROW_WIDTH {
+        cells[at + k] = u16::from(bytes[k + 2]);
     }
 }
 
-// The line's item: a class at its place, others behind the cells so far; how many there are then.
-pub fn append(cells: &mut [u16], kind: u8, bytes: [u8; LINE_BYTES], filled: usize) -> usize
-    requires arc_width_in_bounds { (filled + arc_width ≤ length cells.old) × (initials_at ≤ length cells.old) }
-    requires bytes_bound { kind ≡ code_of class → get_or bytes 1 0 < class_count }
-    ensures { (k : LineKind) (b : List ℕ) → kind ≡ code_of k → IsItem k → bytes ≡ padded b → length b ≤ line_bytes
-        → (result ≡ filled_after k b filled) × (cells.new ≡ sets cells.old (place_of k b filled) (item_cells k b)) }
-{
-    if kind == CLASS_KIND {
-        put_class(cells, bytes);
-        return filled;
+impl Draft {
+    #[tactic(auto, unfolding(crate::specs::Draft::kind_after))]
+    // The kind of the next line, from the counts, the cells so far and the line's first byte.
+    pub fn kind_due(self, cells: &[u16], first: u8) -> LineKind
+        requires { initials_at ≤ length cells.now }
+        ensures { kind_said result ≡ kind_after (counts_in cells.now) self.filled first }
+    {
+        if self.filled == INITIALS_AT && first == CLASS_KIND {
+            return LineKind::Class;
+        }
+        let terminals = INITIALS_AT + usize::from(cells[1]);
+        let arcs = terminals + usize::from(cells[2]);
+        let end = arcs + ARC_WIDTH * usize::from(cells[3]);
+        if self.filled < terminals {
+            LineKind::Initial
+        } else if self.filled < arcs {
+            LineKind::Terminal
+        } else if self.filled < end {
+            LineKind::Arc
+        } else {
+            LineKind::End
+        }
     }
-    if kind != ARC_KIND {
-        cells[filled] = number_at(bytes, 1);
-        return filled + 1;
-    }
-    let arc = arc_in(bytes);
-    cells[filled] = arc.source;
-    cells[filled + 1] = arc.upper;
-    cells[filled + 2] = arc.lower;
-    cells[filled + 3] = arc.target;
-    cells[filled + 4] = arc.penalty;
-    filled + ARC_WIDTH
-}
 
-// The key of the line's item, 0 where it has none.
-pub fn item_key(kind: u8, bytes: [u8; LINE_BYTES]) -> u64
-    ensures { (k : LineKind) (b : List ℕ) → kind ≡ code_of k → IsItem k → bytes ≡ padded b → item_key k b ≤ result }
-{
-    if kind == INITIAL_KIND {
-        return table_rules::state_key(number_at(bytes, 1));
+    // What an arc line earns, after the arcs before it.
+    fn arc_fault(self, cells: &[u16], line: ItemLine) -> Result<(), InputCause>
+        requires { ArcsReady cells.now self.filled self.top }
+        ensures { (b : List ℕ) → line.bytes ≡ padded b → line.count ≡ length b
+            → result ≡ judged (in_place (is_of arc b) (arc_faults (get_or cells.now 0 0) (classes_in cells.now) (arcs_held cells.now self.filled) (arc_from b))) }
+    {
+        if !line.is_arc() {
+            return Err(InputCause::Misplaced);
+        }
+        let from = INITIALS_AT + usize::from(cells[1]) + usize::from(cells[2]);
+        let rows = &cells[CLASSES_AT..INITIALS_AT];
+        let before = &cells[from..self.filled];
+        table_rules::arc_fault(rows, before, cells[0], arc_in(line.bytes), self.top)
     }
-    if kind == ARC_KIND {
-        return table_rules::arc_key(arc_in(bytes));
+
+    // What a line earns, of the kind that is due.
+    pub fn item_fault(self, cells: &[u16], kind: LineKind, line: ItemLine) -> Result<(), InputCause>
+        requires { Drafted self.lines self.filled self.top cells.now (kind_said kind) }
+        ensures { (c : Counts) (t : Table) (b : List ℕ) → Tracks c t self.lines self.filled self.top cells.now → kind_said kind ≡ due c t b
+            → line.bytes ≡ padded b → line.count ≡ length b → result ≡ judged (kind_faults (due c t b) t b) }
+    {
+        match kind {
+            LineKind::Class => line.class_fault(cells),
+            LineKind::Initial => {
+                let state = line.number(INITIAL_KIND)?;
+                let before = &cells[INITIALS_AT..self.filled];
+                table_rules::initial_fault(before, cells[0], state, self.top)
+            }
+            LineKind::Terminal => {
+                let state = line.number(TERMINAL_KIND)?;
+                let from = INITIALS_AT + usize::from(cells[1]);
+                table_rules::terminal_fault(&cells[from..self.filled], cells[0], state)
+            }
+            LineKind::Arc => self.arc_fault(cells, line),
+            LineKind::End => {
+                let lines = line.number(END_KIND)?;
+                if usize::from(lines) != self.lines {
+                    return Err(InputCause::LineCount);
+                }
+                Ok(())
+            }
+        }
     }
-    0
+
+    // The line's item: a class at its place, others behind the cells so far; how many there are then.
+    pub fn append(self, cells: &mut [u16], kind: LineKind, line: ItemLine) -> usize
+        requires arc_width_in_bounds { (self.filled + arc_width ≤ length cells.old) × (initials_at ≤ length cells.old) }
+        requires bytes_bound { kind_said kind ≡ class → get_or line.bytes 1 0 < class_count }
+        ensures { (b : List ℕ) → IsItem (kind_said kind) → line.bytes ≡ padded b → length b ≤ line_bytes
+            → (result ≡ filled_after (kind_said kind) b self.filled)
+            × (cells.new ≡ sets cells.old (place_of (kind_said kind) b self.filled) (item_cells (kind_said kind) b)) }
+    {
+        match kind {
+            LineKind::Class => {
+                put_class(cells, line.bytes);
+                self.filled
+            }
+            LineKind::Arc => {
+                let end = self.filled + ARC_WIDTH;
+                cells[self.filled..end].copy_from_slice(&arc_in(line.bytes).cells());
+                end
+            }
+            _ => {
+                cells[self.filled] = number_at(line.bytes, 1);
+                self.filled + 1
+            }
+        }
+    }
 }

@@ -32,11 +32,6 @@ joined-more n a h e =
     high : bit_or n (joined_letters a) / 65536 ≡ bit_or (n / 65536) a.lower
     high = or_shr n (joined_letters a) 16 ∙ ap (bit_or (n / 65536)) {x = joined_letters a / 65536} {y = a.lower} (omega arith)
 
--- an upper letter over 63 means a class
-pub joined_over : (n : ℕ) → 63 < n % 65536 → joined_plain n ≡ false
-unfolding joined_plain
-joined_over n h = simp (lt-leb (n % 65536) 63 h)
-
 -- the penalty of one arc more
 pub penalty-more : (n p : ℕ) → leb (bit_or n p) 255 ≡ (leb n 255 && leb p 255)
 penalty-more n p = go (leb n 255) (leb p 255) refl refl

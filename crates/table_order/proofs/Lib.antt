@@ -2,3 +2,4 @@
 pub mod Joined
 pub mod Rising
 pub mod Terminals
+pub mod Ranges

@@ -9,6 +9,8 @@ use lib.Dec.{ltb}
 use lib.ListN.{length, get_or, take}
 use lib.Seq.{take-suc}
 use borrow.Author.Tests.{ltb-true, lt-ltb}
+use Rattle.std.specs.Prelude.{Some, None, slice_get}
+use Rattle.std.proofs.lemmas.Option.{slice_get_within, get_or_from_slice_get, slice_get-get_or}
 use Rattle.table_format.specs.Rules.{each, state_holds, terminal_rises, terminals_keep}
 use Rattle.table_format.proofs.Tests.{and_right, and_both}
 use Rattle.table_format.proofs.Rules.{terminal_passes, terminal-clear}
@@ -23,10 +25,10 @@ unfolding each
 rise_one [] = refl
 rise_one (x ∷ xs) = refl
 
-pub keeps-none : (list : List ℕ) (n : ℕ) → length list ≡ 0 → terminals_keep n list ≡ true
+pub keeps-none : (list : List ℕ) (n : ℕ) → None ≡ slice_get list (length list - 1) → terminals_keep n list ≡ true
 unfolding each
 keeps-none [] n e = refl
-keeps-none (x ∷ xs) n e = absurd (omega arith)
+keeps-none (x ∷ xs) n e = let s = slice_get-get_or (x ∷ xs) (length (x ∷ xs) - 1) 0 (omega arith) in cc
 
 module _ (list : List ℕ) where
   -- one state more
@@ -57,8 +59,8 @@ module _ (list : List ℕ) where
           each_more (terminal_passes n) 0 list (suc k) h
           (up_to k (omega arith) (omega (arith, ltb-true (get_or list k 0) (get_or list (suc k) 0) (each_last ltb 0 list R k h)))) (passes (suc k) h g)
 
-      pub rise-keeps : 0 < length list → terminals_keep n list ≡ ltb (get_or list (length list - 1) 0) n
-      rise-keeps h = go (ltb (get_or list (length list - 1) 0) n) refl
+      by_last : length list - 1 < length list → terminals_keep n list ≡ ltb (get_or list (length list - 1) 0) n
+      by_last h = go (ltb (get_or list (length list - 1) 0) n) refl
         where
           go : (b : Bool) → ltb (get_or list (length list - 1) 0) n ≡ b → terminals_keep n list ≡ b
           go true e = each-done (terminal_passes n) list (suc (length list - 1)) (omega arith) (up_to (length list - 1) (omega arith) (ltb-true _ _ e))
@@ -66,3 +68,6 @@ module _ (list : List ℕ) where
               each-fails (terminal_passes n) 0 list (length list - 1) (omega arith)
               (terminal-clear n (take (length list - 1) list) (get_or list (length list - 1) 0)
               ∙ ap (λ (b : Bool). b && terminal_rises (take (length list - 1) list) (get_or list (length list - 1) 0)) e)
+
+      pub rise-keeps : (last : ℕ) → Some last ≡ slice_get list (length list - 1) → ltb last n ≡ terminals_keep n list
+      rise-keeps last is = ap (λ (s : ℕ). ltb s n) (sym (get_or_from_slice_get list (length list - 1) last 0 (sym is))) ∙ sym (by_last (slice_get_within list (length list - 1) last (sym is)))

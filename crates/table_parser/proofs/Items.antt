@@ -8,8 +8,8 @@ use lib.ListN.{length, get_or, drop, drop_of_length-le, length-drop}
 use lib.Seq.{sets}
 use Rattle.refusal.specs.declared.InputCause.{InputCause}
 use Rattle.refusal.specs.declared.InputCause.TheVariants.{Malformed, Misplaced, CountLimit}
-use Rattle.table_rules.specs.declared.Judged.TheVariants.{Kept, Broken}
-use Rattle.table_parser.specs.declared.Read.TheVariants.{Cells}
+use Rattle.std.specs.Prelude.{Result, Ok, Err}
+use Rattle.table_parser.specs.declared.Gathered.{Gathered}
 use Rattle.table_format.specs.Table.{Table, Counts}
 use Rattle.table_format.specs.Classes.{class_count}
 use Rattle.table_format.specs.Rules.{unless, counts_hold, header_faults}
@@ -17,34 +17,53 @@ use Rattle.table_format.specs.Loaded.{arc_width, initials_at, most_cells, count_
 use Rattle.table_format.specs.Line.{lines_of, bytes_of}
 use Rattle.table_format.specs.Text.{line_bytes}
 use Rattle.table_rules.specs.Judge.{judged}
-use Rattle.table_format.specs.Parse.{is_header, in_place, LineKind, class, initial, terminal, arc, end, Progress, code_of, due, counts_from, class_from, kind_faults, bytes_faults, opening, parsed, onward, within, closed, empty_table, Parsed, turned_down, decide, parse_from}
-use Rattle.table_items.specs.Draft.{filled_up, draft_cells, kind_after, Drafted, IsItem, place_of, filled_after, item_cells, item_key, Tracks}
+use Rattle.table_format.specs.Parse.{is_header, in_place, LineKind, class, initial, terminal, arc, end, Progress, due, counts_from, class_from, kind_faults, bytes_faults, opening, parsed, onward, within, closed, empty_table, Parsed, turned_down, decide, parse_from}
+use denote.Enum.Bare.{sameb}
+use Rattle.table_items.specs.contracts.LineKind.{the_type}
+use Rattle.table_items.specs.declared.LineKind.{LineKind as CodedKind}
+use Rattle.table_items.specs.declared.LineKind.TheVariants as Coded
+use Rattle.table_items.specs.Draft.{kind_said, filled_up, draft_cells, kind_after, Drafted, IsItem, place_of, filled_after, item_cells, item_key, Tracks}
 use Rattle.table_parser.specs.Gathered.{gathered, items_parsed, after_end}
 use Rattle.table_scanner.specs.Scan.{first_line}
 use Rattle.table_scanner.proofs.ScannedLine.{LineRead, LineBad}
 use Rattle.table_parser.proofs.ParseLine.{parse-line, parse-bad, parse-after}
 use Rattle.table_format.proofs.Parse.{onward-due}
-use Rattle.table_items.proofs.LineKinds.{kind-one, form_short, item-only, misplaced, placed, kept_form, class_held}
-use Rattle.table_items.proofs.Draft.{bounded, filled_at, cells-long, counts-held, kind-due, lists_due, Lists, end-cells}
+use Rattle.table_items.proofs.LineKinds.{form_short, item-only, misplaced, placed, kept_form, class_held}
+use Rattle.table_items.proofs.Tracked.{bounded, filled_at, cells-long, counts-held, kind-due, lists_due, Lists, end-cells}
 use Rattle.table_items.proofs.More.{extend, onward-item, tracks-more, tracks-start}
 use Rattle.table_format.proofs.Rules.{Bounded}
 use Rattle.table_format.proofs.Classes.{keep-shaped}
 use Rattle.table_format.proofs.ClassLines.{few-lines}
 
 -- what a line's refusals decide
-decide-broken : (fs : List InputCause) (f : InputCause) (p : Parsed) → judged fs ≡ Broken f → decide fs p ≡ turned_down f
+decide-broken : (fs : List InputCause) (f : InputCause) (p : Parsed) → judged fs ≡ Err f → decide fs p ≡ turned_down f
 decide-broken [] f p e = cc
 decide-broken (g ∷ fs) f p e = cc
 
-decide-kept : (fs : List InputCause) (p : Parsed) → judged fs ≡ Kept → decide fs p ≡ p
+decide-kept : (fs : List InputCause) (p : Parsed) → judged fs ≡ Ok tt → decide fs p ≡ p
 decide-kept [] p e = refl
 decide-kept (g ∷ fs) p e = cc
 
-not_end : (k : LineKind) → IsItem k → code_of k ≡ code_of end → ⊥
-not_end class i e = omega arith
-not_end initial i e = omega arith
-not_end terminal i e = omega arith
-not_end arc i e = omega arith
+-- the test for the end line
+pub is_end : (h : CodedKind) → sameb the_type h Coded.End ≡ true → kind_said h ≡ end
+is_end Coded.Class e = cc
+is_end Coded.Initial e = cc
+is_end Coded.Terminal e = cc
+is_end Coded.Arc e = cc
+is_end Coded.End e = refl
+
+pub is_no_end : (h : CodedKind) → sameb the_type h Coded.End ≡ false → kind_said h ≡ end → ⊥
+is_no_end Coded.Class e f = cc
+is_no_end Coded.Initial e f = cc
+is_no_end Coded.Terminal e f = cc
+is_no_end Coded.Arc e f = cc
+is_no_end Coded.End e f = cc
+
+not_end : (k : LineKind) → IsItem k → k ≡ end → ⊥
+not_end class i e = cc
+not_end initial i e = cc
+not_end terminal i e = cc
+not_end arc i e = cc
 not_end end i e = i
 
 abbrev All : Counts → List ℕ → ℕ → Parsed
@@ -70,16 +89,16 @@ module _ {c : Counts} {text : List ℕ} {start at lines filled top : ℕ} {cells
     abbrev due_for : LineKind
     due_for = due c R.table b
 
-    pub due-code : kind_after (counts_in cells) filled (get_or b 0 0) ≡ code_of due_for
+    pub due-code : kind_after (counts_in cells) filled (get_or b 0 0) ≡ due_for
     due-code = ap (λ (x : Counts). kind_after x filled (get_or b 0 0)) (counts-held R.tracks) ∙ kind-due R.tracks b
 
-    pub drafted : {kind : ℕ} → kind ≡ code_of due_for → Drafted lines filled top cells kind
+    pub drafted : {kind : LineKind} → kind ≡ due_for → Drafted lines filled top cells kind
     drafted e = record { counts = c; table = R.table; bytes = b; tracks = R.tracks; kind-is = e }
 
-    pub item-is : {kind : ℕ} → kind ≡ code_of due_for → (kind ≡ code_of end → ⊥) → IsItem due_for
+    pub item-is : {kind : LineKind} → kind ≡ due_for → (kind ≡ end → ⊥) → IsItem due_for
     item-is e n = item-only due_for (λ z. n (e ∙ z))
 
-    pub room : (code_of due_for ≡ code_of end → ⊥) → filled + arc_width ≤ most_cells
+    pub room : (due_for ≡ end → ⊥) → filled + arc_width ≤ most_cells
     room n = few due_for (lists_due R.tracks b refl) n
       where
         w : Bounded c
@@ -88,7 +107,7 @@ module _ {c : Counts} {text : List ℕ} {start at lines filled top : ℕ} {cells
         f : filled ≡ initials_at + length R.table.initials + length R.table.terminals + arc_width * length R.table.arcs
         f = filled_at R.tracks
 
-        few : (k : LineKind) → Lists c R.table k → (code_of k ≡ code_of end → ⊥) → filled + arc_width ≤ most_cells
+        few : (k : LineKind) → Lists c R.table k → (k ≡ end → ⊥) → filled + arc_width ≤ most_cells
         few class l h = omega (arith, f, ap length l.0, ap length l.1, ap length l.2)
         few initial l h = omega (arith, f, w.states, w.initials, l.0, ap length l.1, ap length l.2)
         few terminal l h = omega (arith, f, w.states, w.initials, w.terminals, l.0, l.1, ap length l.2)
@@ -131,10 +150,10 @@ module _ {c : Counts} {text : List ℕ} {start at lines filled top : ℕ} {cells
     unfolding bytes_faults
     decided = R.rest-is ∙ parse-line (within c R.table) text at L
 
-    pub out-broken : (f : InputCause) → judged (kind_faults its_kind R.table said) ≡ Broken f → All c text start ≡ turned_down f
+    pub out-broken : (f : InputCause) → judged (kind_faults its_kind R.table said) ≡ Err f → All c text start ≡ turned_down f
     out-broken f e = decided ∙ decide-broken (kind_faults its_kind R.table said) f _ e
 
-    module _ (kept : judged (kind_faults its_kind R.table said) ≡ Kept) where
+    module _ (kept : judged (kind_faults its_kind R.table said) ≡ Ok tt) where
       onto : All c text start ≡ parse_from (onward (within c R.table) said) (lines_of (drop next text))
       onto = decided ∙ decide-kept (kind_faults its_kind R.table said) _ kept
 
@@ -142,20 +161,20 @@ module _ {c : Counts} {text : List ℕ} {start at lines filled top : ℕ} {cells
       pub few_bytes : length said ≤ line_bytes
       few_bytes = form_short its_kind said (kept_form its_kind R.table said kept)
 
-      pub class_below : {kind : ℕ} → kind ≡ code_of its_kind → kind ≡ code_of class → class_from said < class_count
+      pub class_below : {kind : LineKind} → kind ≡ its_kind → kind ≡ class → class_from said < class_count
       class_below {kind} e f =
-          (class_held R.table said (ap (λ (k : LineKind). judged (kind_faults k R.table said)) (sym (kind-one (code_of class) its_kind (sym f ∙ e))) ∙ kept)).1.below
+          (class_held R.table said (ap (λ (k : LineKind). judged (kind_faults k R.table said)) (sym f ∙ e) ∙ kept)).1.below
 
       -- the end line, with nothing after it, or another line
 
       end_on : its_kind ≡ end → All c text start ≡ parse_from (closed R.table) (lines_of (drop next text))
       end_on d = onto ∙ ap (λ (p : Progress). parse_from p (lines_of (drop next text))) (onward-due c R.table end said d)
 
-      pub out-end : its_kind ≡ end → length text ≤ next → record { read = Cells filled; cells = cells } ≡ gathered (All c text start)
+      pub out-end : its_kind ≡ end → length text ≤ next → ◌≡◌ {A = Result Gathered InputCause} (Ok (record { cells = cells; count = filled })) (gathered (All c text start))
       unfolding parse_from lines_of
       out-end d h =
           let q : draft_cells c R.table ≡ cells_of R.table = end-cells R.tracks said d in
-          (λ i. record { read = Cells ((R.tracks.filled_is ∙ ap length q) i); cells = (R.tracks.cells_are ∙ ap filled_up q) i })
+          ap Ok (λ i. record { cells = (R.tracks.cells_are ∙ ap filled_up q) i; count = (R.tracks.filled_is ∙ ap length q) i })
           ∙ ap gathered (sym (end_on d ∙ ap (λ (s : List ℕ). parse_from (closed R.table) (lines_of s)) (drop_of_length-le text h)))
 
       pub out-after : its_kind ≡ end → next < length text → All c text start ≡ turned_down (after_end (first_line (drop next text)))

@@ -9,9 +9,8 @@ use Rattle.refusal.specs.declared.InputCause.TheVariants.{Malformed, Misplaced}
 use Rattle.table_format.specs.Table.{Table}
 use Rattle.table_format.specs.Line.{Line, lines_of, malformed, bytes_of, size_of}
 use Rattle.table_format.specs.Parse.{Progress, closed, bytes_faults, line_faults, onward, Parsed, turned_down, decide, parse_from}
-use Rattle.table_scanner.specs.declared.Scanned.{Scanned}
-use Rattle.table_scanner.specs.declared.Scanned.TheVariants.{Says}
-use Rattle.table_scanner.specs.declared.Scanned.TheVariants as Scans
+use Rattle.std.specs.Prelude.{Result, Ok, Err}
+use Rattle.table_scanner.specs.declared.Line.{Line as ScannedLine}
 use Rattle.table_scanner.specs.Scan.{first_line, scanned_as}
 use Rattle.table_parser.specs.Gathered.{after_end}
 use Rattle.table_scanner.proofs.FirstLine.{lines-first}
@@ -33,15 +32,15 @@ parse-line p text start {next = next} L =
 -- After the end line.
 
 -- the refusal of a scanned line there
-abbrev cause_after : Scanned → InputCause
-cause_after Scans.Malformed = Malformed
-cause_after (Says count next) = Misplaced
+abbrev cause_after : Result ScannedLine InputCause → InputCause
+cause_after (Err cause) = cause
+cause_after (Ok line) = Misplaced
 
-pub after-told : (start : ℕ) (l : Line) {r q : Scanned} → r ≡ scanned_as start l → r ≡ q → cause_after q ≡ after_end l
+pub after-told : (start : ℕ) (l : Line) {r q : Result ScannedLine InputCause} → r ≡ scanned_as start l → r ≡ q → cause_after q ≡ after_end l
 unfolding scanned_as
 after-told start l e f = ap cause_after (sym f ∙ e) ∙ go (malformed l)
   where
-    go : (b : Bool) → cause_after (cond b Scans.Malformed (Says (length (bytes_of l.chars)) (start + size_of l))) ≡ cond b Malformed Misplaced
+    go : (b : Bool) → cause_after (cond b (Err Malformed) (Ok (record { count = length (bytes_of l.chars); next = start + size_of l }))) ≡ cond b Malformed Misplaced
     go true = refl
     go false = refl
 

@@ -1,5 +1,5 @@
 -- Runs of stored characters: byte after byte, the line that they make, and line after line.
-use Prim.Native.Nat.{ℕ, suc, ◌+◌, ◌*◌, ◌<◌, ◌≤◌}
+use Prim.Native.Nat.{ℕ, suc, ◌+◌, ◌*◌, ◌/◌, ◌%◌, ◌<◌, ◌≤◌}
 use native.Mathlib.Omega.{arith}
 use native.Mathlib.Numerals.{add-one}
 use mathlib.Core.Path.{◌≡◌, refl, sym, ap, ◌∙◌}
@@ -9,7 +9,7 @@ use lib.Dec.{eqb, ltb}
 use lib.ListN.{length, get_or, take, drop, set, length-append, drop_of_length-le, get_or-eq_default}
 use lib.Seq.{sets, drop-cons, take-suc, take-suc-set}
 use borrow.Author.Tests.{ltb-true, ltb-false, eqb-true, eqb-false}
-use Rattle.hexadecimal.specs.declared.Digits.{Digits}
+use Rattle.std.specs.Int.{w16, to_be_bytes}
 use Rattle.hexadecimal.specs.Hex.{encoded}
 use Rattle.table_format.specs.Table.{Arc, no_arc}
 use Rattle.table_format.specs.Classes.{class_count, row_width, letters_in}
@@ -21,8 +21,16 @@ use Rattle.table_format.specs.Cells.{arc_count, arc_of, arcs_as}
 use Rattle.table_format.proofs.Arcs.{length-arcs, get_d_arcs}
 use Rattle.table_format.proofs.Line.{length-chars}
 use Rattle.table_format.proofs.Penalties.{line-without, line_with_lem}
-use Rattle.table_format.proofs.Stores.{then, byte-stored}
+use Rattle.table_format.proofs.Stores.{sets-append, then}
 use Rattle.table_classes.proofs.Letters.{letters_open, row_from, lines_from, row-long, row-cell, lines_defined, lines_undefined, lines_none}
+
+-- The two bytes of a number, high byte first.
+
+pub high_byte : (bytes : List ℕ) (n : ℕ) → n < 65536 → bytes ≡ to_be_bytes w16 n → get_or bytes 0 0 ≡ n / 256
+high_byte bytes n h e = ap (λ (l : List ℕ). get_or l 0 0) e ∙ omega arith
+
+pub low_byte : (bytes : List ℕ) (n : ℕ) → bytes ≡ to_be_bytes w16 n → get_or bytes 1 0 ≡ n % 256
+low_byte bytes n e = ap (λ (l : List ℕ). get_or l 1 0) e ∙ omega arith
 
 -- The elements left of a list: the one looked at, and those after it.
 
@@ -31,12 +39,12 @@ left d list k h = drop-cons list k d h ∙ ap (λ (i : ℕ). get_or list k d ∷
 
 -- Where the first of the bytes left is stored, storing the others is storing them all.
 
-pub bytes-turn : (text : List ℕ) (to : ℕ) (bytes : List ℕ) (k : ℕ) (d : Digits) → k < length bytes → d ≡ encoded (get_or bytes k 0)
-    → sets (set (set text to d.high) (to + 1) d.low) (to + 2) (chars_of (drop (k + 1) bytes)) ≡ sets text to (chars_of (drop k bytes))
-unfolding chars_of
-bytes-turn text to bytes k d h e =
-    let b : ℕ = get_or bytes k 0 in
-    then text _ _ to (to + 2) (chars_of (b ∷ [])) (chars_of (drop (k + 1) bytes)) (byte-stored text to b d.high d.low (ap (λ (x : Digits). x.high ∷ x.low ∷ []) e)) refl refl
+pub bytes-turn : (text : List ℕ) (to next : ℕ) (bytes : List ℕ) (k : ℕ) {d : List ℕ} → k < length bytes → next ≡ to + 2 → d ≡ encoded (get_or bytes k 0)
+    → sets (sets text to d) next (chars_of (drop (k + 1) bytes)) ≡ sets text to (chars_of (drop k bytes))
+unfolding chars_of encoded
+bytes-turn text to next bytes k h n e =
+    ap (λ (l : List ℕ). sets (sets text to l) next (chars_of (drop (k + 1) bytes))) e
+    ∙ sets-append text to next (encoded (get_or bytes k 0)) (chars_of (drop (k + 1) bytes)) n
     ∙ ap (λ (l : List ℕ). sets text to (chars_of l)) (sym (left 0 bytes k h))
 
 pub bytes-end : (text : List ℕ) (to : ℕ) (bytes : List ℕ) (k : ℕ) → length bytes ≤ k → sets text to (chars_of (drop k bytes)) ≡ text

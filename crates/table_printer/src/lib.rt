@@ -10,37 +10,21 @@ ghost use Rattle.table_format.specs.Text.{number, header_bytes, class_bytes, cla
 ghost use Rattle.table_format.specs.Parse.{header_line, state_line};
 ghost use Rattle.table_format.specs.Cells.{arc_count, arc_said, arcs_as};
 
+use destination::put;
 use table_format::{
     ARC_BYTES, ARC_KIND, ARC_LINE, ARC_WIDTH, Arc, CLASS_COUNT, CLASS_KIND, HEADER_KIND,
     LINE_BYTES, PENALTY_KIND, PENALTY_LINE, ROW_WIDTH, STATE_LINE, arc_at,
 };
 
-// The high byte of a number of two bytes.
-pub fn high(n: u16) -> u8
-    ensures { result ≡ n / 256 }
-{
-    (n / 256) as u8
-}
-
-pub fn low(n: u16) -> u8
-    ensures { result ≡ n % 256 }
-{
-    (n % 256) as u8
-}
+// The text and a place in it stay two parameters here: over a struct that holds the lent text, each clause would also say that it holds the same one.
 
 // The two digits of each byte, from a place of the text on.
 pub fn put_bytes(text: &mut [u8], at: usize, bytes: &[u8])
     requires { at + 2 * length bytes.now ≤ length text.old }
     ensures { text.new ≡ sets text.old at (chars_of bytes.now) }
 {
-    let mut to = at;
-    let mut k = 0;
-    while k < bytes.len() {
-        let digits = hexadecimal::encode(bytes[k]);
-        text[to] = digits.high;
-        text[to + 1] = digits.low;
-        to += 2;
-        k += 1;
+    for (k, byte) in bytes.iter().enumerate() {
+        put(text, at + 2 * k, &hexadecimal::encode(*byte));
     }
 }
 
@@ -50,10 +34,9 @@ pub fn put_line(text: &mut [u8], at: usize, bytes: &[u8]) -> usize
     ensures { (result ≡ at + characters_of (length bytes.now)) × (text.new ≡ sets text.old at (line_text bytes.now)) }
 {
     let end = at + 2 * bytes.len();
-    let after = end + 1;
     put_bytes(text, at, bytes);
-    text[end] = 10;
-    after
+    text[end] = b'\n';
+    end + 1
 }
 
 // The header line, which opens the text.
@@ -61,23 +44,23 @@ pub fn header_line(text: &mut [u8], cells: &[u16])
     requires { (header_line ≤ length text.old) × (initials_at ≤ length cells.now) }
     ensures { text.new ≡ sets text.old 0 (line_text (header_bytes (counts_in cells.now))) }
 {
-    let states = cells[0];
-    let initials = cells[1];
-    let terminals = cells[2];
-    let arcs = cells[3];
+    let [states_high, states_low] = cells[0].to_be_bytes();
+    let [initials_high, initials_low] = cells[1].to_be_bytes();
+    let [terminals_high, terminals_low] = cells[2].to_be_bytes();
+    let [arcs_high, arcs_low] = cells[3].to_be_bytes();
     put_line(
         text,
         0,
         &[
             HEADER_KIND,
-            high(states),
-            low(states),
-            high(initials),
-            low(initials),
-            high(terminals),
-            low(terminals),
-            high(arcs),
-            low(arcs),
+            states_high,
+            states_low,
+            initials_high,
+            initials_low,
+            terminals_high,
+            terminals_low,
+            arcs_high,
+            arcs_low,
         ],
     );
 }
@@ -87,7 +70,8 @@ pub fn number_line(text: &mut [u8], at: usize, kind: u8, n: u16)
     requires { at + state_line ≤ length text.old }
     ensures { text.new ≡ sets text.old at (line_text (kind ∷ number n)) }
 {
-    put_line(text, at, &[kind, high(n), low(n)]);
+    let [high, low] = n.to_be_bytes();
+    put_line(text, at, &[kind, high, low]);
 }
 
 // An arc's line, and the place after it. Its penalty is the last byte, where it has one.
@@ -96,14 +80,16 @@ fn arc_line(text: &mut [u8], at: usize, arc: Arc) -> usize
     requires upper_bound { (arc.upper < 256) × (arc.lower < 256) × (arc.penalty < 256) }
     ensures { (result ≡ at + length (line_text (arc_bytes (arc_said arc)))) × (text.new ≡ sets text.old at (line_text (arc_bytes (arc_said arc)))) }
 {
+    let [source_high, source_low] = arc.source.to_be_bytes();
+    let [target_high, target_low] = arc.target.to_be_bytes();
     let mut bytes = [
         ARC_KIND,
-        high(arc.source),
-        low(arc.source),
+        source_high,
+        source_low,
         arc.upper as u8,
         arc.lower as u8,
-        high(arc.target),
-        low(arc.target),
+        target_high,
+        target_low,
         arc.penalty as u8,
     ];
     if arc.penalty == 0 {
@@ -123,10 +109,8 @@ fn class_line(text: &mut [u8], at: usize, class: u8, row: &[u16]) -> usize
     bytes[0] = CLASS_KIND;
     bytes[1] = class;
     let count = table_classes::letters_in(row);
-    let mut k = 0;
-    while k < count {
-        bytes[k + 2] = row[k] as u8;
-        k += 1;
+    for (k, letter) in row[..count].iter().enumerate() {
+        bytes[k + 2] = *letter as u8;
     }
     put_line(text, at, &bytes[..count + 2])
 }
@@ -138,13 +122,11 @@ pub fn class_lines(text: &mut [u8], at: usize, rows: &[u16]) -> usize
     ensures { (result ≡ at + length (join_lines (class_lines 0 (rows_in class_count rows.now)))) × (text.new ≡ sets text.old at (join_lines (class_lines 0 (rows_in class_count rows.now)))) }
 {
     let mut to = at;
-    let mut c = 0;
-    while c < CLASS_COUNT {
+    for c in 0..CLASS_COUNT {
         let from = ROW_WIDTH * c;
         if rows[from] != 0 {
             to = class_line(text, to, c as u8, &rows[from..from + ROW_WIDTH]);
         }
-        c += 1;
     }
     to
 }
@@ -155,13 +137,11 @@ pub fn class_size(rows: &[u16]) -> usize
     ensures { result ≡ length (join_lines (class_lines 0 (rows_in class_count rows.now))) }
 {
     let mut size = 0;
-    let mut c = 0;
-    while c < CLASS_COUNT {
+    for c in 0..CLASS_COUNT {
         let at = ROW_WIDTH * c;
         if rows[at] != 0 {
             size += 2 * (2 + table_classes::letters_in(&rows[at..at + ROW_WIDTH])) + 1;
         }
-        c += 1;
     }
     size
 }
@@ -172,11 +152,9 @@ pub fn state_lines(text: &mut [u8], at: usize, kind: u8, list: &[u16]) -> usize
     ensures { (result ≡ at + state_line * length list.now) × (text.new ≡ sets text.old at (join_lines (map (λ s. kind ∷ number s) list.now))) }
 {
     let mut to = at;
-    let mut k = 0;
-    while k < list.len() {
-        number_line(text, to, kind, list[k]);
+    for state in list {
+        number_line(text, to, kind, *state);
         to += STATE_LINE;
-        k += 1;
     }
     to
 }
@@ -187,12 +165,9 @@ pub fn arc_lines(text: &mut [u8], at: usize, arcs: &[u16]) -> usize
     requires by_index { (i : ℕ) → get_or arcs.now i 0 < 256 }
     ensures { (result ≡ at + length (join_lines (map arc_bytes (arcs_as arcs.now)))) × (text.new ≡ sets text.old at (join_lines (map arc_bytes (arcs_as arcs.now)))) }
 {
-    let count = arcs.len() / ARC_WIDTH;
     let mut to = at;
-    let mut n = 0;
-    while n < count {
+    for n in 0..arcs.len() / ARC_WIDTH {
         to = arc_line(text, to, arc_at(arcs, n));
-        n += 1;
     }
     to
 }
@@ -202,17 +177,14 @@ pub fn arc_size(arcs: &[u16]) -> usize
     requires { arc_count arcs.now ≤ 1024 }
     ensures { result ≡ length (join_lines (map arc_bytes (arcs_as arcs.now))) }
 {
-    let count = arcs.len() / ARC_WIDTH;
     let mut size = 0;
-    let mut n = 0;
-    while n < count {
+    for n in 0..arcs.len() / ARC_WIDTH {
         let arc = arc_at(arcs, n);
         if arc.penalty == 0 {
             size += ARC_LINE;
         } else {
             size += PENALTY_LINE;
         }
-        n += 1;
     }
     size
 }

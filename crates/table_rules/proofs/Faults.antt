@@ -8,7 +8,8 @@ use lib.Dec.{eqb, leb, ltb}
 use lib.ListN.{length, get_or}
 use borrow.Author.Tests.{ltb-true, ltb-false, leb-true, eqb-true, lt-ltb, le-ltb, ne_eqb}
 use Rattle.refusal.specs.declared.InputCause.TheVariants.{StateNumber, LetterLimit, StateOrder, SourceOrder, ArcRepeated, ClassFault}
-use Rattle.table_rules.specs.declared.Judged.TheVariants.{Kept, Broken}
+use Rattle.std.specs.Prelude.{Some, None, Ok, Err, slice_get}
+use Rattle.std.proofs.lemmas.Option.{slice_get_within, get_or_from_slice_get, slice_get-get_or}
 use Rattle.table_format.specs.Table.{Arc, no_arc}
 use Rattle.table_format.specs.Rules.{any, last_is, each, letter_holds, arc_class_holds, source_holds, same_arc, initial_faults, terminal_faults, arc_faults}
 use Rattle.table_format.specs.Loaded.{arcs_in}
@@ -16,7 +17,7 @@ use Rattle.table_rules.specs.Judge.{judged, has_state, repeated, largest, state_
 use Rattle.table_format.specs.Cells.{arc_count, arc_of, arcs_as}
 use Rattle.table_format.proofs.Tests.{or_right}
 use Rattle.table_format.proofs.Ruled.{same_arc-eq}
-use Rattle.table_format.proofs.Each.{any_append, any_none, each_last}
+use Rattle.table_format.proofs.Each.{any_append, any_none, last-at, each_last}
 use Rattle.table_format.proofs.Arcs.{at_equal, length-arcs, get_d_arcs, arcs-snoc}
 use Rattle.table_rules.proofs.Sources.{last_source_lem}
 
@@ -100,64 +101,73 @@ module _ (before : List ℕ) (a : Arc) where
           let differ : (arc_of before k).source ≡ a.source → ⊥ = λ z. apart (omega (arith, source-at k (omega arith), source-at (n - 1) (omega arith), source-at (count - 1) (omega arith), last_is_lem)) in
           ap (λ (b : Arc). same_arc b a) (get_d_arcs n before k no_arc q₁) ∙ sources_differ (arc_of before k) a differ
 
+-- The last element, as code gets it.
+
+pub last_got : (test : ℕ → Bool) (xs : List ℕ) (x : ℕ) → slice_get xs (length xs - 1) ≡ Some x → last_is test xs ≡ test x
+last_got test xs x e = last-at test x xs (omega (arith, slice_get_within xs (length xs - 1) x e)) ∙ ap test (get_or_from_slice_get xs (length xs - 1) x x e)
+
+pub last_missing : (test : ℕ → Bool) (xs : List ℕ) → slice_get xs (length xs - 1) ≡ None → last_is test xs ≡ true
+last_missing test [] e = refl
+last_missing test (x ∷ xs) e = let s = slice_get-get_or (x ∷ xs) (length (x ∷ xs) - 1) 0 (omega arith) in cc
+
 -- What an item earns.
 
-pub initial-out : (n s : ℕ) (before : List ℕ) → n ≤ s → judged (initial_faults n before s) ≡ Broken StateNumber
+pub initial-out : (n s : ℕ) (before : List ℕ) → n ≤ s → judged (initial_faults n before s) ≡ Err StateNumber
 unfolding initial_faults
 initial-out n s before h = simp (le-ltb s n h)
 
-pub initial-new : (n s : ℕ) (before : List ℕ) → s < n → has_state before s ≡ false → judged (initial_faults n before s) ≡ Kept
+pub initial-new : (n s : ℕ) (before : List ℕ) → s < n → has_state before s ≡ false → judged (initial_faults n before s) ≡ Ok tt
 unfolding initial_faults
 initial-new n s before h e = simp (lt-ltb s n h, e)
 
-pub initial-old : (n s : ℕ) (before : List ℕ) → s < n → has_state before s ≡ true → judged (initial_faults n before s) ≡ Broken StateOrder
+pub initial-old : (n s : ℕ) (before : List ℕ) → s < n → has_state before s ≡ true → judged (initial_faults n before s) ≡ Err StateOrder
 unfolding initial_faults
 initial-old n s before h e = simp (lt-ltb s n h, e)
 
 module _ (n s : ℕ) (before : List ℕ) where
-  pub terminal-out : n ≤ s → judged (terminal_faults n before s) ≡ Broken StateNumber
+  pub terminal-out : n ≤ s → judged (terminal_faults n before s) ≡ Err StateNumber
   unfolding terminal_faults
   terminal-out h = simp (le-ltb s n h)
 
-  pub terminal_rises_lem : s < n → last_is (λ r. ltb r s) before ≡ true → judged (terminal_faults n before s) ≡ Kept
+  pub terminal_rises_lem : s < n → last_is (λ r. ltb r s) before ≡ true → judged (terminal_faults n before s) ≡ Ok tt
   unfolding terminal_faults
   terminal_rises_lem h e = simp (lt-ltb s n h, e)
 
-  pub terminal-falls : s < n → last_is (λ r. ltb r s) before ≡ false → judged (terminal_faults n before s) ≡ Broken StateOrder
+  pub terminal-falls : s < n → last_is (λ r. ltb r s) before ≡ false → judged (terminal_faults n before s) ≡ Err StateOrder
   unfolding terminal_faults
   terminal-falls h e = simp (lt-ltb s n h, e)
 
 module _ (n : ℕ) (rows : List (List ℕ)) (before : List Arc) (a : Arc) where
-  pub arc-source-out : n ≤ a.source → judged (arc_faults n rows before a) ≡ Broken StateNumber
+  pub arc-source-out : n ≤ a.source → judged (arc_faults n rows before a) ≡ Err StateNumber
   unfolding arc_faults
   arc-source-out h = simp (le-ltb a.source n h)
 
-  pub arc-target-out : a.source < n → n ≤ a.target → judged (arc_faults n rows before a) ≡ Broken StateNumber
+  pub arc-target-out : a.source < n → n ≤ a.target → judged (arc_faults n rows before a) ≡ Err StateNumber
   unfolding arc_faults
   arc-target-out g h = simp (lt-ltb a.source n g, le-ltb a.target n h)
 
   module _ (g : a.source < n) (h : a.target < n) where
-    pub arc-letter-out : (letter_holds a.upper && letter_holds a.lower) ≡ false → judged (arc_faults n rows before a) ≡ Broken LetterLimit
+    pub arc-letter-out : (letter_holds a.upper && letter_holds a.lower) ≡ false → judged (arc_faults n rows before a) ≡ Err LetterLimit
     unfolding arc_faults
     arc-letter-out e = simp (lt-ltb a.source n g, lt-ltb a.target n h, e)
 
-    pub arc_lower_out : 71 < a.lower → judged (arc_faults n rows before a) ≡ Broken LetterLimit
+    pub arc_lower_out : 71 < a.lower → judged (arc_faults n rows before a) ≡ Err LetterLimit
     arc_lower_out e = arc-letter-out (ap (λ (b : Bool). letter_holds a.upper && b) (le-ltb a.lower 72 (omega arith)) ∙ and-false (letter_holds a.upper))
 
     module _ (l : (letter_holds a.upper && letter_holds a.lower) ≡ true) where
-      pub arc_class_out : arc_class_holds rows a ≡ false → judged (arc_faults n rows before a) ≡ Broken ClassFault
+      pub arc_class_out : arc_class_holds rows a ≡ false → judged (arc_faults n rows before a) ≡ Err ClassFault
       unfolding arc_faults
       arc_class_out k = simp (lt-ltb a.source n g, lt-ltb a.target n h, l, k)
 
       module _ (k : arc_class_holds rows a ≡ true) where
-        pub arc-falls : source_holds before a ≡ false → judged (arc_faults n rows before a) ≡ Broken SourceOrder
+        pub arc-falls : source_holds before a ≡ false → judged (arc_faults n rows before a) ≡ Err SourceOrder
         unfolding arc_faults
         arc-falls e = simp (lt-ltb a.source n g, lt-ltb a.target n h, l, k, e)
 
-        pub arc_new : source_holds before a ≡ true → repeated before a ≡ false → judged (arc_faults n rows before a) ≡ Kept
+        pub arc_new : source_holds before a ≡ true → repeated before a ≡ false → judged (arc_faults n rows before a) ≡ Ok tt
         unfolding arc_faults
         arc_new e f = simp (lt-ltb a.source n g, lt-ltb a.target n h, l, k, e, f)
 
-        pub arc-old : source_holds before a ≡ true → repeated before a ≡ true → judged (arc_faults n rows before a) ≡ Broken ArcRepeated
+        pub arc-old : source_holds before a ≡ true → repeated before a ≡ true → judged (arc_faults n rows before a) ≡ Err ArcRepeated
         unfolding arc_faults
         arc-old e f = simp (lt-ltb a.source n g, lt-ltb a.target n h, l, k, e, f)

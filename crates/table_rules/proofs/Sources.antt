@@ -1,11 +1,10 @@
 -- The source of the last arc, against which rule 7 holds the next.
-use Prim.Native.Nat.{ℕ, suc, ◌<◌, ◌≤◌}
+use Prim.Native.Nat.{ℕ, suc}
 use native.Mathlib.Omega.{arith}
 use mathlib.Core.Path.{◌≡◌, refl, sym, ap, ◌∙◌}
 use mathlib.Core.List.{List, [], ◌∷◌, ◌++◌}
 use lib.Dec.{leb}
-use borrow.Author.Tests.{le-leb, lt-leb}
-use mathlib.Core.Bool.{true, false}
+use borrow.Author.Tests.{le-leb}
 use Rattle.table_format.specs.Table.{Arc}
 use Rattle.table_format.specs.Rules.{source_holds}
 use Rattle.table_format.specs.Loaded.{arcs_in}
@@ -21,13 +20,7 @@ last_source_lem cells k = ap last_source (arcs-snoc k cells) ∙ last_of (arcs_i
     last_of (a ∷ []) = refl
     last_of (a ∷ b ∷ rest) = last_of (b ∷ rest)
 
-last_as : (arcs : List Arc) (a : Arc) → source_holds arcs a ≡ leb (last_source arcs) a.source
-last_as [] a = sym (le-leb 0 a.source (omega arith))
-last_as (b ∷ []) a = refl
-last_as (b ∷ d ∷ rest) a = last_as (d ∷ rest) a
-
-pub source-rises : (arcs : List Arc) (a : Arc) → last_source arcs ≤ a.source → source_holds arcs a ≡ true
-source-rises arcs a h = last_as arcs a ∙ le-leb _ _ h
-
-pub source-falls : (arcs : List Arc) (a : Arc) → a.source < last_source arcs → source_holds arcs a ≡ false
-source-falls arcs a h = last_as arcs a ∙ lt-leb _ _ h
+pub source_by_last : (arcs : List Arc) (a : Arc) → source_holds arcs a ≡ leb (last_source arcs) a.source
+source_by_last [] a = sym (le-leb 0 a.source (omega arith))
+source_by_last (b ∷ []) a = refl
+source_by_last (b ∷ d ∷ rest) a = source_by_last (d ∷ rest) a

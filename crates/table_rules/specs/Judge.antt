@@ -1,16 +1,14 @@
 -- What the code of the rules says, in the terms of Rules.
-use Rattle.std.specs.Prelude.{ℕ, ◌+◌, ◌*◌, ◌≤◌, max, ◌≡◌, Bool, true, List, [], ◌∷◌, eqb}
+use Rattle.std.specs.Prelude.{ℕ, ◌+◌, ◌*◌, ◌≤◌, max, ◌≡◌, Bool, true, List, [], ◌∷◌, eqb, Result, Ok, Err}
 use Rattle.refusal.specs.declared.InputCause.{InputCause}
-use Rattle.table_rules.specs.declared.Judged.{Judged}
-use Rattle.table_rules.specs.declared.Judged.TheVariants.{Kept, Broken}
 use Rattle.table_format.specs.Table.{Arc}
 use Rattle.table_format.specs.Rules.{any, each, source_holds, same_arc}
 use Rattle.table_format.specs.Cells.{arcs_as}
 
--- the first refusal of those that an item earns
-abbrev pub judged : List InputCause → Judged
-judged [] = Kept
-judged (f ∷ fs) = Broken f
+-- whether an item is kept, or the first refusal of those that it earns
+abbrev pub judged : List InputCause → Result (Unit {0}) InputCause
+judged [] = Ok tt
+judged (f ∷ fs) = Err f
 
 abbrev pub has_state : List ℕ → ℕ → Bool
 has_state list s = any (λ r. eqb r s) list

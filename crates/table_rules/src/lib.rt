@@ -4,97 +4,58 @@
 ghost use Rattle.std.specs.Prelude.{◌≡◌, ◌≤◌, true, length};
 ghost use Rattle.table_format.specs.Classes.{class_count};
 ghost use Rattle.table_format.specs.Loaded.{class_cells, rows_in};
-ghost use Rattle.table_format.specs.Rules.{counts_hold, initial_faults, terminal_faults, arc_faults, arcs_keep};
-ghost use Rattle.table_rules.specs.Judge.{judged, has_state, largest, state_key, arc_key, last_source, SourcesRise, repeated};
+ghost use Rattle.table_format.specs.Rules.{counts_hold, initial_faults, terminal_faults, arc_faults, arcs_keep, source_holds};
+ghost use Rattle.table_rules.specs.Judge.{judged, largest, state_key, arc_key, SourcesRise, repeated};
 ghost use Rattle.table_format.specs.Cells.{counts_as, arc_said, arcs_as};
 
 use refusal::InputCause;
 use table_classes::arc_class_holds;
 use table_format::{ARC_WIDTH, Arc, arc_at};
 
-// How a rule judges an item: kept, or the first refusal that it earns.
-#[derive(Clone, Copy)]
-pub enum Judged {
-    Kept,
-    Broken(InputCause),
-}
-
 // Rule 3: each count is within its limit.
+#[tactic(auto, unfolding(table_format::specs::Rules::counts_hold))]
 pub fn counts_hold(states: u16, initials: u16, terminals: u16, arcs: u16) -> bool
     ensures { result ≡ counts_hold (counts_as states initials terminals arcs) }
 {
-    if states < 1 {
-        return false;
-    }
-    if 256 < states {
-        return false;
-    }
-    if initials < 1 {
-        return false;
-    }
-    if states < initials {
-        return false;
-    }
-    if states < terminals {
-        return false;
-    }
-    arcs <= 1024
-}
-
-// Whether a state is in a list.
-fn has_state(list: &[u16], state: u16) -> bool
-    ensures { result ≡ has_state list.now state }
-{
-    let mut k = 0;
-    while k < list.len() {
-        if list[k] == state {
-            return true;
-        }
-        k += 1;
-    }
-    false
+    1 <= states
+        && states <= 256
+        && 1 <= initials
+        && initials <= states
+        && terminals <= states
+        && arcs <= 1024
 }
 
 // A number for a state, so that most are seen to be new by one comparison.
 pub fn state_key(state: u16) -> u64
     ensures { result ≡ state_key state }
 {
-    state as u64 + 1
+    u64::from(state) + 1
 }
 
 // An initial state. A state whose key is above `top`, which no key before it is, is new.
-pub fn initial_fault(before: &[u16], states: u16, state: u16, top: u64) -> Judged
+pub fn initial_fault(before: &[u16], states: u16, state: u16, top: u64) -> Result<(), InputCause>
     requires { largest state_key before.now ≤ top }
     ensures { result ≡ judged (initial_faults states before.now state) }
 {
     if states <= state {
-        return Judged::Broken(InputCause::StateNumber);
+        return Err(InputCause::StateNumber);
     }
-    if top < state_key(state) {
-        return Judged::Kept;
+    if state_key(state) <= top && before.contains(&state) {
+        return Err(InputCause::StateOrder);
     }
-    if has_state(before, state) {
-        Judged::Broken(InputCause::StateOrder)
-    } else {
-        Judged::Kept
-    }
+    Ok(())
 }
 
 // A terminal state.
-pub fn terminal_fault(before: &[u16], states: u16, state: u16) -> Judged
+pub fn terminal_fault(before: &[u16], states: u16, state: u16) -> Result<(), InputCause>
     ensures { result ≡ judged (terminal_faults states before.now state) }
 {
     if states <= state {
-        return Judged::Broken(InputCause::StateNumber);
+        return Err(InputCause::StateNumber);
     }
-    let n = before.len();
-    if n == 0 {
-        return Judged::Kept;
-    }
-    if before[n - 1] < state {
-        Judged::Kept
-    } else {
-        Judged::Broken(InputCause::StateOrder)
+    match before.last() {
+        Some(last) if state <= *last => Err(InputCause::StateOrder),
+        _ => Ok(()),
     }
 }
 
@@ -102,23 +63,19 @@ pub fn terminal_fault(before: &[u16], states: u16, state: u16) -> Judged
 pub fn arc_key(arc: Arc) -> u64
     ensures { result ≡ arc_key (arc_said arc) }
 {
-    arc.source as u64 * 4294967296
-        + arc.lower as u64 * 16777216
-        + arc.upper as u64 * 65536
-        + arc.target as u64
+    u64::from(arc.source) * 4294967296
+        + u64::from(arc.lower) * 16777216
+        + u64::from(arc.upper) * 65536
+        + u64::from(arc.target)
         + 1
 }
 
-// The source of the last of some arcs, 0 where there is none.
-fn last_source(before: &[u16]) -> u16
-    ensures { result ≡ last_source (arcs_as before.now) }
+// Rule 7: the source of an arc is not below that of the last of some arcs, if there is one.
+fn source_holds(before: &[u16], arc: Arc) -> bool
+    ensures { result ≡ source_holds (arcs_as before.now) (arc_said arc) }
 {
     let count = before.len() / ARC_WIDTH;
-    if count == 0 {
-        return 0;
-    }
-    let last = arc_at(before, count - 1);
-    last.source
+    count == 0 || arc_at(before, count - 1).source <= arc.source
 }
 
 // Whether an arc is in a list of arcs whose sources rise to at most its own: it is looked for among the last ones, of its source.
@@ -126,19 +83,13 @@ fn is_repeated(before: &[u16], arc: Arc) -> bool
     requires { SourcesRise before.now arc.source }
     ensures { result ≡ repeated (arcs_as before.now) (arc_said arc) }
 {
-    let mut n = before.len() / ARC_WIDTH;
-    while 0 < n {
-        n -= 1;
+    for n in (0..before.len() / ARC_WIDTH).rev() {
         let other = arc_at(before, n);
         if other.source != arc.source {
             return false;
         }
-        if other.upper == arc.upper {
-            if other.lower == arc.lower {
-                if other.target == arc.target {
-                    return true;
-                }
-            }
+        if other.upper == arc.upper && other.lower == arc.lower && other.target == arc.target {
+            return true;
         }
     }
     false
@@ -146,36 +97,32 @@ fn is_repeated(before: &[u16], arc: Arc) -> bool
 
 // An arc, after arcs that keep the rules. One whose key is above `top`, which no key before it is, is new.
 #[tactic(auto, using(crate::proofs::Faults::arc_lower_out))]
-pub fn arc_fault(rows: &[u16], before: &[u16], states: u16, arc: Arc, top: u64) -> Judged
+pub fn arc_fault(
+    rows: &[u16],
+    before: &[u16],
+    states: u16,
+    arc: Arc,
+    top: u64,
+) -> Result<(), InputCause>
     requires rows_len { length rows.now ≡ class_cells }
     requires before_value { arcs_keep states (rows_in class_count rows.now) (arcs_as before.now) ≡ true }
     requires before_bound { largest arc_key (arcs_as before.now) ≤ top }
     ensures { result ≡ judged (arc_faults states (rows_in class_count rows.now) (arcs_as before.now) (arc_said arc)) }
 {
-    if states <= arc.source {
-        return Judged::Broken(InputCause::StateNumber);
+    if states <= arc.source || states <= arc.target {
+        return Err(InputCause::StateNumber);
     }
-    if states <= arc.target {
-        return Judged::Broken(InputCause::StateNumber);
-    }
-    if 71 < arc.upper {
-        return Judged::Broken(InputCause::LetterLimit);
-    }
-    if 71 < arc.lower {
-        return Judged::Broken(InputCause::LetterLimit);
+    if 71 < arc.upper || 71 < arc.lower {
+        return Err(InputCause::LetterLimit);
     }
     if !arc_class_holds(rows, arc) {
-        return Judged::Broken(InputCause::ClassFault);
+        return Err(InputCause::ClassFault);
     }
-    if arc.source < last_source(before) {
-        return Judged::Broken(InputCause::SourceOrder);
+    if !source_holds(before, arc) {
+        return Err(InputCause::SourceOrder);
     }
-    if top < arc_key(arc) {
-        return Judged::Kept;
+    if arc_key(arc) <= top && is_repeated(before, arc) {
+        return Err(InputCause::ArcRepeated);
     }
-    if is_repeated(before, arc) {
-        Judged::Broken(InputCause::ArcRepeated)
-    } else {
-        Judged::Kept
-    }
+    Ok(())
 }

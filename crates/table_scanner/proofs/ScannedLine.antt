@@ -1,4 +1,5 @@
 -- What a scanned line tells of the lines of a text.
+use Rattle.std.specs.Prelude.{Result, Ok, Err}
 use Prim.Native.Nat.{ℕ, ◌+◌, ◌<◌, ◌≤◌}
 use native.Mathlib.Omega.{arith}
 use mathlib.Core.Path.{◌≡◌, refl, sym, ap, ◌∙◌}
@@ -7,8 +8,9 @@ use mathlib.Core.List.{List, [], ◌∷◌, append-nil}
 use lib.ListN.{length, drop, length-drop}
 use lib.Seq.{sets, drop-drop}
 use Rattle.table_format.specs.Line.{Line, lines_of, malformed, bytes_of, chars_of, size_of}
-use Rattle.table_scanner.specs.declared.Scanned.{Scanned}
-use Rattle.table_scanner.specs.declared.Scanned.TheVariants.{Malformed, Says}
+use Rattle.refusal.specs.declared.InputCause.{InputCause}
+use Rattle.refusal.specs.declared.InputCause.TheVariants.{Malformed}
+use Rattle.table_scanner.specs.declared.Line.{Line as ScannedLine}
 use Rattle.table_scanner.specs.Scan.{first_line, scanned_as, leading_bytes}
 use Rattle.table_format.proofs.All.{All}
 use Rattle.table_format.proofs.Line.{IsByte, line_bytes_lem}
@@ -50,28 +52,29 @@ module _ (text : List ℕ) (start : ℕ) (inside : start < length text) where
   lines_cut : lines_of (drop start text) ≡ first ∷ others
   lines_cut = lines-first (drop start text) (omega (arith, length-drop start text))
 
-  module _ {r : Scanned} (told : r ≡ scanned_as start first) where
-    told_by_lem : (b : Bool) → malformed first ≡ b → r ≡ cond b Malformed (Says (length (bytes_of first.chars)) (start + size_of first))
+  module _ {r : Result ScannedLine InputCause} (told : r ≡ scanned_as start first) where
+    told_by_lem : (b : Bool) → malformed first ≡ b → r ≡ cond b (Err Malformed) (Ok (record { count = length (bytes_of first.chars); next = start + size_of first }))
     unfolding scanned_as
-    told_by_lem b h = told ∙ ap (λ (x : Bool). cond x Malformed (Says (length (bytes_of first.chars)) (start + size_of first))) h
+    told_by_lem b h = told ∙ ap (λ (x : Bool). cond x (Err Malformed) (Ok (record { count = length (bytes_of first.chars); next = start + size_of first }))) h
 
-    pub line-bad : r ≡ Malformed → LineBad text start
-    line-bad e = record { line = first; others = others; lines_are = lines_cut; bad = go (malformed first) refl }
+    -- the only refusal of a line
+    pub line-bad : {cause : InputCause} → r ≡ Err cause → (cause ≡ Malformed) × LineBad text start
+    line-bad {cause} e = go (malformed first) refl
       where
-        go : (b : Bool) → malformed first ≡ b → malformed first ≡ true
-        go true h = h
-        go false h = cc (told_by_lem false h)
+        go : (b : Bool) → malformed first ≡ b → (cause ≡ Malformed) × LineBad text start
+        go true h = (cc (sym e ∙ told_by_lem true h), record { line = first; others = others; lines_are = lines_cut; bad = h })
+        go false h = absurd (let z : ◌≡◌ {A = ℕ} 0 1 = cc (sym e ∙ told_by_lem false h) in omega arith)
 
-    pub line_read : {count next : ℕ} {before bytes : List ℕ} → r ≡ Says count next → bytes ≡ sets before 0 (leading_bytes first.chars)
-        → LineRead text start count next before bytes
-    line_read {count} {next} {before} {bytes} e stored = go (malformed first) refl
+    pub line_read : {said : ScannedLine} {before bytes : List ℕ} → r ≡ Ok said → bytes ≡ sets before 0 (leading_bytes first.chars)
+        → LineRead text start said.count said.next before bytes
+    line_read {said} {before} {bytes} e stored = go (malformed first) refl
       where
-        go : (b : Bool) → malformed first ≡ b → LineRead text start count next before bytes
-        go true h = absurd (let z : ◌≡◌ {A = ℕ} 0 1 = cc (told_by_lem true h) in omega arith)
+        go : (b : Bool) → malformed first ≡ b → LineRead text start said.count said.next before bytes
+        go true h = absurd (let z : ◌≡◌ {A = ℕ} 0 1 = cc (sym e ∙ told_by_lem true h) in omega arith)
         go false h =
-            let same = sym e ∙ told_by_lem false h in
-            let count-is : count ≡ length (bytes_of first.chars) = cc in
-            let next-is : next ≡ start + size_of first = cc in
+            let is : said ≡ record { count = length (bytes_of first.chars); next = start + size_of first } = cc (sym e ∙ told_by_lem false h) in
+            let count-is : said.count ≡ length (bytes_of first.chars) = λ i. (is i).count in
+            let next-is : said.next ≡ start + size_of first = λ i. (is i).next in
             record {
               line = first;
               lines_are = lines_cut ∙ ap (λ (s : List ℕ). first ∷ lines_of s) (drop-drop (size_of first) start text ∙ ap (λ (n : ℕ). drop n text) (sym next-is));

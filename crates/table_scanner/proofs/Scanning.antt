@@ -1,4 +1,5 @@
 -- Scanning a line: what is known while its digits are read, a turn of the loop, and what each way out of it says.
+use Rattle.std.specs.Prelude.{Option, Some, None, Result, Ok, Err}
 use Prim.Native.Nat.{ℕ, suc, ◌+◌, ◌*◌, ◌%◌, ◌/◌, ◌<◌, ◌≤◌}
 use native.Mathlib.Omega.{arith}
 use mathlib.Core.Path.{◌≡◌, refl, sym, ap, ap₂, ◌∙◌}
@@ -6,16 +7,15 @@ use mathlib.Core.Bool.{Bool, true, false, not, cond, ◌||◌}
 use mathlib.Core.List.{List, [], ◌∷◌, ◌++◌, append_assoc, append-nil}
 use lib.Dec.{eqb}
 use lib.ListN.{length, get_or, drop, set, length-append, drop_of_length-le}
-use lib.Seq.{drop-cons, sets, length-sets}
+use lib.Seq.{drop-cons, sets}
 use borrow.Author.Tests.{eq-eqb, ne_eqb}
-use Rattle.hexadecimal.specs.declared.Decoded.{Decoded}
-use Rattle.hexadecimal.specs.declared.Decoded.TheVariants.{Value, Invalid}
 use Rattle.hexadecimal.specs.Hex.{value_of, decoded, digit_of, encoded}
 use Rattle.hexadecimal.proofs.Hex.{decoded_of, decoded-encoded, encoded-decoded}
 use Rattle.table_format.specs.Rules.{is_empty, any}
 use Rattle.table_format.specs.Line.{Line, is_value, malformed, bytes_of, chars_of, size_of}
-use Rattle.table_scanner.specs.declared.Scanned.{Scanned}
-use Rattle.table_scanner.specs.declared.Scanned.TheVariants.{Malformed, Says}
+use Rattle.refusal.specs.declared.InputCause.{InputCause}
+use Rattle.refusal.specs.declared.InputCause.TheVariants.{Malformed}
+use Rattle.table_scanner.specs.declared.Line.{Line as ScannedLine}
 use Rattle.table_scanner.specs.Scan.{no_line, first_line, scanned_as, byte_before, leading_bytes}
 use Rattle.table_format.proofs.Tests.{or_right}
 use Rattle.table_format.proofs.All.{All, all_append}
@@ -39,7 +39,7 @@ first-after (x ∷ b) rest =
     ∙ ap (with_first (digit_of (x / 16))) (first_char (digit_of x) _ (digit_no_feed x) ∙ ap (with_first (digit_of x)) (first-after b rest))
 
 pub leading_after : (b rest : List ℕ) → All IsByte b → leading_bytes (chars_of b ++ rest) ≡ b ++ leading_bytes rest
-unfolding leading_bytes chars_of
+unfolding leading_bytes chars_of encoded decoded
 leading_after [] rest h = refl
 leading_after (x ∷ b) rest h = ap₂ byte_before (decoded-encoded x h.0) (leading_after b rest h.1)
 
@@ -58,15 +58,15 @@ unfolding malformed
 no_digit cs f e = or_right (is_empty cs) _ (or_right (eqb (length cs % 2) 1) _ (ap (λ (b : Bool). b || not f) e))
 
 -- one of two characters is no digit
-invalid : (c d : ℕ) → decoded c d ≡ Invalid → (no_value c || (no_value d || false)) ≡ true
+invalid : (c d : ℕ) → decoded c d ≡ None → (no_value c || (no_value d || false)) ≡ true
 invalid c d e = go (value_of c) (value_of d) refl refl
   where
-    go : (u v : Decoded) → value_of c ≡ u → value_of d ≡ v → (no_value c || (no_value d || false)) ≡ true
-    go (Value u) (Value v) p q = cc (sym (decoded_of c d u v p q) ∙ e)
-    go (Value u) Invalid p q = or_right (no_value c) _ (ap (λ (x : Decoded). not (is_value x) || false) q)
-    go Invalid v p q = ap (λ (x : Decoded). not (is_value x) || (no_value d || false)) p
+    go : (u v : Option ℕ) → value_of c ≡ u → value_of d ≡ v → (no_value c || (no_value d || false)) ≡ true
+    go (Some u) (Some v) p q = cc (sym (decoded_of c d u v p q) ∙ e)
+    go (Some u) None p q = or_right (no_value c) _ (ap (λ (x : Option ℕ). not (is_value x) || false) q)
+    go None v p q = ap (λ (x : Option ℕ). not (is_value x) || (no_value d || false)) p
 
-scanned_malformed : (start : ℕ) (l : Line) → malformed l ≡ true → scanned_as start l ≡ Malformed
+scanned_malformed : (start : ℕ) (l : Line) → malformed l ≡ true → scanned_as start l ≡ Err Malformed
 unfolding scanned_as
 scanned_malformed start l e = simp e
 
@@ -101,12 +101,9 @@ module _ {text : List ℕ} {start : ℕ} {before bytes : List ℕ} {count at : �
   rest-two h =
       rest-one (omega arith) ∙ ap (λ (l : List ℕ). here ∷ l) (drop-cons text (at + 1) 0 h ∙ at_equal (λ n. next ∷ drop n text) (suc (at + 1)) (at + 2) (omega arith))
 
-  pub same_length : length bytes ≡ length before
-  same_length = ap length S.bytes-are ∙ length-sets before 0 so_far
-
   -- one byte more
-  pub scanning_more : (v : ℕ) → at + 1 < length text → decoded here next ≡ Value v → Scanning text start before (set bytes count v) (count + 1) (at + 2)
-  unfolding chars_of
+  pub scanning_more : (v : ℕ) → at + 1 < length text → decoded here next ≡ Some v → Scanning text start before (set bytes count v) (count + 1) (at + 2)
+  unfolding chars_of encoded
   scanning_more v h e =
       record {
         so_far_lem = so_far ++ (v ∷ []);
@@ -117,44 +114,44 @@ module _ {text : List ℕ} {start : ℕ} {before bytes : List ℕ} {count at : �
         bytes-are = ap (λ (l : List ℕ). set l count v) S.bytes-are ∙ sets-append before 0 count so_far (v ∷ []) (omega (arith, S.count-is));
       }
     where
-      w : (v < 256) × (encoded v ≡ record { high = here; low = next })
+      w : (v < 256) × (encoded v ≡ here ∷ next ∷ [])
       w = encoded-decoded here next v e
 
       two : here ∷ next ∷ drop (at + 2) text ≡ chars_of (v ∷ []) ++ drop (at + 2) text
-      two = λ i. (sym w.1 i).high ∷ (sym w.1 i).low ∷ drop (at + 2) text
+      two = ap (λ (l : List ℕ). l ++ drop (at + 2) text) (sym w.1)
 
   -- The ways out: the answer, and every byte of the lent array.
 
-  abbrev Out : Scanned → Type 0
+  abbrev Out : Result ScannedLine InputCause → Type 0
   Out r =
       (r ≡ scanned_as start (first_line (drop start text))) × (bytes ≡ sets before 0 (leading_bytes (first_line (drop start text)).chars))
 
   -- what is left begins with no byte
-  out : (l : Line) (r : Scanned) → first_line (drop at text) ≡ l → scanned_as start (after so_far l) ≡ r → leading_bytes l.chars ≡ [] → Out r
+  out : (l : Line) (r : Result ScannedLine InputCause) → first_line (drop at text) ≡ l → scanned_as start (after so_far l) ≡ r → leading_bytes l.chars ≡ [] → Out r
   out l r e told none =
       let line : first_line (drop start text) ≡ after so_far l = ap first_line S.text-is ∙ first-after so_far (drop at text) ∙ ap (after so_far) e in
       let bytes-are : leading_bytes (first_line (drop start text)).chars ≡ so_far =
       ap (λ (x : Line). leading_bytes x.chars) line ∙ leading_after so_far l.chars S.small ∙ ap (λ (x : List ℕ). so_far ++ x) none ∙ append-nil so_far in
       (sym (ap (scanned_as start) line ∙ told), S.bytes-are ∙ ap (sets before 0) (sym bytes-are))
 
-  out-malformed : (l : Line) → first_line (drop at text) ≡ l → malformed (after so_far l) ≡ true → leading_bytes l.chars ≡ [] → Out Malformed
-  out-malformed l e m none = out l Malformed e (scanned_malformed start (after so_far l) m) none
+  out-malformed : (l : Line) → first_line (drop at text) ≡ l → malformed (after so_far l) ≡ true → leading_bytes l.chars ≡ [] → Out (Err Malformed)
+  out-malformed l e m none = out l (Err Malformed) e (scanned_malformed start (after so_far l) m) none
 
   -- the text ends in the line
-  pub out-end : length text ≤ at → Out Malformed
+  pub out-end : length text ≤ at → Out (Err Malformed)
   unfolding leading_bytes
   out-end h = out-malformed no_line (ap first_line (drop_of_length-le text h) ∙ first-none) (unfed (chars_of so_far ++ [])) refl
 
   first-here : at < length text → (here ≡ 10 → ⊥) → first_line (drop at text) ≡ with_first here (first_line (drop (at + 1) text))
   first-here h n = ap first_line (rest-one h) ∙ first_char here (drop (at + 1) text) (ne_eqb here 10 n)
 
-  pub out_half : at < length text → length text ≤ at + 1 → (here ≡ 10 → ⊥) → Out Malformed
+  pub out_half : at < length text → length text ≤ at + 1 → (here ≡ 10 → ⊥) → Out (Err Malformed)
   unfolding leading_bytes
   out_half h g n =
       out-malformed (with_first here no_line) (first-here h n ∙ ap (λ (s : List ℕ). with_first here (first_line s)) (drop_of_length-le text g) ∙ ap (with_first here) first-none)
       (unfed (chars_of so_far ++ (here ∷ []))) refl
 
-  pub out-invalid : at + 1 < length text → (here ≡ 10 → ⊥) → decoded here next ≡ Invalid → Out Malformed
+  pub out-invalid : at + 1 < length text → (here ≡ 10 → ⊥) → decoded here next ≡ None → Out (Err Malformed)
   unfolding leading_bytes
   out-invalid h n e = go (eqb next 10) refl
     where
@@ -165,7 +162,7 @@ module _ {text : List ℕ} {start : ℕ} {before bytes : List ℕ} {count at : �
       then l k =
           ap first_line (rest-two h) ∙ first_char here (next ∷ rest) (ne_eqb here 10 n) ∙ ap (with_first here) k
 
-      go : (b : Bool) → eqb next 10 ≡ b → Out Malformed
+      go : (b : Bool) → eqb next 10 ≡ b → Out (Err Malformed)
       go true k =
           out-malformed (with_first here empty_line) (then empty_line (first-feed next rest k))
           (odd (chars_of so_far ++ (here ∷ [])) true (omega (arith, length-append (chars_of so_far) (here ∷ []), length-chars so_far))) refl
@@ -175,13 +172,13 @@ module _ {text : List ℕ} {start : ℕ} {before bytes : List ℕ} {count at : �
           (no_digit (chars_of so_far ++ (here ∷ next ∷ t)) (first_line rest).fed
           (any_append no_value (chars_of so_far) (here ∷ next ∷ t)
           ∙ or_right (any no_value (chars_of so_far)) _ (any_append no_value (here ∷ next ∷ []) t ∙ ap (λ (x : Bool). x || any no_value t) (invalid here next e))))
-          (ap (λ (d : Decoded). byte_before d (leading_bytes t)) e)
+          (ap (λ (d : Option ℕ). byte_before d (leading_bytes t)) e)
 
   -- the line feed is there
   first-fed : at < length text → here ≡ 10 → first_line (drop at text) ≡ empty_line
   first-fed h e = ap first_line (rest-one h) ∙ first-feed here (drop (at + 1) text) (eq-eqb here 10 e)
 
-  pub out-empty : at < length text → here ≡ 10 → count ≡ 0 → Out Malformed
+  pub out-empty : at < length text → here ≡ 10 → count ≡ 0 → Out (Err Malformed)
   unfolding leading_bytes malformed chars_of
   out-empty h e z = out-malformed empty_line (first-fed h e) (go so_far (sym S.count-is ∙ z)) refl
     where
@@ -189,10 +186,13 @@ module _ {text : List ℕ} {start : ℕ} {before bytes : List ℕ} {count at : �
       go [] k = refl
       go (x ∷ b) k = absurd (omega arith)
 
-  pub out_line : at < length text → here ≡ 10 → (count ≡ 0 → ⊥) → Out (Says count (at + 1))
+  pub out_line : at < length text → here ≡ 10 → (count ≡ 0 → ⊥) → Out (Ok (record { count = count; next = at + 1 }))
   unfolding leading_bytes scanned_as
-  out_line h e z = out empty_line (Says count (at + 1)) (first-fed h e) (ap (scanned_as start) whole ∙ ap (λ (b : Bool). cond b Malformed (Says (length (bytes_of (chars_of so_far))) (start + size_of (line_with so_far)))) well ∙ ap₂ Says count-told next-told) refl
+  out_line h e z = out empty_line (Ok (record { count = count; next = at + 1 })) (first-fed h e) (ap (scanned_as start) whole ∙ ap (λ (b : Bool). cond b (Err Malformed) (Ok (record { count = length (bytes_of (chars_of so_far)); next = start + size_of (line_with so_far) }))) well ∙ ap₂ said count-told next-told) refl
     where
+      said : ℕ → ℕ → Result ScannedLine InputCause
+      said n m = Ok (record { count = n; next = m })
+
       some : (b : List ℕ) → (length b ≡ 0 → ⊥) → is_empty b ≡ false
       some [] k = absurd (k refl)
       some (x ∷ b) k = refl

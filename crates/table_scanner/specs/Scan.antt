@@ -1,13 +1,12 @@
 -- The first line of a text, as code scans it: how many bytes it says, where the next line begins, and the bytes in an array.
-use Rattle.std.specs.Prelude.{ℕ, ◌+◌, false, cond, List, [], ◌∷◌, length, get_or, replicate}
+use Rattle.std.specs.Prelude.{ℕ, ◌+◌, false, cond, List, [], ◌∷◌, length, get_or, replicate, Option, Some, None, Result, Ok, Err}
 use Rattle.std.proofs.lemmas.List.Edits.{sets}
-use Rattle.hexadecimal.specs.declared.Decoded.{Decoded}
-use Rattle.hexadecimal.specs.declared.Decoded.TheVariants.{Value, Invalid}
 use Rattle.hexadecimal.specs.Hex.{decoded}
 use Rattle.table_format.specs.Line.{Line, lines_of, malformed, bytes_of, size_of}
 use Rattle.table_format.specs.Text.{line_bytes}
-use Rattle.table_scanner.specs.declared.Scanned.{Scanned}
-use Rattle.table_scanner.specs.declared.Scanned.TheVariants.{Malformed, Says}
+use Rattle.refusal.specs.declared.InputCause.{InputCause}
+use Rattle.refusal.specs.declared.InputCause.TheVariants.{Malformed}
+use Rattle.table_scanner.specs.declared.Line.{Line as ScannedLine}
 
 -- a line of no characters that "lacks its line feed"
 abbrev pub no_line : Line
@@ -19,13 +18,13 @@ first_line text = get_or (lines_of text) 0 no_line
 
 -- what a line that begins at a place says: "A line is empty, has an odd count of digits, a character other than 0-9, A-F, or lacks its
 -- line feed", or its count of bytes and the place after it
-unfoldable pub scanned_as : ℕ → Line → Scanned
-scanned_as start l = cond (malformed l) Malformed (Says (length (bytes_of l.chars)) (start + size_of l))
+unfoldable pub scanned_as : ℕ → Line → Result ScannedLine InputCause
+scanned_as start l = cond (malformed l) (Err Malformed) (Ok (record { count = length (bytes_of l.chars); next = start + size_of l }))
 
 -- a byte before others, where two characters are its digits
-abbrev pub byte_before : Decoded → List ℕ → List ℕ
-byte_before (Value v) b = v ∷ b
-byte_before Invalid b = []
+abbrev pub byte_before : Option ℕ → List ℕ → List ℕ
+byte_before (Some v) b = v ∷ b
+byte_before None b = []
 
 -- "two digits a byte": the bytes that characters begin with; all of a line that is not malformed
 unfoldable pub leading_bytes : List ℕ → List ℕ

@@ -8,39 +8,40 @@ ghost use Rattle.table_format.specs.Cells.{arc_held};
 ghost use Rattle.table_format.specs.Parse.{number_at, arc_from};
 ghost use Rattle.table_scanner.specs.Scan.{first_line, scanned_as, leading_bytes};
 
-use hexadecimal::Decoded;
+use refusal::InputCause;
 use table_format::{Arc, LINE_BYTES};
 
-// What a line of a text says: that it is malformed, or how many bytes, and where the next line begins.
+// What a well-formed line of a text says: how many bytes, and where the next line begins.
 #[derive(Clone, Copy)]
-pub enum Scanned {
-    Malformed,
-    Says { count: usize, next: usize },
+pub struct Line {
+    pub count: usize,
+    pub next: usize,
 }
 
 // The line that begins at `start`; its bytes go to the front of `bytes`, those for which there is room.
-pub fn scan(text: &[u8], start: usize, bytes: &mut [u8]) -> Scanned
+pub fn scan(text: &[u8], start: usize, bytes: &mut [u8]) -> Result<Line, InputCause>
     ensures { (result ≡ scanned_as start (first_line (drop start text.now)))
         × (bytes.new ≡ sets bytes.old 0 (leading_bytes (first_line (drop start text.now)).chars)) }
 {
-    let mut count: usize = 0;
+    // By index: a line feed is one character and a byte is two, so pairs cut from the text would run into the next line.
+    let mut count = 0;
     let mut at = start;
     while at < text.len() {
         let high = text[at];
-        if high == 10 {
+        if high == b'\n' {
             if count == 0 {
-                return Scanned::Malformed;
+                return Err(InputCause::Malformed);
             }
-            return Scanned::Says {
+            return Ok(Line {
                 count,
                 next: at + 1,
-            };
+            });
         }
         if text.len() <= at + 1 {
-            return Scanned::Malformed;
+            return Err(InputCause::Malformed);
         }
-        let Decoded::Value(b) = hexadecimal::decode(high, text[at + 1]) else {
-            return Scanned::Malformed;
+        let Some(b) = hexadecimal::decode(high, text[at + 1]) else {
+            return Err(InputCause::Malformed);
         };
         if count < bytes.len() {
             bytes[count] = b;
@@ -48,7 +49,7 @@ pub fn scan(text: &[u8], start: usize, bytes: &mut [u8]) -> Scanned
         count += 1;
         at += 2;
     }
-    Scanned::Malformed
+    Err(InputCause::Malformed)
 }
 
 // The number of two bytes at a place of a table's line, high byte first.
@@ -56,7 +57,7 @@ pub fn number_at(bytes: [u8; LINE_BYTES], at: usize) -> u16
     requires { at + 1 < line_bytes }
     ensures { result ≡ number_at bytes at }
 {
-    widen::byte_as_cell(bytes[at]) * 256 + widen::byte_as_cell(bytes[at + 1])
+    u16::from_be_bytes([bytes[at], bytes[at + 1]])
 }
 
 // The arc of an arc line. One without a penalty is shorter, and the bytes after it are 0.
@@ -65,9 +66,9 @@ pub fn arc_in(bytes: [u8; LINE_BYTES]) -> Arc
 {
     Arc {
         source: number_at(bytes, 1),
-        upper: widen::byte_as_cell(bytes[3]),
-        lower: widen::byte_as_cell(bytes[4]),
+        upper: u16::from(bytes[3]),
+        lower: u16::from(bytes[4]),
         target: number_at(bytes, 5),
-        penalty: widen::byte_as_cell(bytes[7]),
+        penalty: u16::from(bytes[7]),
     }
 }

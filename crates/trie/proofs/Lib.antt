@@ -1,4 +1,4 @@
--- Laws of the definitions.
+-- Laws of the table's cells.
 pub mod Storing
 pub mod Filling
 pub mod Calls

@@ -11,11 +11,10 @@ ghost use Rattle.trie.specs.Cells.{terminals_begin, counts_before};
 ghost use Rattle.trie.specs.Calls.{build_answer, build_cells};
 
 use crate::cells::{put_arcs, put_terminals};
-use destination::{Answer, store_cells};
-use lexicon::{Listing, MOST_STATES};
+use destination::{put, store};
 use refusal::Refusal;
 use table_format::{ARC_WIDTH, CLASSES_AT, INITIALS_AT, MOST_CELLS};
-use trie_states::children::{NONE, link};
+use trie_states::children::link;
 use trie_states::tree::grow;
 
 // Where the terminal states begin, after one initial state.
@@ -26,15 +25,10 @@ fn put_counts(cells: &mut [u16], states: usize, arcs: usize, end: usize)
     requires { (states ≤ most_states) × (terminals_begin ≤ arcs) × (arcs ≤ end) × (end ≤ most_cells) × (length cells.old ≡ most_cells) }
     ensures { cells.new ≡ sets cells.old 0 (counts_before states arcs end) }
 {
-    cells[0] = states as u16;
-    cells[1] = 1;
-    cells[2] = (arcs - TERMINALS_AT) as u16;
-    cells[3] = ((end - arcs) / ARC_WIDTH) as u16;
-    let mut at = CLASSES_AT;
-    while at < TERMINALS_AT {
-        cells[at] = 0;
-        at += 1;
-    }
+    let terminal_count = (arcs - TERMINALS_AT) as u16;
+    let arc_count = ((end - arcs) / ARC_WIDTH) as u16;
+    put(cells, 0, &[states as u16, 1, terminal_count, arc_count]);
+    put(cells, CLASSES_AT, &[0; TERMINALS_AT - CLASSES_AT]);
 }
 
 // The cells of the table of a list that holds; how many there are.
@@ -44,31 +38,21 @@ fn fill(words: &[u8], states: usize, cells: &mut [u16]) -> usize
     ensures { (ws : List Word) → TakenAs words.now ws
         → (result ≡ length (cells_of (trie_table ws))) × (cells.new ≡ sets cells.old 0 (cells_of (trie_table ws))) }
 {
-    let mut parents = [0u16; MOST_STATES];
-    let mut letters = [0u8; MOST_STATES];
-    let mut ends = [0u8; MOST_STATES];
-    grow(words, &mut parents, &mut letters, &mut ends);
-    let mut first = [NONE; MOST_STATES];
-    let mut next = [NONE; MOST_STATES];
-    link(&parents, states, &mut first, &mut next);
-    let arcs = put_terminals(cells, TERMINALS_AT, &ends, states);
-    let end = put_arcs(cells, arcs, states, &first, &next, &letters, &ends);
+    let tree = grow(words);
+    let links = link(&tree, states);
+    let arcs = put_terminals(cells, TERMINALS_AT, &tree[..states]);
+    let end = put_arcs(cells, arcs, states, &tree, &links);
     put_counts(cells, states, arcs, end);
     end
 }
 
 // The table of a list's letter tree, from the front of the destination: 30, 31, 32, then 24.
-pub fn build(words: &[u8], table: &mut [u16]) -> Answer
+pub fn build(words: &[u8], table: &mut [u16]) -> Result<usize, Refusal>
     ensures { (stored_told result ≡ stored_told (build_answer words.now table.old))
         × (table.new ≡ build_cells words.now table.old) }
 {
-    let listing = lexicon::check(words);
-    match listing {
-        Listing::Fault(cause) => Answer::Refused(Refusal::Input(cause)),
-        Listing::States(states) => {
-            let mut cells = [0u16; MOST_CELLS];
-            let end = fill(words, states, &mut cells);
-            store_cells(&cells[..end], table)
-        }
-    }
+    let states = lexicon::check(words)?;
+    let mut cells = [0u16; MOST_CELLS];
+    let end = fill(words, states, &mut cells);
+    store(&cells[..end], table)
 }

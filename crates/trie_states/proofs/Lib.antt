@@ -1,4 +1,4 @@
--- Laws of the definitions.
+-- Laws of the rows.
 pub mod Rows
 pub mod Sets
 pub mod Adding

@@ -1,131 +1,153 @@
--- The children of states, as lists in cells.
+-- The children of states, as lists.
 use Prim.Native.Nat.{ℕ, suc, ◌-◌, ◌≤◌, ◌<◌}
 use native.Mathlib.Omega.{arith}
 use mathlib.Core.Path.{◌≡◌, refl, sym, ap, subst, ◌∙◌}
 use mathlib.Core.Logic.{⊎_elim}
 use mathlib.Core.Bool.{cond}
 use mathlib.Core.List.{List, [], ◌∷◌, ◌++◌, Memᴰ}
-use lib.ListN.{length, get_or, set, replicate, length-set, length-replicate, get_or-replicate}
+use lib.ListN.{length, set, replicate, length-set, length-replicate, get_or-replicate}
 use lib.Seq.{get_or-set_same, get_or-set_other}
 use lib.Dec.{eqb}
 use borrow.Author.Tests.{eq-eqb, ne_eqb}
+use Rattle.std.specs.Prelude.{Option, Some, None, IfSome}
 use Rattle.graph.proofs.Lists.{same?}
 use Rattle.lexicon.specs.Lexicon.{most_states}
-use Rattle.trie_states.specs.Tree.{Below, children, Chain, Linked}
+use Rattle.trie_states.specs.declared.tree.State.{State}
+use Rattle.trie_states.specs.declared.children.Links.{Links}
+use Rattle.trie_states.specs.Tree.{parent_of, first_of, next_of, children, Chain}
 use Rattle.trie_states.proofs.Rows.{child_to}
+use Rattle.trie_states.proofs.Sets.{field-kept}
 
--- A list in cells.
+-- A list of states.
 
--- one that has no element s is not changed by a store there
-chain-set : (next : List ℕ) (s v : ℕ) (l : List ℕ) (k : ℕ) → ((x : ℕ) → Memᴰ x l → s < x) → Chain next k l → Chain (set next s v) k l
-chain-set next s v [] k h C = C
-chain-set next s v (x ∷ l) k h C =
-    let e : get_or (set next s v) x 0 ≡ get_or next x 0 = get_or-set_other next s x v 0 (λ u. let f = h x (Memᴰ.head refl) in omega arith) in
-    (C.0, C.1, omega (arith, e, C.2), subst (λ (n : ℕ). Chain (set next s v) n l) (sym e) (chain-set next s v l (get_or next x 0) (λ y m. h y (Memᴰ.tail m)) C.3))
+-- it depends on what comes after its elements alone
+chain-same : (f g : ℕ → Option ℕ) (l : List ℕ) (k : Option ℕ) → ((x : ℕ) → Memᴰ x l → f x ≡ g x) → Chain f k l → Chain g k l
+chain-same f g [] k h C = C
+chain-same f g (x ∷ l) k h C =
+    let e : f x ≡ g x = h x (Memᴰ.head refl) in
+    (C.0, C.1, subst (λ (o : Option ℕ). IfSome o (λ n. x < n)) e C.2, subst (λ (o : Option ℕ). Chain g o l) e (chain-same f g l (f x) (λ y m. h y (Memᴰ.tail m)) C.3))
 
 -- it begins with none of the states before its elements
-chain-above : (next : List ℕ) (s : ℕ) (l : List ℕ) (k : ℕ) → s < most_states → ((x : ℕ) → Memᴰ x l → s < x) → Chain next k l → s < k
-chain-above next s [] k p h C = omega arith
-chain-above next s (x ∷ l) k p h C = omega (arith, C.0, h x (Memᴰ.head refl))
+chain-above : (after : ℕ → Option ℕ) (s : ℕ) (l : List ℕ) (k : Option ℕ) → ((x : ℕ) → Memᴰ x l → s < x) → Chain after k l → IfSome k (λ n. s < n)
+chain-above after s [] k h C = subst (λ (o : Option ℕ). IfSome o (λ n. s < n)) (sym C) tt
+chain-above after s (x ∷ l) k h C = subst (λ (o : Option ℕ). IfSome o (λ n. s < n)) (sym C.0) (h x (Memᴰ.head refl))
 
-pub chain-none : (next : List ℕ) (k : ℕ) (l : List ℕ) → Chain next k l → most_states ≤ k → l ≡ []
-chain-none next k [] C h = refl
-chain-none next k (x ∷ l) C h = absurd (omega (arith, C.0, C.1))
+pub chain-none : (after : ℕ → Option ℕ) (k : Option ℕ) (l : List ℕ) → Chain after k l → k ≡ None → l ≡ []
+chain-none after k [] C h = refl
+chain-none after k (x ∷ l) C h = let e : Some x ≡ None = sym C.0 ∙ h in absurd (cc)
 
-pub record Step (next : List ℕ) (k : ℕ) (l : List ℕ) : Type 0 where
+pub record Step (after : ℕ → Option ℕ) (k : ℕ) (l : List ℕ) : Type 0 where
   pub rest : List ℕ
   pub is : l ≡ k ∷ rest
-  pub above : k < get_or next k 0
-  pub chain : Chain next (get_or next k 0) rest
+  pub low : k < most_states
+  pub above : IfSome (after k) (λ n. k < n)
+  pub chain : Chain after (after k) rest
 
-pub chain-step : (next : List ℕ) (k : ℕ) (l : List ℕ) → Chain next k l → k < most_states → Step next k l
-chain-step next k [] C h = absurd (omega arith)
-chain-step next k (x ∷ l) C h =
-    let e : x ≡ k = sym C.0 in
+pub chain-step : (after : ℕ → Option ℕ) (k : Option ℕ) (j : ℕ) (l : List ℕ) → Chain after k l → k ≡ Some j → Step after j l
+chain-step after k j [] C h = let e : None ≡ Some j = sym C ∙ h in absurd (cc)
+chain-step after k j (x ∷ l) C h =
+    let o : Some x ≡ Some j = sym C.0 ∙ h in
+    let e : x ≡ j = cc in
     record {
       rest = l;
       is = ap (λ (y : ℕ). y ∷ l) e;
-      above = subst (λ (y : ℕ). y < get_or next y 0) e C.2;
-      chain = subst (λ (y : ℕ). Chain next (get_or next y 0) l) e C.3;
+      low = subst (λ (y : ℕ). y < most_states) e C.1;
+      above = subst (λ (y : ℕ). IfSome (after y) (λ n. y < n)) e C.2;
+      chain = subst (λ (y : ℕ). Chain after (after y) l) e C.3;
     }
 
 -- From the last state down.
 
-pub record Linking (parents : List ℕ) (states : ℕ) (first next : List ℕ) (state : ℕ) : Type 0 where
-  pub first-all : length first ≡ most_states
-  pub next-all : length next ≡ most_states
+pub record Linking (tree : List State) (states : ℕ) (links : List Links) (state : ℕ) : Type 0 where
+  pub links-all : length links ≡ most_states
   pub some : 1 ≤ state
   pub within : state ≤ states
-  pub chains : (i : ℕ) → i < most_states → Chain next (get_or first i 0) (children (λ j. get_or parents j 0) i state (states - state))
+  pub chains : (i : ℕ) → i < most_states → Chain (next_of links) (first_of links i) (children (parent_of tree) i state (states - state))
 
-pub linking_none : (parents : List ℕ) (states : ℕ) (first next : List ℕ) → 1 ≤ states → first ≡ replicate most_states most_states → next ≡ replicate most_states most_states
-    → Linking parents states first next states
-linking_none parents states first next h e f =
-    let z : states - states ≡ 0 = omega arith in
+pub linking_none : (tree : List State) (states : ℕ) → 1 ≤ states → Linking tree states (replicate most_states (record { first = None; next = None })) states
+linking_none tree states h =
+    let alone : Links = record { first = None; next = None } in
+    let links = replicate most_states alone in
+    let z : 0 ≡ states - states = omega arith in
     record {
-      first-all = ap length e ∙ length-replicate most_states most_states;
-      next-all = ap length f ∙ length-replicate most_states most_states;
+      links-all = length-replicate {A = Links} most_states alone;
       some = h;
       within = omega arith;
       chains = λ i l.
-          subst (λ (n : ℕ). Chain next (get_or first i 0) (children (λ j. get_or parents j 0) i states n)) (sym z)
-          (let g : get_or first i 0 ≡ most_states = ap (λ (c : List ℕ). get_or c i 0) e ∙ get_or-replicate most_states i most_states 0 l in omega arith);
+          subst (λ (n : ℕ). Chain (next_of links) (first_of links i) (children (parent_of tree) i states n)) z
+          (ap (λ (k : Links). k.first) (get_or-replicate most_states i alone alone l));
     }
 
-module _ (parents : List ℕ) (states : ℕ) (first next : List ℕ) (state : ℕ) (L : Linking parents states first next state) (low : Below most_states parents) (few : states ≤ most_states) where
-  abbrev parent : ℕ → ℕ
-  parent j = get_or parents j 0
+-- a state is put in front of the children of its parent
+pub record Put (links links' : List Links) (s p : ℕ) : Type 0 where
+  pub same : length links' ≡ length links
+  pub first_here : first_of links' p ≡ Some s
+  pub first_other : (i : ℕ) → (i ≡ p → ⊥) → first_of links' i ≡ first_of links i
+  pub next_here : next_of links' s ≡ first_of links p
+  pub next_other : (x : ℕ) → (x ≡ s → ⊥) → next_of links' x ≡ next_of links x
 
-  pub linking_more : 1 < state → (p : ℕ) → p ≡ parent (state - 1)
-      → Linking parents states (set first p (state - 1)) (set next (state - 1) (get_or first p 0)) (state - 1)
-  linking_more h p p-is =
+abbrev pub with_next : List Links → ℕ → ℕ → List Links
+with_next links s p = set links s (record { first = first_of links s; next = first_of links p })
+
+abbrev pub with_first : List Links → ℕ → ℕ → List Links
+with_first links s p = set links p (record { first = Some s; next = next_of links p })
+
+pub put : (links : List Links) (s p : ℕ) → s < length links → p < length links → Put links (with_first (with_next links s p) s p) s p
+put links s p h k =
+    let none : Links = record { first = None; next = None } in
+    let links₁ = with_next links s p in
+    let now : Links = record { first = first_of links s; next = first_of links p } in
+    let then : Links = record { first = Some s; next = next_of links₁ p } in
+    let l₁ : length links₁ ≡ length links = length-set links s now in
+    let next-kept = field-kept none (λ (x : Links). x.next) links₁ p then (omega (arith, l₁)) refl in
+    let first-kept = field-kept none (λ (x : Links). x.first) links s now h refl in
+    record {
+      same = length-set links₁ p then ∙ l₁;
+      first_here = ap (λ (x : Links). x.first) (get_or-set_same links₁ p then none (omega (arith, l₁)));
+      first_other = λ i e. ap (λ (x : Links). x.first) (get_or-set_other links₁ p i then none e) ∙ first-kept i;
+      next_here = next-kept s ∙ ap (λ (x : Links). x.next) (get_or-set_same links s now none h);
+      next_other = λ x e. next-kept x ∙ ap (λ (x : Links). x.next) (get_or-set_other links s x now none e);
+    }
+
+module _ (tree : List State) (states : ℕ) (links : List Links) (state : ℕ) (L : Linking tree states links state) (few : states ≤ most_states) where
+  abbrev parent : ℕ → ℕ
+  parent = parent_of tree
+
+  pub linking_more : (s : ℕ) → suc s ≡ state → 1 ≤ s → (p : ℕ) → p ≡ parent s → p < most_states → (links' : List Links) → Put links links' s p → Linking tree states links' s
+  linking_more s s-is h p p-is p-low links' P =
       record {
-        first-all = length-set first p s ∙ L.first-all;
-        next-all = length-set next s (get_or first p 0) ∙ L.next-all;
-        some = omega arith;
+        links-all = P.same ∙ L.links-all;
+        some = h;
         within = omega (arith, L.within);
-        chains = λ i l. subst (λ (k : List ℕ). Chain next' (get_or first' i 0) k) (sym (here i)) (⊎_elim (λ e. mine i l e) (λ e. other i l e) (same? (parent s) i));
+        chains = λ i l. subst (λ (k : List ℕ). Chain (next_of links') (first_of links' i) k) (sym (here i)) (⊎_elim (λ e. mine i l e) (λ e. other i l e) (same? (parent s) i));
       }
     where
-      s : ℕ
-      s = state - 1
-
-      first' : List ℕ
-      first' = set first p s
-
-      next' : List ℕ
-      next' = set next s (get_or first p 0)
-
       here : (i : ℕ) → children parent i s (states - s) ≡ cond (eqb (parent s) i) (s ∷ []) [] ++ children parent i state (states - state)
       here i =
           let e : states - s ≡ suc (states - state) = omega (arith, L.within) in
-          let f : suc s ≡ state = omega arith in
-          ap (children parent i s) e ∙ ap (λ (j : ℕ). cond (eqb (parent s) i) (s ∷ []) [] ++ children parent i j (states - state)) f
+          ap (children parent i s) e ∙ ap (λ (j : ℕ). cond (eqb (parent s) i) (s ∷ []) [] ++ children parent i j (states - state)) s-is
 
       later : (i x : ℕ) → Memᴰ x (children parent i state (states - state)) → s < x
       later i x m = omega (arith, (child_to parent i (states - state) state x m).0)
 
-      kept : (i : ℕ) → i < most_states → Chain next' (get_or first i 0) (children parent i state (states - state))
-      kept i l = chain-set next s (get_or first p 0) (children parent i state (states - state)) (get_or first i 0) (later i) (L.chains i l)
+      kept : (i : ℕ) → i < most_states → Chain (next_of links') (first_of links i) (children parent i state (states - state))
+      kept i l =
+          chain-same (next_of links) (next_of links') (children parent i state (states - state)) (first_of links i)
+          (λ x m. sym (P.next_other x (λ e. let f = later i x m in omega arith))) (L.chains i l)
 
-      mine : (i : ℕ) → i < most_states → parent s ≡ i → Chain next' (get_or first' i 0) (cond (eqb (parent s) i) (s ∷ []) [] ++ children parent i state (states - state))
+      mine : (i : ℕ) → i < most_states → parent s ≡ i → Chain (next_of links') (first_of links' i) (cond (eqb (parent s) i) (s ∷ []) [] ++ children parent i state (states - state))
       mine i l e =
           let q : p ≡ i = p-is ∙ e in
-          let f : get_or first' i 0 ≡ s = ap (λ (j : ℕ). get_or first' j 0) (sym q) ∙ get_or-set_same first p s 0 (omega (arith, L.first-all)) in
-          let g : get_or next' s 0 ≡ get_or first i 0 = get_or-set_same next s (get_or first p 0) 0 (omega (arith, L.next-all, L.within)) ∙ ap (λ (j : ℕ). get_or first j 0) q in
+          let f : first_of links' i ≡ Some s = ap (first_of links') (sym q) ∙ P.first_here in
+          let g : next_of links' s ≡ first_of links i = P.next_here ∙ ap (first_of links) q in
           rw (eq-eqb (parent s) i e) (
             f,
             omega (arith, L.within),
-            omega (arith, g, chain-above next s (children parent i state (states - state)) (get_or first i 0) (omega (arith, L.within)) (later i) (L.chains i l)),
-            subst (λ (n : ℕ). Chain next' n (children parent i state (states - state))) (sym g) (kept i l),
+            subst (λ (o : Option ℕ). IfSome o (λ n. s < n)) (sym g) (chain-above (next_of links) s (children parent i state (states - state)) (first_of links i) (later i) (L.chains i l)),
+            subst (λ (o : Option ℕ). Chain (next_of links') o (children parent i state (states - state))) (sym g) (kept i l),
           )
 
-      other : (i : ℕ) → i < most_states → (parent s ≡ i → ⊥) → Chain next' (get_or first' i 0) (cond (eqb (parent s) i) (s ∷ []) [] ++ children parent i state (states - state))
+      other : (i : ℕ) → i < most_states → (parent s ≡ i → ⊥) → Chain (next_of links') (first_of links' i) (cond (eqb (parent s) i) (s ∷ []) [] ++ children parent i state (states - state))
       other i l e =
-          let f : get_or first' i 0 ≡ get_or first i 0 = get_or-set_other first p i s 0 (λ u. e (sym p-is ∙ sym u)) in
-          rw (ne_eqb (parent s) i e) (subst (λ (n : ℕ). Chain next' n (children parent i state (states - state))) (sym f) (kept i l))
-
-  pub linking_done : state ≤ 1 → Linked parents states first next
-  linking_done h =
-      let e : state ≡ 1 = omega (arith, L.some) in
-      record { first-all = L.first-all; next-all = L.next-all; chains = λ i l. subst (λ (j : ℕ). Chain next (get_or first i 0) (children parent i j (states - j))) e (L.chains i l) }
+          let f : first_of links' i ≡ first_of links i = P.first_other i (λ u. e (sym p-is ∙ sym u)) in
+          rw (ne_eqb (parent s) i e) (subst (λ (o : Option ℕ). Chain (next_of links') o (children parent i state (states - state))) (sym f) (kept i l))

@@ -1,9 +1,12 @@
 -- Cells after a run of stores.
 use Prim.Native.Nat.{ℕ, zero, suc, ◌+◌, ◌≤◌, ◌<◌}
 use native.Mathlib.Omega.{arith}
-use mathlib.Core.Path.{◌≡◌, refl, ap, ◌∙◌}
+use mathlib.Core.Path.{◌≡◌, refl, sym, ap, subst, ◌∙◌}
+use mathlib.Core.Bool.{Bool, true, false}
 use mathlib.Core.List.{List, [], ◌∷◌}
 use lib.ListN.{length, get_or, set, length-set}
+use lib.Dec.{eqb}
+use borrow.Author.Tests.{eqb-true, eqb-false}
 use lib.Seq.{sets, get_or-set_same, get_or-set_other}
 
 module _ {A : Type 0} (d : A) where
@@ -24,6 +27,12 @@ module _ {A : Type 0} (d : A) where
   sets-after [] l i k h = refl
   sets-after (v ∷ vs) l i k h = sets-after vs (set l i v) (suc i) k (omega arith) ∙ get_or-set_other l i k v d (λ e. omega arith)
 
--- one store, then the others behind it
-pub sets-next : {A : Type 0} (s : List A) (i : ℕ) (v : A) (vs : List A) → sets (set s i v) (i + 1) vs ≡ sets s i (v ∷ vs)
-sets-next s i v vs = let e : i + 1 ≡ suc i = omega arith in ap (λ (n : ℕ). sets (set s i v) n vs) e
+-- a store of a value with the same field leaves that field everywhere
+pub field-kept : {A B : Type 0} (d : A) (f : A → B) (l : List A) (k : ℕ) (v : A) → k < length l → f v ≡ f (get_or l k d) → (j : ℕ) → f (get_or (set l k v) j d) ≡ f (get_or l j d)
+field-kept d f l k v h e j = go (eqb j k) refl
+  where
+    go : (t : Bool) → eqb j k ≡ t → f (get_or (set l k v) j d) ≡ f (get_or l j d)
+    go true g =
+        let s : k ≡ j = sym (eqb-true j k g) in
+        subst (λ (i : ℕ). f (get_or (set l k v) i d) ≡ f (get_or l i d)) s (ap f (get_or-set_same l k v d h) ∙ e)
+    go false g = ap f (get_or-set_other l k j v d (eqb-false j k g))

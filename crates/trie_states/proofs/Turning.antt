@@ -1,98 +1,91 @@
--- One turn over the bytes of a list, in terms of what the code has: the last word is a part of the bytes, and so is the next one.
+-- One turn over the words of a list, in terms of what the code has.
 use Prim.Native.Nat.{ℕ, ◌+◌, ◌-◌, ◌≤◌, ◌<◌}
 use native.Mathlib.Omega.{arith}
 use mathlib.Core.Path.{◌≡◌, sym, ap, ap₂, subst, ◌∙◌}
+use mathlib.Core.Bool.{true}
 use mathlib.Core.List.{List, [], ◌∷◌, ◌++◌}
-use lib.ListN.{length, get_or, set, take, drop, length-drop}
-use lib.Seq.{sets, length-take-le}
-use Rattle.lexicon.specs.Words.{Word}
+use lib.ListN.{length, take, drop, length-drop}
+use lib.Seq.{sets, take_all}
+use Rattle.lexicon.specs.Words.{Word, rises}
 use Rattle.lexicon.specs.Beginnings.{beginnings}
-use Rattle.lexicon.specs.Lexicon.{most_states, TakenAs}
-use Rattle.lexicon.specs.Check.{common}
-use Rattle.lexicon.proofs.Beginnings.{last_word}
+use Rattle.lexicon.specs.Lexicon.{IsCut, most_states, words, TakenAs}
+use Rattle.lexicon.specs.Check.{common, grown}
 use Rattle.lexicon.proofs.Comparing.{common-first, common-second}
-use Rattle.lexicon.proofs.Checking.{grown-is, ReadTo, word_at, word-part, Next, read_next}
-use Rattle.trie_states.specs.Tree.{ancestor, parents_up}
-use Rattle.trie_states.proofs.Growing.{Growing, q_in, grow_more}
+use Rattle.lexicon.proofs.Checking.{grown-is, ReadTo, Next, read_next, read_all}
+use Rattle.trie_states.specs.declared.tree.State.{State}
+use Rattle.trie_states.specs.Tree.{ancestor, states_below, Tree}
+use Rattle.trie_states.proofs.Growing.{Growing, marked_at, q_in, grow_more}
 
-module _ (bytes : List ℕ) (ws : List Word) (taken : TakenAs bytes ws) (before : List Word) (from at states : ℕ) (R : ReadTo bytes before from at states)
-    (parents letters ends : List ℕ) (G : Growing before (beginnings before) parents letters ends) (there : at < length bytes) (n : ℕ) (n-is : n ≡ get_or bytes at 0) where
-  N : Next bytes before from at states R
-  N = read_next bytes before from at states R ws taken there
+module _ {bytes : List ℕ} {ws : List Word} (taken : TakenAs bytes ws) {so_far : List Word} {before : Word} {rest : List ℕ} {states : ℕ}
+    (R : ReadTo bytes so_far before rest states) {tree : List State} (G : Growing so_far (beginnings so_far) tree)
+    (word : Word) (after : List ℕ) (here : rest ≡ length word ∷ (word ++ after)) where
+  N : Next bytes so_far before rest states R word after here
+  N = read_next bytes so_far before rest states R word after here ws taken
 
-  pub room : at + 1 + n ≤ length bytes
-  room = omega (arith, N.room)
+  above : rises before word ≡ true
+  above = ap (λ (p : Word). rises p word) R.is_last ∙ N.above
 
-  abbrev word : Word
-  word = take (at + 1 + n - (at + 1)) (drop (at + 1) bytes)
+  abbrev shared : ℕ
+  shared = common before word
 
-  abbrev part : Word
-  part = take (at - from) (drop from bytes)
+  grown-count : states + (length word - shared) ≡ length (beginnings (so_far ++ (word ∷ [])))
+  grown-count = ap (λ (p : Word). grown p word states) R.is_last ∙ ap (grown _ word) R.count ∙ sym (grown-is so_far word)
 
-  word-is : word ≡ word_at bytes before from at states R
-  word-is = word-part bytes before from at states R n n-is
+  pub states_in : (0 < states) × (states ≤ most_states)
+  unfolding beginnings
+  states_in = (omega (arith, R.count), omega (arith, R.count, R.kept.few))
 
-  part_length : length part ≡ at - from
-  part_length = length-take-le (at - from) (drop from bytes) (omega (arith, length-drop from bytes, R.within))
+  module _ {k : ℕ} (k-is : k ≡ shared) where
+    pub shared_first : k ≤ length before
+    shared_first = omega (arith, k-is, common-first before word)
 
-  module _ (shared : ℕ) (shared-is : shared ≡ common part word) where
-    pub shared_first : shared ≤ at - from
-    shared_first = omega (arith, common-first part word, part_length)
+    pub shared_second : k ≤ length word
+    shared_second = omega (arith, k-is, common-second before word)
 
-    pub shared_second : shared ≤ length word
-    shared_second = omega (arith, common-second part word)
+    -- the letters that are new
+    abbrev part : Word
+    part = take (length word - k) (drop k word)
 
-    abbrev parent : ℕ
-    parent = ancestor parents (states - 1) (at - from - shared)
+    part-is : part ≡ drop shared word
+    part-is = take_all (length word - k) (drop k word) (omega (arith, length-drop k word)) ∙ ap (λ (i : ℕ). drop i word) k-is
 
-    abbrev fresh-count : ℕ
-    fresh-count = length word - shared
+    part-length : length part ≡ length word - shared
+    part-length = ap length part-is ∙ length-drop shared word
 
-    shared_common : shared ≡ common (last_word [] before) (word_at bytes before from at states R)
-    shared_common = shared-is ∙ ap₂ common R.last word-is
+    pub fits : states + length part ≤ most_states
+    fits = omega (arith, part-length, grown-count, N.read.kept.few)
 
-    above-is : at - from - shared ≡ length (last_word [] before) - shared
-    above-is = ap (λ (k : ℕ). k - shared) (sym part_length ∙ ap length R.last)
+    module _ {q : ℕ} (q-is : q ≡ ancestor tree (states - 1) (length before - k)) where
+      q-parent : q ≡ ancestor tree (states - 1) (length before - shared)
+      q-parent = q-is ∙ ap (λ (i : ℕ). ancestor tree (states - 1) (length before - i)) k-is
 
-    grown-count : states + fresh-count ≡ length (beginnings (before ++ (word_at bytes before from at states R ∷ [])))
-    grown-count =
-        ap₂ (λ (s k : ℕ). s + k) R.count (ap₂ (λ (v : Word) (k : ℕ). length v - k) word-is shared_common)
-        ∙ sym (grown-is before (word_at bytes before from at states R))
+      pub parent-low : q < most_states
+      parent-low = omega (arith, q-parent, q_in so_far word before R.is_last states R.count tree N.read.kept G N.holds above, states_in.1)
 
-    pub fits : states + fresh-count ≤ most_states
-    fits = omega (arith, grown-count, N.read.kept.few)
+      -- what `add` leaves
+      module _ {r : ℕ} {tree' : List State} (r-is : r ≡ states + length part) (tree-is : tree' ≡ sets tree states (states_below q states part)) where
+        r-count : r ≡ states + (length word - shared)
+        r-count = omega (arith, r-is, part-length)
 
-    abbrev w : Word
-    w = word_at bytes before from at states R
+        pub last-in : (1 ≤ r) × (r ≤ most_states)
+        last-in = (omega (arith, r-is, states_in.0), omega (arith, r-is, fits))
 
-    parent_is : parent ≡ ancestor parents (length (beginnings before) - 1) (length (last_word [] before) - common (last_word [] before) w)
-    parent_is = ap₂ (λ (s k : ℕ). ancestor parents (s - 1) k) R.count (above-is ∙ ap (λ (k : ℕ). length (last_word [] before) - k) shared_common)
+        -- and the mark
+        pub grown-next : (vs : List Word) × ReadTo bytes vs word after r × Growing vs (beginnings vs) (marked_at tree' (r - 1))
+        grown-next =
+            let t : tree' ≡ sets tree states (states_below (ancestor tree (states - 1) (length before - shared)) states (drop shared word)) =
+            tree-is ∙ ap₂ (λ (i : ℕ) (v : Word). sets tree states (states_below i states v)) q-parent part-is in (
+              so_far ++ (word ∷ []),
+              subst (λ (i : ℕ). ReadTo bytes (so_far ++ (word ∷ [])) word after i) (sym (r-count ∙ grown-count)) N.read,
+              subst (λ (i : ℕ). Growing (so_far ++ (word ∷ [])) (beginnings (so_far ++ (word ∷ []))) (marked_at tree' (i - 1))) (sym r-count)
+                  (subst (λ (l : List State). Growing (so_far ++ (word ∷ [])) (beginnings (so_far ++ (word ∷ []))) (marked_at l (states + (length word - shared) - 1))) (sym t)
+                  (grow_more so_far word before R.is_last states R.count tree N.read.kept G N.holds above)),
+            )
 
-    pub states_in : (0 < states) × (states ≤ most_states)
-    unfolding beginnings
-    states_in = (omega (arith, R.count), omega (arith, R.count, R.kept.few))
-
-    pub parent-low : parent < most_states
-    parent-low = omega (arith, parent_is, q_in before w parents letters ends N.read.kept G N.holds N.above, R.count, states_in.1)
-
-    abbrev Grown : ℕ → ℕ → Word → ℕ → Type 0
-    Grown q s v k =
-        Growing (before ++ (w ∷ [])) (beginnings (before ++ (w ∷ []))) (sets parents s (parents_up q s (length v - k))) (sets letters s (drop k v)) (set ends (s + (length v - k) - 1) 1)
-
-    -- what `add` leaves
-    module _ (q r : ℕ) (parents' letters' : List ℕ) (q-is : q ≡ parent) (r-is : r ≡ states + fresh-count) (parents-are : parents' ≡ sets parents states (parents_up q states fresh-count))
-        (letters-are : letters' ≡ sets letters states (drop shared word)) where
-      pub grown-next : (vs : List Word) × ReadTo bytes vs (at + 1) (at + 1 + n) r × Growing vs (beginnings vs) parents' letters' (set ends (r - 1) 1)
-      grown-next =
-          let Q = ancestor parents (length (beginnings before) - 1) (length (last_word [] before) - common (last_word [] before) w) in
-          let G₀ : Grown Q (length (beginnings before)) w (common (last_word [] before) w) = grow_more before w parents letters ends N.read.kept G N.holds N.above in
-          let G₁ : Grown Q (length (beginnings before)) word shared =
-          subst (λ (v : Word). Grown Q (length (beginnings before)) v shared) (sym word-is) (subst (λ (k : ℕ). Grown Q (length (beginnings before)) w k) (sym shared_common) G₀) in
-          let G₂ : Grown q states word shared = subst (λ (x : ℕ). Grown x states word shared) (sym (q-is ∙ parent_is)) (subst (λ (s : ℕ). Grown Q s word shared) (sym R.count) G₁) in (
-            before ++ (w ∷ []),
-            subst (λ (k : ℕ). ReadTo bytes (before ++ (w ∷ [])) (at + 1) (at + 1 + n) k) (sym (r-is ∙ grown-count))
-                (subst (λ (k : ℕ). ReadTo bytes (before ++ (w ∷ [])) (at + 1) (at + 1 + k) (length (beginnings (before ++ (w ∷ []))))) (sym n-is) N.read),
-            subst (λ (k : ℕ). Growing (before ++ (w ∷ [])) (beginnings (before ++ (w ∷ []))) parents' letters' (set ends (k - 1) 1)) (sym r-is)
-                (subst (λ (l : List ℕ). Growing (before ++ (w ∷ [])) (beginnings (before ++ (w ∷ []))) parents' l (set ends (states + fresh-count - 1) 1)) (sym letters-are)
-                (subst (λ (l : List ℕ). Growing (before ++ (w ∷ [])) (beginnings (before ++ (w ∷ []))) l (sets letters states (drop shared word)) (set ends (states + fresh-count - 1) 1)) (sym parents-are) G₂)),
-          )
+-- the whole list is read
+pub grown-all : {bytes : List ℕ} {so_far : List Word} {before : Word} {rest : List ℕ} {states : ℕ} → ReadTo bytes so_far before rest states → {tree : List State}
+    → Growing so_far (beginnings so_far) tree → IsCut rest → (ws : List Word) → TakenAs bytes ws → Tree ws (beginnings ws) tree
+grown-all {bytes} {so_far} {before} {rest} {states} R {tree} G cut ws e =
+    let f : words so_far ≡ words ws = sym (read_all bytes so_far before rest states R ws e cut) ∙ e in
+    let g : so_far ≡ ws = cc in
+    subst (λ (l : List Word). Tree l (beginnings l) tree) g G.holds

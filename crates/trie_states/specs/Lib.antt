@@ -1,2 +1,2 @@
--- What rows of cells say of the letter tree: what a reader has to believe.
+-- What rows say of the letter tree and of the children of its states: what a reader has to believe.
 pub mod Tree

@@ -1,71 +1,73 @@
-// The letter tree of a list that holds. Each state but the root has its parent and its last letter; the ends of words are marked with 1.
-ghost use Rattle.std.specs.Prelude.{◌≡◌, List, ◌+◌, ◌-◌, ◌≤◌, ◌<◌, length, drop, replicate};
+// The letter tree of a list that holds, in a row of states.
+ghost use Rattle.std.specs.Prelude.{◌≡◌, List, ◌+◌, ◌≤◌, ◌<◌, length};
 ghost use Rattle.std.proofs.lemmas.List.Edits.{sets};
 ghost use Rattle.lexicon.specs.Words.{Word};
 ghost use Rattle.lexicon.specs.Beginnings.{beginnings};
 ghost use Rattle.lexicon.specs.Lexicon.{most_states, TakenAs};
-ghost use Rattle.trie_states.specs.Tree.{Below, ancestor, parents_up, Tree};
+ghost use Rattle.trie_states.specs.Tree.{ancestor, states_below, Tree};
+
+use lexicon::{ListWords, MOST_STATES};
+
+// A state: the one that it stands below, the letter that leads to it from there, and whether a word ends at it.
+#[derive(Clone, Copy)]
+pub struct State {
+    pub parent: u8,
+    pub letter: u8,
+    pub is_end: bool,
+}
+
+// The root, and what stands in a row that no state has.
+const ROOT: State = State {
+    parent: 0,
+    letter: 0,
+    is_end: false,
+};
 
 // The state that stands so many parents above another.
-fn ancestor(parents: &[u16], state: usize, above: usize) -> usize
-    requires { (state < most_states) × (length parents.now ≡ most_states) × Below most_states parents.now }
-    ensures { result ≡ ancestor parents.now state above }
+fn ancestor(tree: &[State; MOST_STATES], state: usize, above: usize) -> usize
+    requires { state < most_states }
+    ensures { result ≡ ancestor tree.now state above }
 {
     let mut at = state;
-    let mut k = 0;
-    while k < above {
-        at = widen::cell_as_index(parents[at]);
-        k += 1;
+    for _ in 0..above {
+        at = usize::from(tree[at].parent);
     }
     at
 }
 
-// A state for each letter of a word after the first `shared`, below the state of those. How many states there are then.
-fn add(
-    word: &[u8],
-    shared: usize,
-    parent: usize,
-    states: usize,
-    parents: &mut [u16],
-    letters: &mut [u8],
-) -> usize
-    requires shared_in_bounds { (shared ≤ length word.now) × (parent < most_states) × (states + (length word.now - shared) ≤ most_states) }
-    requires parents_len { (length parents.old ≡ most_states) × (length letters.old ≡ most_states) }
-    ensures { (result ≡ states + (length word.now - shared))
-        × (parents.new ≡ sets parents.old states (parents_up parent states (length word.now - shared)))
-        × (letters.new ≡ sets letters.old states (drop shared word.now)) }
+// A state for each of a word's last letters, the first below `parent` and each later one below the one before it. How many states there are then.
+fn add(tree: &mut [State; MOST_STATES], states: usize, parent: usize, letters: &[u8]) -> usize
+    requires { (parent < most_states) × (states + length letters.now ≤ most_states) }
+    ensures { (result ≡ states + length letters.now)
+        × (tree.new ≡ sets tree.old states (states_below parent states letters.now)) }
 {
     let mut above = parent;
-    let mut state = states;
-    let mut k = shared;
-    while k < word.len() {
-        parents[state] = above as u16;
-        letters[state] = word[k];
+    for (k, letter) in letters.iter().enumerate() {
+        let state = states + k;
+        tree[state] = State {
+            parent: above as u8,
+            letter: *letter,
+            is_end: false,
+        };
         above = state;
-        state += 1;
-        k += 1;
     }
-    state
+    states + letters.len()
 }
 
-// The states of all words. The word before stands between `from` and `at`, and the last state is its end.
-pub fn grow(words: &[u8], parents: &mut [u16], letters: &mut [u8], ends: &mut [u8])
-    requires taken_as { (ws : List Word) × TakenAs words.now ws }
-    requires parents_value { (parents.old ≡ replicate most_states 0) × (letters.old ≡ replicate most_states 0) × (ends.old ≡ replicate most_states 0) }
-    ensures { (ws : List Word) → TakenAs words.now ws
-        → Tree ws (beginnings ws) parents.new letters.new ends.new }
+// The states of all words. Before the first word stands the empty one, and the last state is the end of the word before.
+pub fn grow(words: &[u8]) -> [State; MOST_STATES]
+    requires { (ws : List Word) × TakenAs words.now ws }
+    ensures { (ws : List Word) → TakenAs words.now ws → Tree ws (beginnings ws) result }
 {
+    let mut tree = [ROOT; MOST_STATES];
     let mut states = 1;
-    let mut from = 0;
-    let mut at = 0;
-    while at < words.len() {
-        let first = at + 1;
-        let end = first + widen::byte_as_index(words[at]);
-        let shared = lexicon::common(&words[from..at], &words[first..end]);
-        let parent = ancestor(parents, states - 1, at - from - shared);
-        states = add(&words[first..end], shared, parent, states, parents, letters);
-        ends[states - 1] = 1;
-        from = first;
-        at = end;
+    let mut before: &[u8] = &[];
+    for word in ListWords(words) {
+        let shared = lexicon::common(before, word);
+        let parent = ancestor(&tree, states - 1, before.len() - shared);
+        states = add(&mut tree, states, parent, &word[shared..]);
+        tree[states - 1].is_end = true;
+        before = word;
     }
+    tree
 }

@@ -8,17 +8,33 @@ use mathlib.Core.List.Memᴰ
 use mathlib.Core.List.{List, [], ◌∷◌, Memᴰ}
 use lib.Dec.{leb, ltb}
 use lib.ListN.{length, get_or, drop}
-use borrow.Author.Tests.{ltb-true, ltb-false, leb-true, lt-ltb, le-ltb, le-leb, lt-leb}
-use Rattle.utf8.specs.declared.Character.TheVariants.{Scalar, Malformed}
-use Rattle.utf8.specs.Utf8.{is_scalar, encoded, is_tail, several, character_in}
+use borrow.Author.Tests.{ltb-true, ltb-false, leb-true, lt-ltb, le-ltb, le-leb}
+use Rattle.std.specs.Prelude.{Option, None, Some}
+use Rattle.std.proofs.lemmas.Bool.Decides.{nat_tests}
+use Rattle.std.specs.Char.{InScalarRange, OutOfScalarRange}
+use Rattle.utf8.specs.declared.Character.{Character}
+use Rattle.utf8.specs.Utf8.{scalar, is_scalar, encoded, is_tail, several, character_in}
+
+-- A character tells its code point and in how many bytes it stands.
+
+pub scalar-tells : (c n d m : ℕ) → scalar c n ≡ scalar d m → (c ≡ d) × (n ≡ m)
+scalar-tells c n d m e = (ap (λ (x : Option Character). code_in x) e, ap (λ (x : Option Character). size_in x) e)
+  where
+    code_in : Option Character → ℕ
+    code_in (Some x) = x.code
+    code_in None = 0
+
+    size_in : Option Character → ℕ
+    size_in (Some x) = x.size
+    size_in None = 0
 
 -- Code points of characters.
 
-pub scalar_low : (c : ℕ) → c < 55296 → is_scalar c ≡ true
-scalar_low c h = ap (λ (t : Bool). t || (leb 57344 c && leb c 1114111)) (lt-ltb c 55296 h)
+pub scalar_in : (c : ℕ) → InScalarRange c → is_scalar c ≡ true
+scalar_in c h = grind (arith, nat_tests)
 
-pub scalar_high : (c : ℕ) → 55296 ≤ c → (t : Bool) → leb 57344 c ≡ t → is_scalar c ≡ (t && leb c 1114111)
-scalar_high c h t e = ap₂ (λ (s t : Bool). s || (t && leb c 1114111)) (le-ltb c 55296 h) e
+pub scalar_out : (c : ℕ) → OutOfScalarRange c → is_scalar c ≡ false
+scalar_out c h = grind (arith, nat_tests)
 
 pub scalar_most : (c : ℕ) → is_scalar c ≡ true → c ≤ 1114111
 scalar_most c = go (ltb c 55296) (leb 57344 c) (leb c 1114111) refl refl
@@ -34,11 +50,8 @@ scalar_most c = go (ltb c 55296) (leb 57344 c) (leb c 1114111) refl refl
 pub tail_is : (b : ℕ) → 128 ≤ b → b < 192 → is_tail b ≡ true
 tail_is b h k = ap₂ (λ (s t : Bool). s && t) (le-leb 128 b h) (lt-ltb b 192 k)
 
-pub tail_below : (b : ℕ) → b < 128 → is_tail b ≡ false
-tail_below b h = ap (λ (t : Bool). t && ltb b 192) (lt-leb 128 b h)
-
-pub tail_above : (b : ℕ) → 192 ≤ b → is_tail b ≡ false
-tail_above b h = ap₂ (λ (s t : Bool). s && t) (le-leb 128 b (omega arith)) (le-ltb b 192 h)
+pub not_tail : (b : ℕ) → (128 ≤ b → b < 192 → ⊥) → is_tail b ≡ false
+not_tail b h = grind (arith, nat_tests)
 
 pub tail_range : (b : ℕ) → is_tail b ≡ true → (128 ≤ b) × (b < 192)
 tail_range b = go (leb 128 b) (ltb b 192) refl refl
@@ -90,21 +103,21 @@ encoded-bytes c e =
 
 -- First bytes.
 
-pub no_byte : (text : List ℕ) → length text ≡ 0 → character_in text ≡ Malformed
+pub no_byte : (text : List ℕ) → length text ≡ 0 → character_in text ≡ None
 unfolding character_in
 no_byte [] h = refl
 no_byte (x ∷ text) h = absurd (omega arith)
 
-pub first_byte : (text : List ℕ) → (length text ≡ 0 → ⊥) → (b : ℕ) → b ≡ get_or text 0 0 → character_in text ≡ character_in (b ∷ drop 1 text)
-first_byte [] h b e = absurd (h refl)
+pub first_byte : (text : List ℕ) → 0 < length text → (b : ℕ) → b ≡ get_or text 0 b → character_in text ≡ character_in (b ∷ drop 1 text)
+first_byte [] h b e = absurd (omega arith)
 first_byte (x ∷ text) h b e = ap (λ (y : ℕ). character_in (y ∷ text)) (sym e)
 
 module _ (b : ℕ) (bytes : List ℕ) where
-  pub one_byte : b < 128 → character_in (b ∷ bytes) ≡ Scalar b 1
+  pub one_byte : b < 128 → character_in (b ∷ bytes) ≡ scalar b 1
   unfolding character_in
   one_byte h = rw (lt-ltb b 128 h)
 
-  pub no_first : 128 ≤ b → b < 192 → character_in (b ∷ bytes) ≡ Malformed
+  pub no_first : 128 ≤ b → b < 192 → character_in (b ∷ bytes) ≡ None
   unfolding character_in
   no_first h k = rw (le-ltb b 128 h, lt-ltb b 192 k)
 
@@ -120,6 +133,6 @@ module _ (b : ℕ) (bytes : List ℕ) where
   unfolding character_in
   four_bytes h k = rw (le-ltb b 128 (omega arith), le-ltb b 192 (omega arith), le-ltb b 224 (omega arith), le-ltb b 240 h, lt-ltb b 248 k)
 
-  pub too_high : 248 ≤ b → character_in (b ∷ bytes) ≡ Malformed
+  pub too_high : 248 ≤ b → character_in (b ∷ bytes) ≡ None
   unfolding character_in
   too_high h = rw (le-ltb b 128 (omega arith), le-ltb b 192 (omega arith), le-ltb b 224 (omega arith), le-ltb b 240 (omega arith), le-ltb b 248 h)

@@ -14,14 +14,14 @@ use Rattle.lexicon.specs.Beginnings.{beginnings}
 use Rattle.lexicon.specs.Lexicon.{most_states}
 use Rattle.lexicon.proofs.Lexicon.{kept-none}
 use Rattle.wordlist_lines.specs.Lines.{Line}
-use Rattle.wordlist_spelling.specs.declared.Ending.{Ending}
-use Rattle.wordlist_spelling.specs.declared.Ending.TheVariants.{Whole, NoLetter, TooLong}
-use Rattle.wordlist_spelling.specs.Spelled.{spelled}
+use Rattle.std.specs.Prelude.{Some, None}
+use Rattle.wordlist_spelling.specs.declared.FaultKind.TheVariants.{NoLetter, TooLong}
+use Rattle.wordlist_spelling.specs.Spelled.{Ending, spelled}
 use Rattle.wordlist_sorted.specs.Sorted.{inserted, sorted_onto, sorted}
 use Rattle.wordlist_sorted.proofs.Growth.{onto-more}
 use Rattle.wordlist.specs.Gathered.{Fate, taken, bad_word, too_many, fate_by, fate_from}
 use Rattle.wordlist.specs.Facts.{IsWord, word_of, TakenLines, FirstFault, ComesTo}
-use Rattle.wordlist.proofs.Words.{whole_word, word-ends, fault_no_word, no_word-fault}
+use Rattle.wordlist.proofs.LineWords.{whole_word, word-ends, fault_no_word, no_word-fault}
 
 -- Lines that make a list.
 
@@ -67,9 +67,9 @@ comes-from (l ∷ ls) before ws T = go (spelled l.text).ending refl (comes-from 
     go : (e : Ending) → (spelled l.text).ending ≡ e
         → (TakenLines (before ++ (l ∷ [])) (inserted (word_of l) ws) → ComesTo ((before ++ (l ∷ [])) ++ ls) (fate_from (inserted (word_of l) ws) ls))
         → ComesTo (before ++ (l ∷ ls)) (fate_by e l ws (word_of l) (λ vs. fate_from vs ls))
-    go Whole e G = by-states (leb (length (beginnings (inserted (word_of l) ws))) most_states) (whole_word l e) refl G
-    go NoLetter e G = first (fault_no_word l ws (inl e))
-    go TooLong e G = first (fault_no_word l ws (inr e))
+    go None e G = by-states (leb (length (beginnings (inserted (word_of l) ws))) most_states) (whole_word l e) refl G
+    go (Some NoLetter) e G = first (fault_no_word l ws (inl e))
+    go (Some TooLong) e G = first (fault_no_word l ws (inr e))
 
 -- Nothing else is so: lines that make a list are gone through, whatever follows.
 
@@ -81,7 +81,7 @@ by-ending l ws ls e q = ap (λ (x : Ending). fate_by x l ws (word_of l) (λ vs. 
 by_word : (l : Line) (ws : List Word) (ls : List Line) (b : Bool) → IsWord l (word_of l) → leb (length (beginnings (inserted (word_of l) ws))) most_states ≡ b
     → fate_from ws (l ∷ ls) ≡ cond b (fate_from (inserted (word_of l) ws) ls) (too_many l ws)
 by_word l ws ls b h t =
-    by-ending l ws ls Whole (word-ends l (word_of l) h) ∙ ap (λ (x : Bool). cond x (fate_from (inserted (word_of l) ws) ls) (too_many l ws)) t
+    by-ending l ws ls None (word-ends l (word_of l) h) ∙ ap (λ (x : Bool). cond x (fate_from (inserted (word_of l) ws) ls) (too_many l ws)) t
 
 goes_on : (ls after : List Line) (ws : List Word) → ((l : Line) → Memᴰ l ls → IsWord l (word_of l))
     → length (beginnings (sorted_onto ws (map word_of ls))) ≤ most_states → fate_from ws (ls ++ after) ≡ fate_from (sorted_onto ws (map word_of ls)) after
@@ -105,7 +105,7 @@ told : (ls : List Line) (f : Fate) → ComesTo ls f → fate_from [] ls ≡ f
 unfolding fate_from
 told ls (taken ws) T = ap (fate_from []) (sym (append-nil ls)) ∙ made-goes_on ls [] ws T
 told ls (bad_word l ws) F =
-    first-told ls l ws (bad_word l ws) F (⊎_elim (by-ending l ws F.after NoLetter) (by-ending l ws F.after TooLong) (no_word-fault l ws F.fault))
+    first-told ls l ws (bad_word l ws) F (⊎_elim (by-ending l ws F.after (Some NoLetter)) (by-ending l ws F.after (Some TooLong)) (no_word-fault l ws F.fault))
 told ls (too_many l ws) F = first-told ls l ws (too_many l ws) F (by_word l ws F.after false F.fault.0 (lt-leb _ most_states F.fault.1))
 
 pub comes-to : (ls : List Line) (f : Fate) → (fate_from [] ls ≡ f) ↔ ComesTo ls f

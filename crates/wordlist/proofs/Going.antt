@@ -2,12 +2,12 @@
 use Prim.Native.Nat.{ℕ, suc, ◌+◌, ◌-◌, ◌≤◌, ◌<◌}
 use native.Mathlib.Omega.{arith}
 use native.Mathlib.Numerals.{add-one}
-use mathlib.Core.Path.{◌≡◌, refl, sym, ap, subst, ◌∙◌}
+use mathlib.Core.Path.{◌≡◌, refl, sym, ap, ◌∙◌}
 use mathlib.Core.Logic.{⊎_elim}
 use mathlib.Core.Bool.{Bool, true, false, cond}
 use mathlib.Core.List.{List, [], ◌∷◌}
 use lib.Dec.{leb}
-use lib.ListN.{length, drop, length-take, length-drop, drop_of_length-le}
+use lib.ListN.{length, drop, length-take, length-drop}
 use borrow.Author.Tests.{le-leb, lt-leb}
 use Rattle.lexicon.specs.Words.{Word}
 use Rattle.lexicon.specs.Beginnings.{beginnings}
@@ -16,32 +16,22 @@ use Rattle.lexicon.specs.Lexicon as lexicon
 use Rattle.lexicon.specs.FirstBad.{Kept}
 use Rattle.lexicon.proofs.Lexicon.{kept-none}
 use Rattle.wordlist_lines.specs.Lines.{Line, lines_in, held_from, mark_size, held_lines}
-use Rattle.wordlist_lines.specs.declared.NextLine.{NextLine}
-use Rattle.wordlist_lines.specs.declared.NextLine.TheVariants.{Found, Nothing}
 use Rattle.wordlist_lines.specs.Next.{part, FoundIs, NextIs}
-use Rattle.wordlist_spelling.specs.declared.Ending.{Ending}
-use Rattle.wordlist_spelling.specs.declared.Ending.TheVariants.{Whole, NoLetter, TooLong}
-use Rattle.wordlist_spelling.specs.Spelled.{spelled}
+use Rattle.std.specs.Prelude.{Some, None, Ok, Err}
+use Rattle.wordlist_spelling.specs.declared.FaultKind.TheVariants.{NoLetter, TooLong}
+use Rattle.wordlist_spelling.specs.Spelled.{Ending, spelled}
 use Rattle.wordlist_sorted.specs.Sorted.{inserted}
 use Rattle.wordlist_sorted.specs.Placed.{Holds}
 use Rattle.wordlist_spelling.proofs.Headlines.{whole-good}
 use Rattle.wordlist_sorted.proofs.Headlines.{inserted-holds, inserted-grows, words-few}
-use Rattle.wordlist.specs.declared.Added.{Added}
-use Rattle.wordlist.specs.declared.Added.TheVariants.{Grown, Bad, TooMany}
+use Rattle.wordlist.specs.declared.FaultKind.{FaultKind}
+use Rattle.wordlist.specs.declared.FaultKind.TheVariants.{BadWord, TooMany}
 use Rattle.wordlist.specs.declared.BadLine.{BadLine}
-use Rattle.wordlist.specs.declared.Gathered.TheVariants as R
-use Rattle.wordlist.specs.Gathered.{taken, too_many, fate_by, fate_from, fate, AddedIs, line_at, BadLineIs, GatheredIs}
+use Rattle.wordlist.specs.declared.Words.{Words}
+use Rattle.wordlist.specs.Gathered.{taken, too_many, fate_by, fate_from, fate, AddedIs, line_at, BadLineIs, FaultIs, GatheredIs}
 
--- What the code is told, by the case that it has in hand.
-
-pub none_of : (text : List ℕ) (at : ℕ) {r : NextLine} → NextIs r text at → r ≡ Nothing → NextIs Nothing text at
-none_of text at N e = subst (λ (x : NextLine). NextIs x text at) e N
-
-pub found_of : (text : List ℕ) (at : ℕ) {r : NextLine} {from end passed next : ℕ} → NextIs r text at → r ≡ Found from end passed next → FoundIs text at from end passed next
-found_of text at N e = subst (λ (x : NextLine). NextIs x text at) e N
-
-pub added_of : (line : List ℕ) (ws : List Word) (before after : List ℕ) {r : Added} (s : Added) → AddedIs r line ws before after → r ≡ s → AddedIs s line ws before after
-added_of line ws before after s A e = subst (λ (x : Added). AddedIs x line ws before after) e A
+abbrev so_many : ℕ → ℕ → Words
+so_many count bytes = record { count = count; bytes = bytes }
 
 -- before the line at a place: the words so far, and what they come to with the lines that are left
 pub record Going (text list₀ : List ℕ) (list : List ℕ) (at before count bytes : ℕ) : Type 0 where
@@ -73,11 +63,8 @@ module _ {text list₀ list : List ℕ} {at before count bytes : ℕ} (G : Going
   unfolding fate_from
   taken-all e = sym G.left ∙ ap (fate_from G.words) (e (before + 1))
 
-  pub none_found : NextIs Nothing text at → GatheredIs (fate text) text (R.Words count bytes) list₀ list
+  pub none_found : NextIs None text at → GatheredIs (fate text) text (Ok (so_many count bytes)) list₀ list
   none_found e = (G.words, taken-all e, G.counted, G.size, G.holds)
-
-  pub none_left : length text ≤ at → GatheredIs (fate text) text (R.Words count bytes) list₀ list
-  none_left h = none_found (λ n. ap (λ (l : List ℕ). held_from n (lines_in l)) (drop_of_length-le text h))
 
   -- the next line that holds a word
   module _ {from end passed next : ℕ} (F : FoundIs text at from end passed next) where
@@ -102,8 +89,8 @@ module _ {text list₀ list : List ℕ} {at before count bytes : ℕ} (G : Going
         ∙ ap (λ (n : ℕ). fate_from G.words (line_at text n from end ∷ held_from (suc n) (lines_in (drop next text)))) number
         ∙ ap (λ (x : Ending). fate_by x found G.words word (λ vs. fate_from vs others)) q
 
-    by-states : (b : Bool) → (spelled (part text from end)).ending ≡ Whole → leb (length (beginnings grown)) most_states ≡ b → fate text ≡ cond b (fate_from grown others) (too_many found G.words)
-    by-states b q t = by-ending Whole q ∙ ap (λ (x : Bool). cond x (fate_from grown others) (too_many found G.words)) t
+    by-states : (b : Bool) → (spelled (part text from end)).ending ≡ None → leb (length (beginnings grown)) most_states ≡ b → fate text ≡ cond b (fate_from grown others) (too_many found G.words)
+    by-states b q t = by-ending None q ∙ ap (λ (x : Bool). cond x (fate_from grown others) (too_many found G.words)) t
 
     pub part-some : 0 < length (part text from end)
     part-some = omega (arith, length-take (end - from) (drop from text), length-drop from text, F.some, F.inside, F.within)
@@ -118,13 +105,11 @@ module _ {text list₀ list : List ℕ} {at before count bytes : ℕ} (G : Going
     bad-is : BadLineIs text G.words bad found
     bad-is = record { line-is = refl; rises = omega (arith, F.some); inside = omega (arith, F.inside, F.within); counted = G.counted }
 
-    pub bad-told : (list' : List ℕ) → AddedIs Bad (part text from end) G.words list₀ list' → GatheredIs (fate text) text (R.BadWord bad) list₀ list'
-    bad-told list' A = (G.words, found, ⊎_elim (by-ending NoLetter) (by-ending TooLong) A.0, bad-is, A.1)
+    pub fault-told : (list' : List ℕ) (kind : FaultKind) → AddedIs (Err kind) (part text from end) G.words list₀ list' → FaultIs kind (fate text) text bad list₀ list'
+    fault-told list' BadWord A = (G.words, found, ⊎_elim (by-ending (Some NoLetter)) (by-ending (Some TooLong)) A.0, bad-is, A.1)
+    fault-told list' TooMany A = (G.words, found, by-states false A.0 (lt-leb _ _ A.1), bad-is, A.2)
 
-    pub many_told : (list' : List ℕ) → AddedIs TooMany (part text from end) G.words list₀ list' → GatheredIs (fate text) text (R.TooMany bad) list₀ list'
-    many_told list' A = (G.words, found, by-states false A.0 (lt-leb _ _ A.1), bad-is, A.2)
-
-    goes_on : (list' : List ℕ) (count' bytes' : ℕ) → AddedIs (Grown bytes') (part text from end) G.words list₀ list' → count' ≡ length grown
+    goes_on : (list' : List ℕ) (count' bytes' : ℕ) → AddedIs (Ok bytes') (part text from end) G.words list₀ list' → count' ≡ length grown
         → Going text list₀ list' next (before + passed + 1) count' bytes'
     goes_on list' count' bytes' A c =
         record {
@@ -140,13 +125,13 @@ module _ {text list₀ list : List ℕ} {at before count bytes : ℕ} (G : Going
         }
 
     -- a word more in the list, or one that was there
-    pub goes_on-more : (list' : List ℕ) (bytes' : ℕ) → AddedIs (Grown bytes') (part text from end) G.words list₀ list' → bytes < bytes'
+    pub goes_on-more : (list' : List ℕ) (bytes' : ℕ) → AddedIs (Ok bytes') (part text from end) G.words list₀ list' → bytes < bytes'
         → Going text list₀ list' next (before + passed + 1) (count + 1) bytes'
     goes_on-more list' bytes' A h =
         goes_on list' (count + 1) bytes' A
         (⊎_elim (λ e. absurd (omega (arith, A.2, G.size, ap (λ (vs : List Word). length (lexicon.spelled vs)) e))) (λ g. omega (arith, G.counted, g.0)) (inserted-grows word G.words))
 
-    pub goes_on-same : (list' : List ℕ) (bytes' : ℕ) → AddedIs (Grown bytes') (part text from end) G.words list₀ list' → bytes' ≤ bytes
+    pub goes_on-same : (list' : List ℕ) (bytes' : ℕ) → AddedIs (Ok bytes') (part text from end) G.words list₀ list' → bytes' ≤ bytes
         → Going text list₀ list' next (before + passed + 1) count bytes'
     goes_on-same list' bytes' A h =
         goes_on list' count bytes' A

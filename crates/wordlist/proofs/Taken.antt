@@ -14,7 +14,7 @@ use Rattle.wordlist_spelling.specs.Facts.{Spells}
 use Rattle.wordlist_sorted.specs.Sorted.{GoodWords}
 use Rattle.wordlist_sorted.proofs.Headlines.{sorted_rises, sorted-members, sorted-once, sorted-holds}
 use Rattle.wordlist.specs.Facts.{word_of, TakenLines}
-use Rattle.wordlist.proofs.Words.{spells_one, held-good}
+use Rattle.wordlist.proofs.LineWords.{spells_one, held-good}
 
 module _ (text : List ℕ) (ws : List Word) (T : TakenLines (held_lines text) ws) where
   abbrev found : List Word

@@ -5,6 +5,7 @@ use mathlib.Core.Logic.{◌↔◌, ◌⊎◌, ⊎_elim}
 use mathlib.Core.Bool.{true}
 use mathlib.Core.List.{List, [], ◌∷◌, ◌++◌, Memᴰ}
 use lib.ListN.{length, drop}
+use Rattle.std.specs.Prelude.{Option}
 use Rattle.wordlist_lines.specs.Lines.{lines_in, whole_lines, feeds, is_blank, trimmed, passed_over, Line, held_from, mark_size, held_lines}
 use Rattle.wordlist_lines.specs.declared.NextLine.{NextLine}
 use Rattle.wordlist_lines.specs.Next.{FoundIs, NextIs}
@@ -83,5 +84,5 @@ pub found-one : (text : List ℕ) (at from end passed next from' end' passed' ne
 found-one = places.found-one
 
 -- and so the code's answer is the only one that its contract allows.
-pub next_one : (text : List ℕ) (at : ℕ) (r s : NextLine) → NextIs r text at → NextIs s text at → r ≡ s
+pub next_one : (text : List ℕ) (at : ℕ) (r s : Option NextLine) → NextIs r text at → NextIs s text at → r ≡ s
 next_one = places.next_one

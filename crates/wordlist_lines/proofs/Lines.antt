@@ -1,16 +1,18 @@
 -- Laws of lines, as loops over a text meet them: no line feed so far, the last character that passes a test, blanks at the front, line feeds.
-use Prim.Native.Nat.{ℕ, suc, ◌+◌, ◌-◌, ◌≤◌, ◌<◌}
+use Prim.Native.Nat.{ℕ, suc, ◌+◌, ◌≤◌, ◌<◌}
 use native.Mathlib.Numerals.{add-one}
 use native.Mathlib.Omega.{arith}
-use mathlib.Core.Path.{◌≡◌, refl, sym, ap, ap₂, subst, ◌∙◌}
+use mathlib.Core.Path.{◌≡◌, refl, sym, ap, ap₂, ◌∙◌}
 use mathlib.Core.Logic.{⊎_elim}
 use mathlib.Core.Bool.{Bool, true, false, cond}
 use mathlib.Core.List.Memᴰ
 use mathlib.Core.List.{List, [], ◌∷◌, ◌++◌, Memᴰ}
 use lib.ListN.{length, get_or, take, drop, drop_of_length-le}
-use lib.Seq.{take_all, take-suc, drop-cons, split_at}
-use borrow.Author.Tests.{eq-eqb, ne_eqb}
-use Rattle.wordlist_lines.specs.Lines.{is_feed, onto, lines_in, in_front, up_to_last, feeds, is_blank, unled}
+use lib.Seq.{take_all, split_at}
+use borrow.Author.Tests.{ne_eqb, eqb-true, eqb-false, not-true, not-false}
+use Rattle.std.specs.Prelude.{zero, Option, Some, None, MatchOption, unwrap_or, count_by}
+use Rattle.std.proofs.lemmas.List.Recursion.{is_count_by}
+use Rattle.wordlist_lines.specs.Lines.{is_feed, onto, lines_in, in_front, up_to_last, feeds, no_blank, unled}
 use Rattle.wordlist_lines.specs.Facts.{Unfed}
 
 -- The first line.
@@ -34,23 +36,34 @@ line-last [] u h = absurd (omega arith)
 line-last (c ∷ []) u h = ap (λ (b : Bool). lines_after c [] b []) (unfed-head c [] u)
 line-last (c ∷ d ∷ l) u h = ap₂ (lines_after c (d ∷ l)) (unfed-head c (d ∷ l) u) (line-last (d ∷ l) (unfed_tail c (d ∷ l) u) (omega arith))
 
--- where a text has no line feed before a place
-module _ (text : List ℕ) (k : ℕ) (u : Unfed (take k text)) where
-  pub unfed-more : k < length text → (get_or text k 0 ≡ 10 → ⊥) → Unfed (take (k + 1) text)
-  unfed-more h e =
-      subst Unfed (sym (ap (λ (n : ℕ). take n text) (add-one k) ∙ take-suc text k 0 h))
-      (λ m. ⊎_elim u (λ s. e (sym (Memᴰ.eq_of_singleton s))) (Memᴰ.append_cases (take k text) m))
+-- up to the first line feed, or all
+abbrev pub FirstIs : (ℕ → Bool) → List ℕ → Option ℕ → Type 0
+FirstIs p l r =
+    MatchOption r ((k : ℕ) → k < length l → p (get_or l k 0) ≡ false)
+    (λ i. (i < length l) × (p (get_or l i 0) ≡ true) × ((k : ℕ) → k < i → p (get_or l k 0) ≡ false))
 
-  pub line-found : k < length text → get_or text k 0 ≡ 10 → lines_in text ≡ take k text ∷ lines_in (drop (suc k) text)
-  line-found h e =
-      ap lines_in (split_at text k 0 h ∙ ap (λ (c : ℕ). take k text ++ (c ∷ drop (suc k) text)) e)
-      ∙ line-fed (take k text) (drop (suc k) text) u
+unfed-none : (l : List ℕ) → ((k : ℕ) → k < length l → is_feed (get_or l k 0) ≡ false) → Unfed l
+unfed-none [] h m = absurd (Memᴰ.not-nil m)
+unfed-none (c ∷ l) h m =
+    ⊎_elim (λ e. eqb-false c 10 (h 0 (omega arith)) (sym e)) (unfed-none l (λ k lt. h (suc k) (omega arith))) (Memᴰ.cases_cons m)
 
-  pub line-all : 0 < length text → length text ≤ k → lines_in text ≡ take k text ∷ lines_in (drop (suc k) text)
-  line-all some h =
-      let all : take k text ≡ text = take_all k text h in
-      line-last text (subst Unfed all u) some
-      ∙ ap₂ (λ (l rest : List ℕ). l ∷ lines_in rest) (sym all) (sym (drop_of_length-le text {i = suc k} (omega arith)))
+unfed-before : (l : List ℕ) (i : ℕ) → i < length l → ((k : ℕ) → k < i → is_feed (get_or l k 0) ≡ false) → Unfed (take i l)
+unfed-before l zero lt h m = absurd (Memᴰ.not-nil m)
+unfed-before [] (suc i) lt h m = absurd (omega arith)
+unfed-before (c ∷ l) (suc i) lt h m =
+    ⊎_elim (λ e. eqb-false c 10 (h 0 (omega arith)) (sym e)) (unfed-before l i (omega arith) (λ k below. h (suc k) (omega arith))) (Memᴰ.cases_cons m)
+
+pub line_cut : (text : List ℕ) → 0 < length text → (r : Option ℕ) → FirstIs is_feed text r → (n : ℕ) → n ≡ unwrap_or r (length text)
+    → (n ≤ length text) × (lines_in text ≡ take n text ∷ lines_in (drop (suc n) text))
+line_cut text some None F n e =
+    let all : take n text ≡ text = take_all n text (omega arith) in
+    (omega arith, line-last text (unfed-none text F) some ∙ ap₂ (λ (l rest : List ℕ). l ∷ lines_in rest) (sym all) (sym (drop_of_length-le text {i = suc n} (omega arith))))
+line_cut text some (Some i) F n e =
+    rw e (
+      omega (arith, F.0),
+      ap lines_in (split_at text i 0 F.0 ∙ ap (λ (c : ℕ). take i text ++ (c ∷ drop (suc i) text)) (eqb-true _ _ F.1))
+          ∙ line-fed (take i text) (drop (suc i) text) (unfed-before text i F.0 F.2),
+    )
 
 -- The last character that passes a test.
 
@@ -68,51 +81,52 @@ module _ (p : ℕ → Bool) where
       ∙ ap (λ (b : Bool). cond b (c ∷ []) []) (h c (Memᴰ.head refl))
   last-passed (d ∷ l) z h = ap (in_front p d) (last-passed l z h)
 
-  -- where only characters that do not pass stand from a place on
-  module _ (text : List ℕ) (k : ℕ) (so_far : up_to_last p (take k text) ≡ up_to_last p text) (some : 0 < k) (within : k ≤ length text) where
-    take_last : take k text ≡ take (k - 1) text ++ (get_or text (k - 1) 0 ∷ [])
-    take_last = let e : k ≡ suc (k - 1) = omega arith in ap (λ (n : ℕ). take n text) e ∙ take-suc text (k - 1) 0 (omega arith)
+  -- where it stands
+  abbrev pub LastIs : List ℕ → Option ℕ → Type 0
+  LastIs l r =
+      MatchOption r ((k : ℕ) → k < length l → p (get_or l k 0) ≡ false)
+      (λ i. (i < length l) × (p (get_or l i 0) ≡ true) × ((k : ℕ) → i < k → k < length l → p (get_or l k 0) ≡ false))
 
-    pub last_found : p (get_or text (k - 1) 0) ≡ true → take k text ≡ up_to_last p text
-    last_found e = take_last ∙ sym (last-kept (take (k - 1) text) (get_or text (k - 1) 0) [] e refl) ∙ ap (up_to_last p) (sym take_last) ∙ so_far
+  pub last_none : (l : List ℕ) → ((k : ℕ) → k < length l → p (get_or l k 0) ≡ false) → [] ≡ up_to_last p l
+  last_none [] h = refl
+  last_none (c ∷ l) h = sym (ap (in_front p c) (sym (last_none l (λ k lt. h (suc k) (omega arith)))) ∙ ap (λ (b : Bool). cond b (c ∷ []) []) (h 0 (omega arith)))
 
-    pub last_less : p (get_or text (k - 1) 0) ≡ false → up_to_last p (take (k - 1) text) ≡ up_to_last p text
-    last_less e = sym (last-passed (take (k - 1) text) (get_or text (k - 1) 0 ∷ []) (λ c m. ap p (Memᴰ.eq_of_singleton m) ∙ e)) ∙ ap (up_to_last p) (sym take_last) ∙ so_far
+  pub last_at : (l : List ℕ) (i : ℕ) → i < length l → p (get_or l i 0) ≡ true → ((k : ℕ) → i < k → k < length l → p (get_or l k 0) ≡ false)
+      → take (suc i) l ≡ up_to_last p l
+  last_at [] i lt e h = absurd (omega arith)
+  last_at (c ∷ l) zero lt e h =
+      sym (ap (in_front p c) (sym (last_none l (λ k below. h (suc k) (omega arith) (omega arith)))) ∙ ap (λ (b : Bool). cond b (c ∷ []) []) e)
+  last_at (c ∷ []) (suc i) lt e h = absurd (omega arith)
+  last_at (c ∷ d ∷ l) (suc i) lt e h = ap (in_front p c) (last_at (d ∷ l) i (omega arith) e (λ k a b. h (suc k) (omega arith) (omega arith)))
 
-  -- where only such characters stand from the front on
-  pub last_none : (text : List ℕ) (k : ℕ) → up_to_last p (take k text) ≡ up_to_last p text → k ≤ 0 → [] ≡ up_to_last p text
-  last_none text k so_far h = let e : 0 ≡ k = omega arith in ap (λ (n : ℕ). up_to_last p (take n text)) e ∙ so_far
+  pub last_some : (l : List ℕ) (r : Option ℕ) (i : ℕ) → r ≡ Some i → LastIs l r → (i + 1 ≤ length l) × (take (i + 1) l ≡ up_to_last p l)
+  last_some l None i e F = cc
+  last_some l (Some j) i e F =
+      let same : j ≡ i = cc in
+      rw (← same) (omega (arith, F.0), rw add-one (last_at l j F.0 F.1 F.2))
 
--- Blanks at the front, where only blanks stand before a place.
+  pub last_missing : (l : List ℕ) (r : Option ℕ) → r ≡ None → LastIs l r → [] ≡ up_to_last p l
+  last_missing l None e F = last_none l F
+  last_missing l (Some j) e F = cc
 
-module _ (l : List ℕ) (k : ℕ) (so_far : unled (drop k l) ≡ unled l) where
-  led-at : k < length l → (b : Bool) → is_blank (get_or l k 0) ≡ b → cond b (unled (drop (suc k) l)) (drop k l) ≡ unled l
-  led-at h b e =
-      ap₂ (λ (t : Bool) (r : List ℕ). cond t (unled (drop (suc k) l)) r) (sym e) (drop-cons l k 0 h)
-      ∙ sym (ap unled (drop-cons l k 0 h))
-      ∙ so_far
+-- Blanks at the front, up to the first character that is none.
 
-  pub led-more : k < length l → is_blank (get_or l k 0) ≡ true → unled (drop (k + 1) l) ≡ unled l
-  led-more h e = ap (λ (n : ℕ). unled (drop n l)) (add-one k) ∙ led-at h true e
+unled-none : (l : List ℕ) → ((k : ℕ) → k < length l → no_blank (get_or l k 0) ≡ false) → [] ≡ unled l
+unled-none [] h = refl
+unled-none (c ∷ l) h = unled-none l (λ k lt. h (suc k) (omega arith)) ∙ sym (ap (λ (b : Bool). cond b (unled l) (c ∷ l)) (not-false _ (h 0 (omega arith))))
 
-  pub led-found : k < length l → is_blank (get_or l k 0) ≡ false → drop k l ≡ unled l
-  led-found h e = led-at h false e
+unled-first : (l : List ℕ) (i : ℕ) → i < length l → no_blank (get_or l i 0) ≡ true → ((k : ℕ) → k < i → no_blank (get_or l k 0) ≡ false) → drop i l ≡ unled l
+unled-first [] i lt e h = absurd (omega arith)
+unled-first (c ∷ l) zero lt e h = sym (ap (λ (b : Bool). cond b (unled l) (c ∷ l)) (not-true _ e))
+unled-first (c ∷ l) (suc i) lt e h =
+    unled-first l i (omega arith) e (λ k below. h (suc k) (omega arith))
+    ∙ sym (ap (λ (b : Bool). cond b (unled l) (c ∷ l)) (not-false _ (h 0 (omega arith))))
 
-  pub led-all : length l ≤ k → drop k l ≡ unled l
-  led-all h = let none : drop k l ≡ [] = drop_of_length-le l h in none ∙ ap unled (sym none) ∙ so_far
+pub unled_cut : (l : List ℕ) (r : Option ℕ) → FirstIs no_blank l r → (n : ℕ) → n ≡ unwrap_or r (length l) → (n ≤ length l) × (drop n l ≡ unled l)
+unled_cut l None F n e = (omega arith, drop_of_length-le l (omega arith) ∙ unled-none l F)
+unled_cut l (Some i) F n e = rw e (omega (arith, F.0), unled-first l i F.0 F.1 F.2)
 
--- Line feeds from a place on.
+-- Line feeds, counted.
 
-feeds-at : (text : List ℕ) (k : ℕ) → k < length text → (b : Bool) → is_feed (get_or text k 0) ≡ b → feeds (drop k text) ≡ cond b (suc (feeds (drop (k + 1) text))) (feeds (drop (k + 1) text))
-feeds-at text k h b e =
-    ap feeds (drop-cons text k 0 h)
-    ∙ ap₂ (λ (t : Bool) (n : ℕ). cond t (suc (feeds (drop n text))) (feeds (drop n text))) e (sym (add-one k))
-
-pub feeds-more : (text : List ℕ) (k : ℕ) → k < length text → get_or text k 0 ≡ 10 → feeds (drop k text) ≡ suc (feeds (drop (k + 1) text))
-feeds-more text k h e = feeds-at text k h true (eq-eqb _ _ e)
-
-pub feeds-same : (text : List ℕ) (k : ℕ) → k < length text → (get_or text k 0 ≡ 10 → ⊥) → feeds (drop k text) ≡ feeds (drop (k + 1) text)
-feeds-same text k h e = feeds-at text k h false (ne_eqb _ _ e)
-
-pub feeds-done : (text : List ℕ) (k : ℕ) → length text ≤ k → feeds (drop k text) ≡ 0
-feeds-done text k h = ap feeds (drop_of_length-le text h)
+pub feeds-count : (text : List ℕ) → count_by is_feed text ≡ feeds text
+feeds-count text = sym (is_count_by feeds is_feed refl (λ c l. (let e : suc (feeds l) ≡ 1 + feeds l = omega arith in ap (λ (n : ℕ). cond (is_feed c) n (feeds l)) e)) text)

@@ -6,10 +6,13 @@ use mathlib.Core.List.{List, [], ◌∷◌, ◌++◌, nil≢cons}
 use lib.ListN.{length, get_or, take, drop}
 use lib.Seq.{take_at, get_or_at}
 use Rattle.wordlist_lines.specs.declared.NextLine.{NextLine}
-use Rattle.wordlist_lines.specs.declared.NextLine.TheVariants.{Found, Nothing}
+use Rattle.std.specs.Prelude.{Option, Some, None}
 use Rattle.wordlist_lines.specs.Lines.{Line, lines_in, untrailed, trimmed}
 use Rattle.wordlist_lines.specs.Facts.{fed}
 use Rattle.wordlist_lines.specs.Next.{FoundIs, NextIs}
+
+abbrev next_at : ℕ → ℕ → ℕ → ℕ → NextLine
+next_at from end passed next = record { from = from; end = end; passed = passed; next = next }
 
 abbrev first_number : List Line → ℕ
 first_number [] = 0
@@ -47,11 +50,11 @@ module _ (text : List ℕ) (at from end passed next from' end' passed' next' : �
   pub found-one : (from ≡ from') × (end ≡ end') × (passed ≡ passed') × (next ≡ next')
   found-one = (same_from, same_end, same-passed, same_next)
 
-  same-found : Found from end passed next ≡ Found from' end' passed' next'
+  same-found : Some (next_at from end passed next) ≡ Some (next_at from' end' passed' next')
   same-found = rw (same_from, same_end, same-passed, same_next)
 
-pub next_one : (text : List ℕ) (at : ℕ) (r s : NextLine) → NextIs r text at → NextIs s text at → r ≡ s
-next_one text at Nothing Nothing F G = refl
-next_one text at Nothing (Found a b c d) F G = absurd (nil≢cons (sym (F 0) ∙ G.first 0))
-next_one text at (Found a b c d) Nothing F G = absurd (nil≢cons (sym (G 0) ∙ F.first 0))
-next_one text at (Found a b c d) (Found e f g h) F G = same-found text at a b c d e f g h F G
+pub next_one : (text : List ℕ) (at : ℕ) (r s : Option NextLine) → NextIs r text at → NextIs s text at → r ≡ s
+next_one text at None None F G = refl
+next_one text at None (Some b) F G = absurd (nil≢cons (sym (F 0) ∙ G.first 0))
+next_one text at (Some a) None F G = absurd (nil≢cons (sym (G 0) ∙ F.first 0))
+next_one text at (Some a) (Some b) F G = same-found text at a.from a.end a.passed a.next b.from b.end b.passed b.next F G

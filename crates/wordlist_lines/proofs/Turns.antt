@@ -44,7 +44,7 @@ module _ (text : List ℕ) (from size kept led next : ℕ) (h : from < length te
       → lines_in (part text from (length text)) ≡ take size (part text from (length text)) ∷ lines_in (drop (suc size) (part text from (length text)))
       → kept ≤ length (part text from (from + size)) → take kept (part text from (from + size)) ≡ untrailed (part text from (from + size))
       → led ≤ length (part text from (from + kept)) → drop led (part text from (from + kept)) ≡ unled (part text from (from + kept))
-      → next ≡ min (suc (from + size)) (length text)
+      → next ≡ min (from + size + 1) (length text)
       → Turn text from (from + led) (from + kept) next
   turn_is s line k back l front n =
       let rest = drop from text in

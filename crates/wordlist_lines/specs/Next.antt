@@ -1,7 +1,6 @@
 -- What the code tells of the next line that holds a word, in the terms of Lines.
-use Rattle.std.specs.Prelude.{ℕ, suc, min, ◌+◌, ◌-◌, ◌≤◌, ◌<◌, ◌≡◌, List, [], ◌∷◌, ◌++◌, length, take, drop}
+use Rattle.std.specs.Prelude.{ℕ, suc, min, ◌+◌, ◌-◌, ◌≤◌, ◌<◌, ◌≡◌, Option, Some, None, List, [], ◌∷◌, ◌++◌, length, take, drop}
 use Rattle.wordlist_lines.specs.declared.NextLine.{NextLine}
-use Rattle.wordlist_lines.specs.declared.NextLine.TheVariants.{Found, Nothing}
 use Rattle.wordlist_lines.specs.Lines.{lines_in, untrailed, trimmed, held_from}
 use Rattle.wordlist_lines.specs.Facts.{fed}
 
@@ -31,6 +30,6 @@ pub record FoundIs (text : List ℕ) (at from end passed next : ℕ) : Type 0 wh
   pub next-is : next ≡ min (suc (at + length (fed before) + length line)) (length text)
 
 -- what was told of the next line: where it is, or that no line from the place on holds a word
-abbrev pub NextIs : NextLine → List ℕ → ℕ → Type 0
-NextIs (Found from end passed next) text at = FoundIs text at from end passed next
-NextIs Nothing text at = (n : ℕ) → held_from n (lines_in (drop at text)) ≡ []
+abbrev pub NextIs : Option NextLine → List ℕ → ℕ → Type 0
+NextIs (Some line) text at = FoundIs text at line.from line.end line.passed line.next
+NextIs None text at = (n : ℕ) → held_from n (lines_in (drop at text)) ≡ []

@@ -5,12 +5,13 @@ use native.Mathlib.Numerals.{add-one}
 use mathlib.Core.Path.{◌≡◌, refl, sym, ap, ap₂, subst, ◌∙◌}
 use mathlib.Core.List.{List, ◌∷◌, ◌++◌, append_assoc}
 use lib.ListN.{length, take, drop, set, length-append}
+use Rattle.std.specs.List.{copy_within}
+use Rattle.std.proofs.lemmas.List.{take-append-le}
+use Rattle.std.proofs.Common.{take-take, length-take-le}
 use lib.Seq.{sets, sets-eq, drop-drop, drop-append-add, take_at, drop_at}
-use Rattle.table_format.proofs.Stores.{sets-append}
 use Rattle.lexicon.specs.Words.{Word}
 use Rattle.lexicon.specs.Lexicon.{spelled}
-use Rattle.wordlist_sorted.specs.declared.Place.{Place}
-use Rattle.wordlist_sorted.specs.declared.Place.TheVariants.{Listed, At}
+use Rattle.std.specs.Prelude.{Option, Some, None}
 use Rattle.wordlist_sorted.specs.Sorted.{inserted}
 use Rattle.wordlist_sorted.specs.Placed.{Holds, Cut, PlaceIs}
 use Rattle.wordlist_sorted.proofs.Kept.{spelled-append}
@@ -70,6 +71,25 @@ module _ (ws : List Word) (before l : List ℕ) (H : Holds ws before l) where
           (ap (λ (n : ℕ). drop n l) new-size ∙ behind-same more ∙ ap (λ (n : ℕ). drop n before) (sym new-length))
           ∙ ap (λ (b : List ℕ). b ++ drop (length (spelled (inserted w ws))) before) (sym new-bytes)
 
+-- bytes moved behind a gap, and a word stored in it
+gap_filled : (w x l : List ℕ) (at end k : ℕ) → end ≡ at + 1 + length w → k ≡ length x → end + k ≤ length l → (a : List ℕ) → a ≡ (take end l ++ x) ++ drop (end + k) l
+    → sets a at (length w ∷ w) ≡ sets l at (length w ∷ (w ++ x))
+gap_filled w x l at end k e n room a is =
+    let moved : a ≡ take end l ++ (x ++ drop (end + k) l) = is ∙ append_assoc (take end l) x (drop (end + k) l) in
+    let size : length (take end l) ≡ end = length-take-le end l (omega arith) in
+    let low : at ≤ length (take end l) = omega arith in
+    let behind : at + length (length w ∷ w) ≡ end = omega arith in
+    let all : at + length (length w ∷ (w ++ x)) ≡ end + k = omega (arith, length-append w x) in
+    let fits : at + length (length w ∷ w) ≤ length a = omega (arith, ap length moved, length-append (take end l) (x ++ drop (end + k) l)) in
+    sets-eq (length w ∷ w) a at fits
+    ∙ ap₂ (λ (a b : List ℕ). (a ++ (length w ∷ w)) ++ b)
+    (ap (take at) moved ∙ take-append-le at (take end l) _ low ∙ take-take at end l (omega arith))
+    (ap₂ (λ (n : ℕ) (m : List ℕ). drop n m) behind moved ∙ drop_at (take end l) _ end size)
+    ∙ sym (append_assoc (take at l ++ (length w ∷ w)) x (drop (end + k) l))
+    ∙ ap (λ (a : List ℕ). a ++ drop (end + k) l) (append_assoc (take at l) (length w ∷ w) x)
+    ∙ ap (λ (n : ℕ). (take at l ++ (length w ∷ (w ++ x))) ++ drop n l) (sym all)
+    ∙ sym (sets-eq (length w ∷ (w ++ x)) l at (omega arith))
+
 -- As the code finds the place of a word, and stores it there.
 
 module _ (ws : List Word) (before l : List ℕ) (H : Holds ws before l) (used : ℕ) (u : used ≡ length (spelled ws)) where
@@ -79,29 +99,32 @@ module _ (ws : List Word) (before l : List ℕ) (H : Holds ws before l) (used : 
   pub used_within : used ≤ length l
   used_within = omega (arith, ap length H, length-append (spelled ws) (drop (length (spelled ws)) before))
 
-  module _ (w : Word) (p : Place) (F : (vs : List Word) → take used l ≡ spelled vs → PlaceIs w vs p) where
-    pub listed_kept : p ≡ Listed → (used ≡ length (spelled (inserted w ws))) × Holds (inserted w ws) before l
+  module _ (w : Word) (p : Option ℕ) (F : (vs : List Word) → take used l ≡ spelled vs → PlaceIs w vs p) where
+    pub listed_kept : p ≡ None → (used ≡ length (spelled (inserted w ws))) × Holds (inserted w ws) before l
     listed_kept e =
         let is : inserted w ws ≡ ws = subst (PlaceIs w ws) e (F ws used_words) in
         (u ∙ ap (λ (vs : List Word). length (spelled vs)) (sym is), H ∙ ap (λ (vs : List Word). spelled vs ++ drop (length (spelled vs)) before) (sym is))
 
-    module _ (at : ℕ) (e : p ≡ At at) where
-      there : PlaceIs w ws (At at)
+    module _ (at : ℕ) (e : p ≡ Some at) where
+      there : PlaceIs w ws (Some at)
       there = subst (PlaceIs w ws) e (F ws used_words)
 
       pub place-within : at ≤ used
       place-within = omega (arith, cut-within ws before l H w at there.0)
 
+      -- what stands from there on is moved behind the word's room, and then the word is stored
       pub word-stored : (a b : List ℕ) → used + 1 + length w ≤ length l
-          → a ≡ sets (set l at (length w)) (at + 1) w → b ≡ sets a (at + 1 + length w) (take (used - at) (drop at l))
+          → a ≡ copy_within l at used (at + 1 + length w) → b ≡ sets (set a at (length w)) (at + 1) w
           → (used + 1 + length w ≡ length (spelled (inserted w ws))) × Holds (inserted w ws) before b
       word-stored a b room f g =
           let C = there.0 in
-          let is = there.1 in (
+          let is = there.1 in
+          let others : take (used - at) (drop at l) ≡ spelled C.others = ap (λ (n : ℕ). take (n - at) (drop at l)) u ∙ from-there ws before l H w at C in
+          let moved : a ≡ (take (at + 1 + length w) l ++ spelled C.others) ++ drop (at + 1 + length w + (used - at)) l =
+          f ∙ ap (λ (x : List ℕ). (take (at + 1 + length w) l ++ x) ++ drop (at + 1 + length w + (used - at)) l) others in (
             omega (arith, new-length ws before l H w at C is),
             g
-                ∙ ap₂ (λ (m : List ℕ) (n : ℕ). sets m (at + 1 + length w) (take (n - at) (drop at l))) f u
-                ∙ sets-append (set l at (length w)) (at + 1) (at + 1 + length w) w _ refl
-                ∙ ap₂ (λ (i : ℕ) (t : List ℕ). sets (set l at (length w)) i (w ++ t)) (add-one at) (from-there ws before l H w at C)
+                ∙ ap (λ (i : ℕ). sets (set a at (length w)) i w) (add-one at)
+                ∙ gap_filled w (spelled C.others) l at (at + 1 + length w) (used - at) refl (omega (arith, sizes ws before l H w at C)) (omega (arith, place-within)) a moved
                 ∙ stored ws before l H w at C is (omega arith),
           )

@@ -1,9 +1,7 @@
 -- What the code of the list says, in the terms of Sorted.
-use Rattle.std.specs.Prelude.{ℕ, ◌≡◌, List, ◌∷◌, ◌++◌, length, drop}
+use Rattle.std.specs.Prelude.{ℕ, ◌≡◌, Option, Some, None, List, ◌∷◌, ◌++◌, length, drop}
 use Rattle.lexicon.specs.Words.{Word}
 use Rattle.lexicon.specs.Lexicon.{spelled}
-use Rattle.wordlist_sorted.specs.declared.Place.{Place}
-use Rattle.wordlist_sorted.specs.declared.Place.TheVariants.{Listed, At}
 use Rattle.wordlist_sorted.specs.Sorted.{inserted}
 
 -- bytes of a list: room for 256 words of 64 letters
@@ -21,7 +19,7 @@ pub record Cut (ws : List Word) (at : ℕ) : Type 0 where
   pub is : ws ≡ first ++ others
   pub size : at ≡ length (spelled first)
 
--- where a word's place is: it is listed, or it goes between two parts
-abbrev pub PlaceIs : Word → List Word → Place → Type 0
-PlaceIs w ws Listed = inserted w ws ≡ ws
-PlaceIs w ws (At at) = (C : Cut ws at) × (inserted w ws ≡ C.first ++ (w ∷ C.others))
+-- where a word's place is: it goes between two parts, or it is listed
+abbrev pub PlaceIs : Word → List Word → Option ℕ → Type 0
+PlaceIs w ws (Some at) = (C : Cut ws at) × (inserted w ws ≡ C.first ++ (w ∷ C.others))
+PlaceIs w ws None = inserted w ws ≡ ws

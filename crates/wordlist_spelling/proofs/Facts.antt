@@ -9,15 +9,14 @@ use lib.ListN.{length, drop, length-append, length-drop}
 use lib.Seq.{drop-append_seam}
 use borrow.Author.Tests.{eqb-true, eqb-false, leb-true, leb-false}
 use Rattle.utf8.specs.declared.Character.{Character}
-use Rattle.utf8.specs.declared.Character.TheVariants.{Scalar, Malformed}
-use Rattle.utf8.specs.Utf8.{is_scalar, encoded, character_in}
+use Rattle.std.specs.Prelude.{Option, Some, None}
+use Rattle.utf8.specs.Utf8.{scalar, is_scalar, encoded, character_in}
 use Rattle.utf8.proofs.Front.{encoding_read}
 use Rattle.utf8.proofs.Headlines.{character_is, character_sizes, encoded-sizes}
 use Rattle.alphabet.specs.Letters.{letter_of}
 use Rattle.table_format.proofs.All.{All}
-use Rattle.wordlist_spelling.specs.declared.Ending.{Ending}
-use Rattle.wordlist_spelling.specs.declared.Ending.TheVariants.{Whole, NoLetter, TooLong}
-use Rattle.wordlist_spelling.specs.Spelled.{most_letters, Spelled, ended, spelled_from, spelled}
+use Rattle.wordlist_spelling.specs.declared.FaultKind.TheVariants.{NoLetter, TooLong}
+use Rattle.wordlist_spelling.specs.Spelled.{most_letters, Ending, Spelled, ended, spelled_from, spelled}
 use Rattle.wordlist_spelling.specs.Facts.{Spells, NoCharacter, Foreign, Letter, Ends, SpelledAs}
 use Rattle.wordlist_spelling.proofs.Turns.{turn_end, turn-broken, turn-other, turn-long, turn-letter}
 
@@ -43,18 +42,18 @@ module _ (c : ℕ) (rest : List ℕ) where
   sizes = let l = length-append (encoded c) rest in ((encoded-sizes c).0, omega arith)
 
 module _ (bytes : List ℕ) where
-  broken_no : character_in bytes ≡ Malformed → NoCharacter bytes
+  broken_no : character_in bytes ≡ None → NoCharacter bytes
   broken_no e c rest s r =
       let is = (character_is bytes c (length (encoded c))).1 (s, refl, (rest, r)) in
       let z : ◌≡◌ {A = ℕ} 0 1 = cc in
       omega arith
 
-  no_broken : NoCharacter bytes → character_in bytes ≡ Malformed
+  no_broken : NoCharacter bytes → character_in bytes ≡ None
   no_broken n = go (character_in bytes) refl
     where
-      go : (x : Character) → character_in bytes ≡ x → x ≡ Malformed
-      go Malformed e = refl
-      go (Scalar c size) e = let f = (character_is bytes c size).0 e in absurd (n c f.2.0 f.0 f.2.1)
+      go : (x : Option Character) → character_in bytes ≡ x → x ≡ None
+      go None e = refl
+      go (Some x) e = let f = (character_is bytes x.code x.size).0 e in absurd (n x.code f.2.0 f.0 f.2.1)
 
 pub foreign_sizes : {rest : List ℕ} {size : ℕ} → Foreign rest size → (1 ≤ size) × (size ≤ length rest)
 foreign_sizes (Foreign.other c rest s z) = sizes c rest
@@ -64,9 +63,9 @@ pub letter-sizes : {rest : List ℕ} {size : ℕ} → Letter rest size → (1 �
 letter-sizes (Letter.letter c rest s h) = sizes c rest
 
 pub ends-inside : (ending : Ending) (w rest : List ℕ) (size : ℕ) → Ends ending w rest size → size ≤ length rest
-ends-inside Whole w rest size E = omega arith
-ends-inside NoLetter w rest size E = (foreign_sizes E).1
-ends-inside TooLong w rest size E = (letter-sizes E.1).1
+ends-inside None w rest size E = omega arith
+ends-inside (Some NoLetter) w rest size E = (foreign_sizes E).1
+ends-inside (Some TooLong) w rest size E = (letter-sizes E.1).1
 
 -- What is computed is so.
 
@@ -83,7 +82,7 @@ module _ (line w : List ℕ) (at : ℕ) (bytes : List ℕ) (R : Reached line w a
   as_ended ending size e E =
       rw e (record { before = R.before; rest = bytes; cut = R.cut; spells = R.spells; few = R.few; place = R.place; ends = E })
 
-  module _ (c size : ℕ) (e : character_in bytes ≡ Scalar c size) where
+  module _ (c size : ℕ) (e : character_in bytes ≡ scalar c size) where
     front : (P : List ℕ → ℕ → Type 0) → ((rest : List ℕ) → is_scalar c ≡ true → P (encoded c ++ rest) (length (encoded c))) → P bytes size
     front P p =
         let f = (character_is bytes c size).0 e in
@@ -103,16 +102,16 @@ module _ (line w : List ℕ) (at : ℕ) (bytes : List ℕ) (R : Reached line w a
 
   module _ (f : ℕ) (some : 0 < length bytes) (enough : length bytes ≤ suc f)
       (more : (v : List ℕ) (to : ℕ) (rest : List ℕ) → Reached line v to rest → length rest ≤ f → SpelledAs line (spelled_from f v to rest)) where
-    by_letter_lem : (c size : ℕ) → character_in bytes ≡ Scalar c size → (other many : Bool) → eqb (letter_of c) 0 ≡ other → leb most_letters (length w) ≡ many
+    by_letter_lem : (c size : ℕ) → character_in bytes ≡ scalar c size → (other many : Bool) → eqb (letter_of c) 0 ≡ other → leb most_letters (length w) ≡ many
         → SpelledAs line (spelled_from (suc f) w at bytes)
     by_letter_lem c size e true many p q =
         let z = eqb-true (letter_of c) 0 p in
-        as_ended NoLetter size (turn-other f w at bytes some c size e z) (front c size e Foreign (λ rest s. Foreign.other c rest s z))
+        as_ended (Some NoLetter) size (turn-other f w at bytes some c size e z) (front c size e Foreign (λ rest s. Foreign.other c rest s z))
     by_letter_lem c size e false true p q =
         let m = leb-true most_letters (length w) q in
         let n = eqb-false (letter_of c) 0 p in
         let h : 0 < letter_of c = omega arith in
-        as_ended TooLong size (turn-long f w at bytes some c size e h m) (omega (arith, R.few), front c size e Letter (λ rest s. Letter.letter c rest s h))
+        as_ended (Some TooLong) size (turn-long f w at bytes some c size e h m) (omega (arith, R.few), front c size e Letter (λ rest s. Letter.letter c rest s h))
     by_letter_lem c size e false false p q =
         let m = leb-false most_letters (length w) q in
         let n = eqb-false (letter_of c) 0 p in
@@ -124,14 +123,14 @@ module _ (line w : List ℕ) (at : ℕ) (bytes : List ℕ) (R : Reached line w a
     as_turn : SpelledAs line (spelled_from (suc f) w at bytes)
     as_turn = go (character_in bytes) refl
       where
-        go : (x : Character) → character_in bytes ≡ x → SpelledAs line (spelled_from (suc f) w at bytes)
-        go Malformed e = as_ended NoLetter 1 (turn-broken f w at bytes some e) (Foreign.broken bytes some (broken_no bytes e))
-        go (Scalar c size) e = by_letter_lem c size e (eqb (letter_of c) 0) (leb most_letters (length w)) refl refl
+        go : (x : Option Character) → character_in bytes ≡ x → SpelledAs line (spelled_from (suc f) w at bytes)
+        go None e = as_ended (Some NoLetter) 1 (turn-broken f w at bytes some e) (Foreign.broken bytes some (broken_no bytes e))
+        go (Some x) e = by_letter_lem x.code x.size e (eqb (letter_of x.code) 0) (leb most_letters (length w)) refl refl
 
 as_from : (line : List ℕ) (f : ℕ) (w : List ℕ) (at : ℕ) (rest : List ℕ) → Reached line w at rest → length rest ≤ f → SpelledAs line (spelled_from f w at rest)
-as_from line zero w at [] R h = as_ended line w at [] R Whole 0 (turn_end zero w at) (refl, refl)
+as_from line zero w at [] R h = as_ended line w at [] R None 0 (turn_end zero w at) (refl, refl)
 as_from line zero w at (b ∷ l) R h = absurd (omega arith)
-as_from line (suc f) w at [] R h = as_ended line w at [] R Whole 0 (turn_end (suc f) w at) (refl, refl)
+as_from line (suc f) w at [] R h = as_ended line w at [] R None 0 (turn_end (suc f) w at) (refl, refl)
 as_from line (suc f) w at (b ∷ l) R h = as_turn line w at (b ∷ l) R f (omega arith) h (as_from line f)
 
 pub spelled_as : (line : List ℕ) → SpelledAs line (spelled line)
@@ -140,24 +139,24 @@ spelled_as line = as_from line (length line) [] 0 line (record { before = []; cu
 
 -- Nothing else is so.
 
-foreign_ends : {rest : List ℕ} {size : ℕ} → Foreign rest size → (f : ℕ) (w : List ℕ) (at : ℕ) → spelled_from (suc f) w at rest ≡ ended w NoLetter at size
+foreign_ends : {rest : List ℕ} {size : ℕ} → Foreign rest size → (f : ℕ) (w : List ℕ) (at : ℕ) → spelled_from (suc f) w at rest ≡ ended w (Some NoLetter) at size
 foreign_ends (Foreign.other c rest s z) f w at =
     let n = sizes c rest in
     turn-other f w at (encoded c ++ rest) (omega arith) c (length (encoded c)) (encoding_read c rest s) z
 foreign_ends (Foreign.broken bytes h n) f w at = turn-broken f w at bytes h (no_broken bytes n)
 
-letter-ends : {rest : List ℕ} {size : ℕ} → Letter rest size → (f : ℕ) (w : List ℕ) (at : ℕ) → most_letters ≤ length w → spelled_from (suc f) w at rest ≡ ended w TooLong at size
+letter-ends : {rest : List ℕ} {size : ℕ} → Letter rest size → (f : ℕ) (w : List ℕ) (at : ℕ) → most_letters ≤ length w → spelled_from (suc f) w at rest ≡ ended w (Some TooLong) at size
 letter-ends (Letter.letter c rest s h) f w at m =
     let n = sizes c rest in
     turn-long f w at (encoded c ++ rest) (omega arith) c (length (encoded c)) (encoding_read c rest s) h m
 
 only_end : (ending : Ending) (f : ℕ) (w : List ℕ) (at : ℕ) (rest : List ℕ) (size : ℕ) → length rest ≤ f → Ends ending w rest size
     → spelled_from f w at rest ≡ ended w ending at size
-only_end Whole f w at rest size h E = rw (E.0, E.1) (turn_end f w at)
-only_end NoLetter zero w at rest size h E = absurd (omega (arith, (foreign_sizes E).0, (foreign_sizes E).1))
-only_end NoLetter (suc f) w at rest size h E = foreign_ends E f w at
-only_end TooLong zero w at rest size h E = absurd (omega (arith, (letter-sizes E.1).0, (letter-sizes E.1).1))
-only_end TooLong (suc f) w at rest size h E = letter-ends E.1 f w at (omega arith)
+only_end None f w at rest size h E = rw (E.0, E.1) (turn_end f w at)
+only_end (Some NoLetter) zero w at rest size h E = absurd (omega (arith, (foreign_sizes E).0, (foreign_sizes E).1))
+only_end (Some NoLetter) (suc f) w at rest size h E = foreign_ends E f w at
+only_end (Some TooLong) zero w at rest size h E = absurd (omega (arith, (letter-sizes E.1).0, (letter-sizes E.1).1))
+only_end (Some TooLong) (suc f) w at rest size h E = letter-ends E.1 f w at (omega arith)
 
 module _ (u rest : List ℕ) (ending : Ending) (to size : ℕ) (few : length u ≤ most_letters) (E : Ends ending u rest size) where
   only-from : {w bytes : List ℕ} → Spells w bytes → (f : ℕ) (v : List ℕ) (at : ℕ) (line : List ℕ) → u ≡ v ++ w → to ≡ at + length bytes

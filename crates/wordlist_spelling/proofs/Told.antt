@@ -5,15 +5,14 @@ use mathlib.Core.Path.{◌≡◌, refl, sym, ap, ◌∙◌}
 use mathlib.Core.List.{List, [], ◌∷◌, ◌++◌}
 use lib.ListN.{length, take, drop, set, length-append, length-drop, drop_of_length-le}
 use lib.Seq.{take_all, drop-drop, sets}
-use Rattle.utf8.specs.declared.Character.TheVariants.{Scalar, Malformed}
-use Rattle.utf8.specs.Utf8.{character_in}
+use Rattle.std.specs.Prelude.{Some, None, Result}
+use Rattle.utf8.specs.Utf8.{scalar, character_in}
 use Rattle.utf8.proofs.Headlines.{character_sizes}
 use Rattle.alphabet.specs.Letters.{letter_of}
 use Rattle.table_format.proofs.Stores.{sets-append}
-use Rattle.wordlist_spelling.specs.declared.Ending.{Ending}
-use Rattle.wordlist_spelling.specs.declared.Ending.TheVariants.{Whole, NoLetter, TooLong}
-use Rattle.wordlist_spelling.specs.declared.Spelling.{Spelling}
-use Rattle.wordlist_spelling.specs.Spelled.{most_letters, Spelled, ended, spelled_from, spelled, SpelledIs}
+use Rattle.wordlist_spelling.specs.declared.FaultKind.TheVariants.{NoLetter, TooLong}
+use Rattle.wordlist_spelling.specs.declared.Fault.{Fault}
+use Rattle.wordlist_spelling.specs.Spelled.{most_letters, Ending, Spelled, told_of, ended, spelled_from, spelled, SpelledIs}
 use Rattle.wordlist_spelling.proofs.Turns.{turn_end, turn-broken, turn-other, turn-long, turn-letter}
 
 -- the letters so far, w; each took a byte or more
@@ -38,23 +37,19 @@ so_none line word = record {
   stored = refl;
 }
 
--- what the code tells of letters that end so
-abbrev spelling : ℕ → Ending → ℕ → ℕ → Spelling
-spelling letters ending at size = record { letters = letters; ending = ending; at = at; size = size }
-
 module _ {line before word : List ℕ} {letters at : ℕ} (S : SoFar line before word letters at) where
-  told : {r : Spelling} (ending : Ending) (size : ℕ) → spelled line ≡ ended S.w ending at size → r ≡ spelling letters ending at size → SpelledIs line r before word
+  told : {r : Result ℕ Fault} (ending : Ending) (size : ℕ) → spelled line ≡ ended S.w ending at size → r ≡ told_of ending letters at size → SpelledIs line r before word
   told ending size e t = record {
-    letters-is = ap (λ (x : Spelling). x.letters) t ∙ sym S.count ∙ ap (λ (s : Spelled). length s.letters) (sym e);
-    ending-is = ap (λ (x : Spelling). x.ending) t ∙ ap (λ (s : Spelled). s.ending) (sym e);
-    at-is = ap (λ (x : Spelling). x.at) t ∙ ap (λ (s : Spelled). s.at) (sym e);
-    size_is = ap (λ (x : Spelling). x.size) t ∙ ap (λ (s : Spelled). s.size) (sym e);
+    told-is =
+        t
+        ∙ ap (λ (n : ℕ). told_of ending n at size) (sym S.count)
+        ∙ ap (λ (s : Spelled). told_of s.ending (length s.letters) s.at s.size) (sym e);
     word-is = S.stored ∙ ap (λ (s : Spelled). sets before 0 s.letters) (sym e);
   }
 
-  pub told-whole : {r : Spelling} → length line ≤ at → r ≡ spelling letters Whole at 0 → SpelledIs line r before word
+  pub told-whole : {r : Result ℕ Fault} → length line ≤ at → r ≡ told_of None letters at 0 → SpelledIs line r before word
   told-whole h =
-      told Whole 0 (S.left ∙ ap (spelled_from (length line - letters) S.w at) (drop_of_length-le line h) ∙ turn_end (length line - letters) S.w at)
+      told None 0 (S.left ∙ ap (spelled_from (length line - letters) S.w at) (drop_of_length-le line h) ∙ turn_end (length line - letters) S.w at)
 
   module _ (h : at < length line) where
     abbrev fuel : ℕ
@@ -78,22 +73,22 @@ module _ {line before word : List ℕ} {letters at : ℕ} (S : SoFar line before
     some : 0 < length here
     some = omega (arith, count-here)
 
-    pub told-broken : {r : Spelling} → character_in here ≡ Malformed → r ≡ spelling letters NoLetter at 1 → SpelledIs line r before word
-    told-broken e = told NoLetter 1 (left_here ∙ turn-broken fuel S.w at here some e)
+    pub told-broken : {r : Result ℕ Fault} → character_in here ≡ None → r ≡ told_of (Some NoLetter) letters at 1 → SpelledIs line r before word
+    told-broken e = told (Some NoLetter) 1 (left_here ∙ turn-broken fuel S.w at here some e)
 
-    module _ (c size : ℕ) (e : character_in here ≡ Scalar c size) where
+    module _ (c size : ℕ) (e : character_in here ≡ scalar c size) where
       pub inside : (1 ≤ size) × (at + size ≤ length line)
       inside = let s = character_sizes here c size e in let l = count-here in (omega arith, omega arith)
 
+      pub told-other : {r : Result ℕ Fault} → letter_of c ≡ 0 → r ≡ told_of (Some NoLetter) letters at size → SpelledIs line r before word
+      told-other z = told (Some NoLetter) size (left_here ∙ turn-other fuel S.w at here some c size e z)
+
+      pub told-long : {r : Result ℕ Fault} → 0 < letter_of c → letters ≡ most_letters → r ≡ told_of (Some TooLong) letters at size → SpelledIs line r before word
+      told-long h m = told (Some TooLong) size (left_here ∙ turn-long fuel S.w at here some c size e h (omega (arith, S.count)))
+
       -- x is what the code takes for the letter
       module _ (x : ℕ) (is : x ≡ letter_of c) where
-        pub told-other : {r : Spelling} → x ≡ 0 → r ≡ spelling letters NoLetter at size → SpelledIs line r before word
-        told-other z = told NoLetter size (left_here ∙ turn-other fuel S.w at here some c size e (sym is ∙ z))
-
-        pub told-long : {r : Spelling} → (x ≡ 0 → ⊥) → most_letters ≤ letters → r ≡ spelling letters TooLong at size → SpelledIs line r before word
-        told-long z m = told TooLong size (left_here ∙ turn-long fuel S.w at here some c size e (omega arith) (omega (arith, S.count)))
-
-        pub so_more : (x ≡ 0 → ⊥) → letters < most_letters → SoFar line before (set word letters x) (letters + 1) (at + size)
+        pub so_more : 1 ≤ x → letters < most_letters → SoFar line before (set word letters x) (letters + 1) (at + size)
         so_more z m = record {
           w = S.w ++ (letter_of c ∷ []);
           count = length-append S.w (letter_of c ∷ []) ∙ omega (arith, S.count);

@@ -8,13 +8,13 @@ use lib.Dec.{eqb, leb}
 use lib.ListN.{length, drop}
 use borrow.Author.Tests.{eq-eqb, ne_eqb, le-leb, lt-leb}
 use Rattle.utf8.specs.declared.Character.{Character}
-use Rattle.utf8.specs.declared.Character.TheVariants.{Scalar, Malformed}
-use Rattle.utf8.specs.Utf8.{character_in}
+use Rattle.std.specs.Prelude.{Option, Some, None}
+use Rattle.utf8.specs.Utf8.{scalar, character_in}
 use Rattle.alphabet.specs.Letters.{letter_of}
-use Rattle.wordlist_spelling.specs.declared.Ending.TheVariants.{Whole, NoLetter, TooLong}
+use Rattle.wordlist_spelling.specs.declared.FaultKind.TheVariants.{NoLetter, TooLong}
 use Rattle.wordlist_spelling.specs.Spelled.{most_letters, Spelled, ended, by_character, spelled_from}
 
-pub turn_end : (f : ℕ) (w : List ℕ) (at : ℕ) → spelled_from f w at [] ≡ ended w Whole at 0
+pub turn_end : (f : ℕ) (w : List ℕ) (at : ℕ) → spelled_from f w at [] ≡ ended w None at 0
 unfolding spelled_from
 turn_end zero w at = refl
 turn_end (suc f) w at = refl
@@ -32,22 +32,22 @@ module _ (f : ℕ) (w : List ℕ) (at : ℕ) (bytes : List ℕ) (some : 0 < leng
       go [] h = absurd (omega arith)
       go (b ∷ l) h = refl
 
-  pub turn-broken : character_in bytes ≡ Malformed → spelled_from (suc f) w at bytes ≡ ended w NoLetter at 1
-  turn-broken e = turn ∙ ap (λ (x : Character). by_character x w at more) e
+  pub turn-broken : character_in bytes ≡ None → spelled_from (suc f) w at bytes ≡ ended w (Some NoLetter) at 1
+  turn-broken e = turn ∙ ap (λ (x : Option Character). by_character x w at more) e
 
-  module _ (c size : ℕ) (e : character_in bytes ≡ Scalar c size) where
+  module _ (c size : ℕ) (e : character_in bytes ≡ scalar c size) where
     by : (a b : Bool) → eqb (letter_of c) 0 ≡ a → leb most_letters (length w) ≡ b
-        → spelled_from (suc f) w at bytes ≡ cond a (ended w NoLetter at size) (cond b (ended w TooLong at size) (more (letter_of c) size))
+        → spelled_from (suc f) w at bytes ≡ cond a (ended w (Some NoLetter) at size) (cond b (ended w (Some TooLong) at size) (more (letter_of c) size))
     by a b p q =
         turn
-        ∙ ap (λ (x : Character). by_character x w at more) e
-        ∙ ap (λ (a : Bool). cond a (ended w NoLetter at size) (cond (leb most_letters (length w)) (ended w TooLong at size) (more (letter_of c) size))) p
-        ∙ ap (λ (b : Bool). cond a (ended w NoLetter at size) (cond b (ended w TooLong at size) (more (letter_of c) size))) q
+        ∙ ap (λ (x : Option Character). by_character x w at more) e
+        ∙ ap (λ (a : Bool). cond a (ended w (Some NoLetter) at size) (cond (leb most_letters (length w)) (ended w (Some TooLong) at size) (more (letter_of c) size))) p
+        ∙ ap (λ (b : Bool). cond a (ended w (Some NoLetter) at size) (cond b (ended w (Some TooLong) at size) (more (letter_of c) size))) q
 
-    pub turn-other : letter_of c ≡ 0 → spelled_from (suc f) w at bytes ≡ ended w NoLetter at size
+    pub turn-other : letter_of c ≡ 0 → spelled_from (suc f) w at bytes ≡ ended w (Some NoLetter) at size
     turn-other h = by _ _ (eq-eqb (letter_of c) 0 h) refl
 
-    pub turn-long : 0 < letter_of c → most_letters ≤ length w → spelled_from (suc f) w at bytes ≡ ended w TooLong at size
+    pub turn-long : 0 < letter_of c → most_letters ≤ length w → spelled_from (suc f) w at bytes ≡ ended w (Some TooLong) at size
     turn-long h m = by _ _ (ne_eqb (letter_of c) 0 (λ z. omega arith)) (le-leb most_letters (length w) m)
 
     pub turn-letter : 0 < letter_of c → length w < most_letters → spelled_from (suc f) w at bytes ≡ spelled_from f (w ++ (letter_of c ∷ [])) (at + size) (drop size bytes)

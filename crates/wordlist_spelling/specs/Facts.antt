@@ -1,10 +1,9 @@
 -- The same as in Spelled, as facts: which lines spell a word, and which have a fault where.
-use Rattle.std.specs.Prelude.{ℕ, ◌≤◌, ◌<◌, ◌≡◌, true, List, [], ◌∷◌, ◌++◌, length}
+use Rattle.std.specs.Prelude.{ℕ, ◌≤◌, ◌<◌, ◌≡◌, true, Some, None, List, [], ◌∷◌, ◌++◌, length}
 use Rattle.utf8.specs.Utf8.{is_scalar, encoded}
 use Rattle.alphabet.specs.Letters.{letter_of}
-use Rattle.wordlist_spelling.specs.declared.Ending.{Ending}
-use Rattle.wordlist_spelling.specs.declared.Ending.TheVariants.{Whole, NoLetter, TooLong}
-use Rattle.wordlist_spelling.specs.Spelled.{most_letters, Spelled}
+use Rattle.wordlist_spelling.specs.declared.FaultKind.TheVariants.{NoLetter, TooLong}
+use Rattle.wordlist_spelling.specs.Spelled.{most_letters, Ending, Spelled}
 
 -- bytes that spell letters: the characters of these, small or capital, one after another
 pub data Spells : List ℕ → List ℕ → Type 0 where
@@ -26,9 +25,9 @@ pub data Letter : List ℕ → ℕ → Type 0 where
 
 -- what stands behind the letters, by how it ended: nothing; a character that is no letter; or a letter after 64 others
 abbrev pub Ends : Ending → List ℕ → List ℕ → ℕ → Type 0
-Ends Whole w rest size = (rest ≡ []) × (size ≡ 0)
-Ends NoLetter w rest size = Foreign rest size
-Ends TooLong w rest size = (length w ≡ most_letters) × Letter rest size
+Ends None w rest size = (rest ≡ []) × (size ≡ 0)
+Ends (Some NoLetter) w rest size = Foreign rest size
+Ends (Some TooLong) w rest size = (length w ≡ most_letters) × Letter rest size
 
 -- a line's letters, and what stands behind them
 pub record SpelledAs (line : List ℕ) (s : Spelled) : Type 0 where

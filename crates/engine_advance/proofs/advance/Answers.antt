@@ -1,18 +1,27 @@
-use mathlib.Core.Path.{sym, ap, ◌∙◌}
-use Rattle.table_check.specs.declared.Checked.{Checked}
-use Rattle.table_check.proofs.Passing.{laid}
-use Rattle.engine_admission.proofs.Words.{asking_turned, asking_passes}
+use Rattle.std.proofs.Common.{ap, ◌∙◌}
+use Rattle.machine.specs.declared.Answer.TheVariants.{Refused}
+use Rattle.refusal.specs.declared.Refusal.{Refusal}
+use Rattle.engine_search.specs.Searching.{called_with}
+use Rattle.table_check.proofs.Passing.{laid, passed, failed}
+use Rattle.engine_admission.proofs.Words.{asking_table, asking_turned, asking_passes}
 use Rattle.engine_advance.proofs.Resuming.{turned-outcome, admitted_by}
 use Rattle.engine_advance.proofs.advance.Goals as goal
 
-pub rows-classes-requires : goal.rows-classes-requires
-rows-classes-requires c = (asking_passes c.args.run.task c.args.upper.now c.args.lower.now c.args.run.ceiling c.args.table.now c.check-checked.result.ok (ap (λ (x : Checked). x.ok) c.check-checked.ensures) (sym c.in-Passes.is ∙ c.asked-asking.ensures c.args.table.now (ap (λ (x : Checked). x.ok) c.check-checked.ensures))).loads
+pub returns-in_default : goal.returns-in_default
+returns-in_default c =
+    let a = c.args in
+    turned-outcome a.table.now a.upper.now a.lower.now a.run a.stack.now a.allowance a.output.now _ (asking_table a.table.now a.run.task a.upper.now a.lower.now a.run.ceiling (failed a.table.now c.in_default.ensures)) _ (c.refused.ensures ∙ ap (λ (r : Refusal). called_with (Refused 0 r) a.run) c.into.ensures)
 
-pub resume-requires : goal.resume-requires
-resume-requires c = record { admitted = admitted_by _ _ _ _ _ _ (asking_passes c.args.run.task c.args.upper.now c.args.lower.now c.args.run.ceiling c.args.table.now c.check-checked.result.ok (ap (λ (x : Checked). x.ok) c.check-checked.ensures) (sym c.in-Passes.is ∙ c.asked-asking.ensures c.args.table.now (ap (λ (x : Checked). x.ok) c.check-checked.ensures))) (ap (λ (x : Checked). x.first) c.check-checked.ensures); at_value = (laid _ c.check-checked.result c.check-checked.ensures, c.rows-classes.ensures) }
+pub returns-in-Err : goal.returns-in-Err
+returns-in-Err c =
+    let a = c.args in
+    turned-outcome a.table.now a.upper.now a.lower.now a.run a.stack.now a.allowance a.output.now _ (asking_turned _ _ (c.in-Err.ensures a.table.now (passed a.table.now c.in-Some.checked c.in-Some.ensures))) _ (c.refused-in-Err.ensures ∙ ap (λ (r : Refusal). called_with (Refused 0 r) a.run) c.into-in-Err.ensures)
 
-pub returns-in-Refused : goal.returns-in-Refused
-returns-in-Refused c = let a = c.args in turned-outcome a.table.now a.upper.now a.lower.now a.run a.stack.now a.allowance a.output.now _ (asking_turned _ _ (sym c.in-Refused.is ∙ c.asked-asking.ensures a.table.now (ap (λ (x : Checked). x.ok) c.check-checked.ensures))) _ c.refused.ensures
+pub resume-requires-clause-admitted : goal.resume-requires-clause-admitted
+resume-requires-clause-admitted c =
+    let a = c.args in
+    let loads = passed a.table.now c.in-Some.checked c.in-Some.ensures in
+    admitted_by a.table.now a.run.task a.upper.now a.lower.now a.run.ceiling c.in-Some.checked (asking_passes a.run.task a.upper.now a.lower.now a.run.ceiling a.table.now loads (c.in_default-admitted.ensures a.table.now loads)) c.in-Some.ensures
 
-pub returns-in-Passes : goal.returns-in-Passes
-returns-in-Passes c = c.resume.ensures
+pub resume-requires-clause-layout : goal.resume-requires-clause-layout
+resume-requires-clause-layout c = laid c.args.table.now c.in-Some.checked c.in-Some.ensures

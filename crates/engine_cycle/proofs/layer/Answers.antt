@@ -1,35 +1,25 @@
 -- The loop: the states below q had their turn.
-use Prim.Native.Nat.{ℕ, ◌+◌}
-use native.Mathlib.Omega.{arith}
-use mathlib.Core.Path.{sym, subst}
-use lib.ListN.{length-set}
-use Rattle.engine_graph.specs.Graph.{Graph}
-use Rattle.engine_cycle.proofs.Rounds.{turned_none, turned-numbered, turned-leads-not, turned-adds, turned-all}
+use Rattle.std.proofs.Common.{arith, List, ℕ, ◌+◌, sym, subst, ◌∙◌}
+use Rattle.engine_cycle.proofs.Rounds.{Turned, some-there, none-there, turned_none, turned-numbered, turned-leads-not, turned-adds, turned-all}
 use Rattle.engine_cycle.proofs.layer.Goals as goal
+use Rattle.engine_cycle.proofs.layer.Goals.{then-numbers-q-eq0+then-is_some, else-numbers-q-eq0, else-numbers-q-eq0-via-then-numbers-q-eq0+else-is_some, else-numbers-q-eq0-via-else-numbers-q-eq0}
 
 pub loop-q-init : goal.loop-q-init
-loop-q-init c = turned_none c.args.arcs.now c.args.upper c.args.lower c.args.far c.args.numbers.now
-
-pub lowest-r-requires : goal.lowest-r-requires
-lowest-r-requires c = record { graph = subst (λ (n : ℕ). Graph c.args.arcs.now c.args.first.now n) (sym c.loop-q.invariant.same_length) c.requires.graph; q_in_bounds = c.loop-q-test.true }
-
-pub overflow_add-numbers : goal.overflow_add-numbers
-overflow_add-numbers c = omega (arith, c.requires.far_nonzero.1)
-
-pub loop-q-smaller-then-r-lt256 : goal.loop-q-smaller-then-r-lt256
-loop-q-smaller-then-r-lt256 c = omega (arith, length-set c.loop-q.numbers c.loop-q.q (c.args.far + 1))
-
-pub loop-q-preserved-then-r-lt256 : goal.loop-q-preserved-then-r-lt256
-loop-q-preserved-then-r-lt256 c = turned-adds c.args.arcs.now c.args.upper c.args.lower c.loop-q.invariant c.lowest-r.result c.lowest-r.ensures c.requires.far_nonzero.0 c.if-r-lt256.true c.loop-q-test.true c.if-numbers-at-eq0.true
-
-pub loop-q-preserved-else-r-lt256 : goal.loop-q-preserved-else-r-lt256
-loop-q-preserved-else-r-lt256 c = turned-leads-not c.args.arcs.now c.args.upper c.args.lower c.loop-q.invariant c.lowest-r.result c.lowest-r.ensures c.requires.far_nonzero.0 c.if-r-lt256.false
+loop-q-init c = turned_none c.args.graph.now c.args.far c.args.numbers.now
 
 pub loop-q-preserved : goal.loop-q-preserved
-loop-q-preserved c = turned-numbered c.args.arcs.now c.args.upper c.args.lower c.loop-q.invariant c.if-numbers-at-eq0.false
-
-pub shape_of-numbers : goal.shape_of-numbers
-shape_of-numbers c = c.loop-q.invariant.same_length
+loop-q-preserved c =
+    let g = c.args.graph.now in
+    let T = λ (n : List ℕ). Turned g c.args.far c.args.numbers.now n (c.loop-q.q + 1) in
+    elim c.if-numbers-q-eq0.branch [
+      | then-numbers-q-eq0+then-is_some w ↦ (let S = some-there w.lowest.result (sym w.is_some.ensures ∙ w.if-is_some.true) in
+          subst T (sym w.numbers-is) (turned-adds g c.loop-q.invariant w.lowest.result w.lowest.ensures c.requires.0 S.0 S.1 (let l = c.loop-q.invariant.same_length in omega (arith, c.told-numbers, g.graph.few)) w.if-numbers-q-eq0.true))
+      | else-numbers-q-eq0 w ↦ subst T (sym w.numbers-is)
+          (elim w.else-numbers-q-eq0.branch [
+            | else-numbers-q-eq0-via-then-numbers-q-eq0+else-is_some w' ↦ turned-leads-not g c.loop-q.invariant w'.lowest.result w'.lowest.ensures c.requires.0 (none-there w'.lowest.result (sym w'.is_some.ensures ∙ w'.if-is_some.false))
+            | else-numbers-q-eq0-via-else-numbers-q-eq0 w' ↦ turned-numbered g c.loop-q.invariant w'.if-numbers-q-eq0.false
+          ])
+    ]
 
 pub returns : goal.returns
-returns c = turned-all c.args.arcs.now c.args.upper c.args.lower c.args.first.now c.requires.graph c.loop-q-test.false c.loop-q.invariant
+returns c = turned-all c.args.graph.now (omega arith) c.loop-q.invariant

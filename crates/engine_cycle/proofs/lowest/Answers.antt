@@ -1,53 +1,71 @@
--- The loop: of the targets of the state's arcs before n, the lowest with the number.
-use native.Mathlib.Omega.{arith}
-use mathlib.Core.Path.{sym, ap, ◌∙◌}
-use mathlib.Core.Bool.{true≢false}
-use Rattle.table_format.specs.declared.Arc as held
+-- The loop: of the targets of the state's arcs before it, the lowest with the number.
+use Rattle.std.proofs.Common.{arith, ℕ, ap, sym, subst, ◌∙◌}
+use Rattle.std.specs.declared.ops.Range.{Range}
+use Rattle.std.proofs.Common.{◌≡◌}
+use Rattle.std.specs.Prelude.{◌+◌, Some, None, min}
 use Rattle.engine_cycle.specs.Numbers.{number_in}
-use Rattle.engine_cycle.proofs.Targets.{least-begins, least-keeps, least-takes, least-is}
+use Rattle.engine_graph.proofs.Targets.{target_at, arc_in, edge_at, edges_among}
+use Rattle.engine_cycle.proofs.Targets.{Least, least-begins, least-none, least-other, least-lower, least-is}
 use Rattle.engine_cycle.proofs.lowest.Goals as goal
 
-pub arcs_of-of-requires : goal.arcs_of-of-requires
-arcs_of-of-requires c = omega (arith, c.requires.graph.few, c.requires.graph.index, c.requires.q_in_bounds)
-
 pub loop-n-init : goal.loop-n-init
-loop-n-init c = (omega (arith, c.arcs_of-of.ensures.0), λ i h k. absurd (omega (arith, c.arcs_of-of.ensures.0)), least-begins c.args.arcs.now c.args.upper c.args.lower c.args.first.now c.args.numbers.now c.args.far c.args.q c.arcs_of-of.result.from (omega (arith, c.arcs_of-of.ensures.0)))
+loop-n-init c =
+    let a = ap (λ (r : Range ℕ). r.start) c.into_iter-n-iterator.ensures.into_iter_gives in
+    let b = ap (λ (r : Range ℕ). r.end) c.into_iter-n-iterator.ensures.into_iter_gives in
+    let e = c.arcs_of-n-items.ensures in
+    (tt, tt, omega arith, b ∙ e.1, λ i h k. absurd (omega arith), least-begins c.args.graph.now c.args.numbers.now c.args.far c.args.q c.into_iter-n-iterator.result.start (omega arith))
 
-pub overflow_add-n : goal.overflow_add-n
-overflow_add-n c = omega (arith, (c.requires.graph.numbered c.args.q c.loop-n.n c.requires.q_in_bounds c.loop-n.invariant.0 (omega (arith, c.loop-n-test.true, c.arcs_of-of.ensures.1))).0)
-
-pub idle-requires : goal.idle-requires
-idle-requires c = (c.requires.graph.numbered c.args.q c.loop-n.n c.requires.q_in_bounds c.loop-n.invariant.0 (omega (arith, c.loop-n-test.true, c.arcs_of-of.ensures.1))).0
-
-pub arc_at-arc-requires : goal.arc_at-arc-requires
-arc_at-arc-requires c = (c.requires.graph.numbered c.args.q c.loop-n.n c.requires.q_in_bounds c.loop-n.invariant.0 (omega (arith, c.loop-n-test.true, c.arcs_of-of.ensures.1))).0
-
-pub bounds-numbers-cell_as_index : goal.bounds-numbers-cell_as_index
-bounds-numbers-cell_as_index c = omega (arith, c.cell_as_index.ensures.0, ap (λ (a : held.Arc). a.target) c.arc_at-arc.ensures, c.requires.graph.target_in c.loop-n.n (c.requires.graph.numbered c.args.q c.loop-n.n c.requires.q_in_bounds c.loop-n.invariant.0 (omega (arith, c.loop-n-test.true, c.arcs_of-of.ensures.1))).0)
-
-pub loop-n-smaller-then-arc-r : goal.loop-n-smaller-then-arc-r
-loop-n-smaller-then-arc-r c = omega (arith, c.loop-n-test.true)
-
-pub loop-n-preserved-then-arc-r : goal.loop-n-preserved-then-arc-r
-loop-n-preserved-then-arc-r c = (omega (arith, c.loop-n.invariant.0), λ i h k. omega (arith, c.loop-n-test.true, c.arcs_of-of.ensures.1), least-takes c.args.arcs.now c.args.upper c.args.lower c.args.first.now c.args.numbers.now c.args.far c.args.q c.loop-n.n c.loop-n.r c.loop-n.invariant.2 c.loop-n.invariant.0 (sym c.idle.ensures ∙ c.if-idle.true, ap (number_in c.args.numbers.now) (sym (c.cell_as_index.ensures.0 ∙ ap (λ (a : held.Arc). a.target) c.arc_at-arc.ensures)) ∙ c.if-numbers-cell_as_index.true) c.arc_at-arc.result.target (ap (λ (a : held.Arc). a.target) c.arc_at-arc.ensures) c.if-arc-r.true)
-
-pub loop-n-smaller-else-arc-r : goal.loop-n-smaller-else-arc-r
-loop-n-smaller-else-arc-r c = omega (arith, c.loop-n-test.true)
-
-pub loop-n-preserved-else-arc-r : goal.loop-n-preserved-else-arc-r
-loop-n-preserved-else-arc-r c = (omega (arith, c.loop-n.invariant.0), λ i h k. omega (arith, c.loop-n-test.true, c.arcs_of-of.ensures.1), least-keeps c.args.arcs.now c.args.upper c.args.lower c.args.first.now c.args.numbers.now c.args.far c.args.q c.loop-n.n c.loop-n.r c.loop-n.invariant.2 (λ F. omega (arith, ap (λ (a : held.Arc). a.target) c.arc_at-arc.ensures, c.if-arc-r.false)))
-
-pub loop-n-smaller-else-numbers-cell_as_index : goal.loop-n-smaller-else-numbers-cell_as_index
-loop-n-smaller-else-numbers-cell_as_index c = omega (arith, c.loop-n-test.true)
-
-pub loop-n-preserved-else-numbers-cell_as_index : goal.loop-n-preserved-else-numbers-cell_as_index
-loop-n-preserved-else-numbers-cell_as_index c = (omega (arith, c.loop-n.invariant.0), λ i h k. omega (arith, c.loop-n-test.true, c.arcs_of-of.ensures.1), least-keeps c.args.arcs.now c.args.upper c.args.lower c.args.first.now c.args.numbers.now c.args.far c.args.q c.loop-n.n c.loop-n.r c.loop-n.invariant.2 (λ F. absurd (c.if-numbers-cell_as_index.false (sym (ap (number_in c.args.numbers.now) (sym (c.cell_as_index.ensures.0 ∙ ap (λ (a : held.Arc). a.target) c.arc_at-arc.ensures))) ∙ F.1))))
-
-pub loop-n-smaller : goal.loop-n-smaller
-loop-n-smaller c = omega (arith, c.loop-n-test.true)
-
-pub loop-n-preserved : goal.loop-n-preserved
-loop-n-preserved c = (omega (arith, c.loop-n.invariant.0), λ i h k. omega (arith, c.loop-n-test.true, c.arcs_of-of.ensures.1), least-keeps c.args.arcs.now c.args.upper c.args.lower c.args.first.now c.args.numbers.now c.args.far c.args.q c.loop-n.n c.loop-n.r c.loop-n.invariant.2 (λ F. absurd (true≢false (sym F.0 ∙ sym c.idle.ensures ∙ c.if-idle.false))))
+pub idle_target-requires : goal.idle_target-requires
+idle_target-requires c = let s = c.in-Some.ensures.steps in let i = c.loop-n.invariant in arc_in c.args.graph.now c.args.q c.in-Some.n c.requires (omega arith) (omega arith)
 
 pub returns : goal.returns
-returns c = least-is c.args.arcs.now c.args.upper c.args.lower c.args.first.now c.args.numbers.now c.args.far c.args.q c.requires.graph c.requires.q_in_bounds c.loop-n.n c.loop-n.r (omega (arith, c.loop-n-test.false, c.arcs_of-of.ensures.1)) c.loop-n.invariant.1 c.loop-n.invariant.2
+returns c = let s = c.in-None.ensures.steps in let i = c.loop-n.invariant in least-is c.args.graph.now c.args.numbers.now c.args.far c.args.q c.requires c.loop-n.n-iterator.start c.loop-n.lowest (omega arith) i.4 i.5
+
+pub bounds-numbers-from : goal.bounds-numbers-from
+bounds-numbers-from c =
+    let s = c.in-Some.ensures.steps in
+    let i = c.loop-n.invariant in
+    let E = edge_at c.args.graph.now c.args.q c.in-Some.n c.in-Some-idle_target.target c.requires (omega arith) (omega arith) (sym c.in-Some-idle_target.ensures) in
+    omega (arith, c.from.ensures, (edges_among c.args.graph.now _ _ E).1, c.args.graph.now.graph.few)
+
+pub loop-n-preserved : goal.loop-n-preserved
+loop-n-preserved c =
+    let s = c.in-Some.ensures.steps in
+    let i = c.loop-n.invariant in (
+      tt,
+      tt,
+      omega arith,
+      s.0 ∙ i.3,
+      λ j h k. omega arith,
+      subst (λ (n : ℕ). Least c.args.graph.now c.args.numbers.now c.args.far c.args.q n c.loop-n.lowest) (sym s.1.2)
+          (least-none c.args.graph.now c.args.numbers.now c.args.far c.args.q c.loop-n.n-iterator.start c.loop-n.lowest i.5 (subst (λ (n : ℕ). target_at c.args.graph.now n ≡ None) s.1.1 (sym c.in_default.ensures))),
+    )
+
+pub loop-n-preserved-else-numbers-from : goal.loop-n-preserved-else-numbers-from
+loop-n-preserved-else-numbers-from c =
+    let s = c.in-Some.ensures.steps in
+    let i = c.loop-n.invariant in
+    let to = subst (λ (n : ℕ). target_at c.args.graph.now n ≡ Some c.in-Some-idle_target.target) s.1.1 (sym c.in-Some-idle_target.ensures) in (
+      tt,
+      tt,
+      omega arith,
+      s.0 ∙ i.3,
+      λ j h k. omega arith,
+      subst (λ (n : ℕ). Least c.args.graph.now c.args.numbers.now c.args.far c.args.q n c.loop-n.lowest) (sym s.1.2)
+          (least-other c.args.graph.now c.args.numbers.now c.args.far c.args.q c.loop-n.n-iterator.start c.loop-n.lowest i.5 c.in-Some-idle_target.target to (λ e. c.if-numbers-from.false (ap (number_in c.args.numbers.now) c.from.ensures ∙ e))),
+    )
+
+pub loop-n-preserved-then-numbers-from : goal.loop-n-preserved-then-numbers-from
+loop-n-preserved-then-numbers-from c =
+    let s = c.in-Some.ensures.steps in
+    let i = c.loop-n.invariant in
+    let to = subst (λ (n : ℕ). target_at c.args.graph.now n ≡ Some c.in-Some-idle_target.target) s.1.1 (sym c.in-Some-idle_target.ensures) in (
+      tt,
+      tt,
+      omega arith,
+      s.0 ∙ i.3,
+      λ j h k. omega arith,
+      subst (λ (n : ℕ). Least c.args.graph.now c.args.numbers.now c.args.far c.args.q n (Some c.min.result)) (sym s.1.2)
+          (subst (λ (m : ℕ). Least c.args.graph.now c.args.numbers.now c.args.far c.args.q (c.loop-n.n-iterator.start + 1) (Some m)) (sym (c.min.ensures ∙ ap (min c.in-Some-idle_target.target) c.unwrap_or.ensures))
+          (least-lower c.args.graph.now c.args.numbers.now c.args.far c.args.q c.loop-n.n-iterator.start c.loop-n.lowest i.5 i.2 c.in-Some-idle_target.target (to, ap (number_in c.args.numbers.now) (sym c.from.ensures) ∙ c.if-numbers-from.true))),
+    )

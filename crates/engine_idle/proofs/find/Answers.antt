@@ -1,28 +1,24 @@
--- The cells at first: all states alive, and none reached.
-use Prim.Native.Nat.{ℕ}
-use native.Mathlib.Omega.{arith}
-use mathlib.Core.Path.{sym, ap, subst, ◌∙◌}
-use Rattle.graph.specs.Lists.{AllBelow}
-use Rattle.engine_graph.specs.Graph.{Graph}
-use Rattle.engine_cycle.specs.Numbers.{cycle_cells}
-use Rattle.engine_idle.specs.Found.{shown_in}
-use Rattle.engine_idle.proofs.Cycles.{first-cells, all_alive_lem, none-marked}
+-- None is left; or none of those that are left is reached and on a cycle; or the lowest of these has its cycle.
+use Rattle.std.proofs.Common.{ap, ◌∙◌}
+use Rattle.std.specs.Prelude.{Some}
+use Rattle.engine_cycle.specs.declared.Cycle.{Cycle}
+use Rattle.engine_idle.proofs.Cycles.{cycles_left, none_left, none-reached, lowest-state, on_cycle_lem, one-reached}
 use Rattle.engine_idle.proofs.find.Goals as goal
 
-pub slice_bounds-alive-end : goal.slice_bounds-alive-end
-slice_bounds-alive-end c = omega (arith, c.requires.graph.few)
+pub returns-then-none_left : goal.returns-then-none_left
+returns-then-none_left c = none_left c.args.graph.now c.args.initials.now _ c.requires c.settle.ensures c.if-none_left.ensures
 
-pub slice_bounds-among-end : goal.slice_bounds-among-end
-slice_bounds-among-end c = sym (first-cells _ c.args.states c.requires.graph.few)
+pub lowest-requires-clause-cyclic : goal.lowest-requires-clause-cyclic
+lowest-requires-clause-cyclic c = cycles_left c.args.graph.now c.args.initials.now _ c.requires c.settle.ensures
 
-pub slice_bounds-reached-end : goal.slice_bounds-reached-end
-slice_bounds-reached-end c = omega (arith, c.requires.graph.few)
+pub returns-in_err-s : goal.returns-in_err-s
+returns-in_err-s c = c.from_residual.ensures ∙ none-reached c.args.graph.now c.args.initials.now _ c.requires c.settle.ensures _ c.reach-reached.ensures c.lowest.result c.lowest.ensures c.in_err-s.was
 
-pub slice_bounds-among-end-2 : goal.slice_bounds-among-end-2
-slice_bounds-among-end-2 c = sym (first-cells _ c.args.states c.requires.graph.few)
+pub through-requires-clause-s_in_bounds : goal.through-requires-clause-s_in_bounds
+through-requires-clause-s_in_bounds c = lowest-state c.args.graph.now c.args.initials.now _ c.requires c.settle.ensures _ c.reach-reached.ensures c.lowest.result c.lowest.ensures c.in_ok-s.s c.in_ok-s.was
 
-pub among-requires : goal.among-requires
-among-requires c = record { graph = subst (λ (n : ℕ). Graph c.args.arcs.now c.args.first.now n) (sym (first-cells _ c.args.states c.requires.graph.few)) c.requires.graph; all_below = subst (λ (n : ℕ). AllBelow n c.args.initials.now) (sym (first-cells _ c.args.states c.requires.graph.few)) c.requires.all_below; all_alive = all_alive_lem c.args.states c.requires.graph.few; reached_len = ((first-cells _ c.args.states c.requires.graph.few) ∙ sym (first-cells _ c.args.states c.requires.graph.few), none-marked c.args.states 256) }
+pub through-requires-clause-walk : goal.through-requires-clause-walk
+through-requires-clause-walk c = on_cycle_lem c.args.graph.now c.args.initials.now _ c.requires c.settle.ensures _ c.reach-reached.ensures c.lowest.result c.lowest.ensures c.in_ok-s.s c.in_ok-s.was
 
 pub returns : goal.returns
-returns c = c.among.ensures ∙ ap (λ (n : ℕ). cycle_cells (shown_in c.args.arcs.now c.args.initials.now n c.args.upper c.args.lower)) (first-cells _ c.args.states c.requires.graph.few)
+returns c = ap (λ (x : Cycle). Some x) c.through.ensures ∙ one-reached c.args.graph.now c.args.initials.now _ c.requires c.settle.ensures _ c.reach-reached.ensures c.lowest.result c.lowest.ensures c.in_ok-s.s c.in_ok-s.was

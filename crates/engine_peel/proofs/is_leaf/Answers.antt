@@ -1,30 +1,33 @@
--- The loop: no arc before n leads to a state that is alive.
-use native.Mathlib.Omega.{arith}
-use mathlib.Core.Path.{sym, ◌∙◌}
-use lib.ListN.{get_or}
-use Rattle.engine_peel.proofs.Rounds.{fails_more, leads_at, leaf-not, leaf}
+-- The loop: no arc before it leads to a state that is alive.
+use Rattle.std.proofs.Common.{arith, ℕ, ap, sym, subst, ◌∙◌}
+use Rattle.std.specs.declared.ops.Range.{Range}
+use Rattle.engine_graph.proofs.Targets.{arc_in, edge_at, edges_among}
+use Rattle.engine_peel.specs.Peel.{Lives}
+use Rattle.engine_peel.proofs.Rounds.{leaf-not, leaf}
 use Rattle.engine_peel.proofs.is_leaf.Goals as goal
 
-pub arcs_of-of-requires : goal.arcs_of-of-requires
-arcs_of-of-requires c = omega (arith, c.requires.graph.few, c.requires.graph.index, c.requires.q_in_bounds)
-
 pub loop-n-init : goal.loop-n-init
-loop-n-init c = (omega (arith, c.arcs_of-of.ensures.0), λ i h k. absurd (omega (arith, c.arcs_of-of.ensures.0)))
+loop-n-init c =
+    let a = ap (λ (r : Range ℕ). r.start) c.into_iter-n-iterator.ensures.into_iter_gives in
+    let b = ap (λ (r : Range ℕ). r.end) c.into_iter-n-iterator.ensures.into_iter_gives in
+    let e = c.arcs_of-n-items.ensures in
+    (tt, tt, omega arith, b ∙ e.1, λ n x h k. absurd (omega arith))
 
-pub leads-requires : goal.leads-requires
-leads-requires c = let h = (c.requires.graph.numbered c.args.q c.loop-n.n c.requires.q_in_bounds c.loop-n.invariant.0 (omega (arith, c.loop-n-test.true, c.arcs_of-of.ensures.1))).0 in record { n_bound = h; n_in_bounds = c.requires.graph.target_in _ h }
+pub idle_target-requires : goal.idle_target-requires
+idle_target-requires c = let s = c.in-Some.ensures.steps in let i = c.loop-n.invariant in arc_in c.args.graph.now c.args.q c.in-Some.n c.requires.q_in_bounds (omega arith) (omega arith)
 
-pub returns-then-leads : goal.returns-then-leads
-returns-then-leads c = leaf-not c.args.arcs.now c.args.upper c.args.lower c.args.first.now c.args.alive.now c.requires.graph c.args.q c.requires.q_in_bounds c.loop-n.n c.loop-n.invariant.0 (omega (arith, c.loop-n-test.true, c.arcs_of-of.ensures.1)) (sym c.leads.ensures ∙ c.if-leads.true)
+pub bounds-alive-from : goal.bounds-alive-from
+bounds-alive-from c =
+    let s = c.in-Some.ensures.steps in
+    let i = c.loop-n.invariant in
+    let E = edge_at c.args.graph.now c.args.q c.in-Some.n c.in-Some-idle_target.target c.requires.q_in_bounds (omega arith) (omega arith) (sym c.in-Some-idle_target.ensures) in
+    omega (arith, c.from.ensures, (edges_among c.args.graph.now _ _ E).1, c.requires.states)
 
-pub overflow_add-n : goal.overflow_add-n
-overflow_add-n c = omega (arith, (c.requires.graph.numbered c.args.q c.loop-n.n c.requires.q_in_bounds c.loop-n.invariant.0 (omega (arith, c.loop-n-test.true, c.arcs_of-of.ensures.1))).0)
-
-pub loop-n-smaller : goal.loop-n-smaller
-loop-n-smaller c = omega (arith, c.loop-n-test.true)
-
-pub loop-n-preserved : goal.loop-n-preserved
-loop-n-preserved c = (omega (arith, c.loop-n.invariant.0), fails_more (leads_at c.args.arcs.now c.args.upper c.args.lower c.args.alive.now) (get_or c.args.first.now c.args.q 0) c.loop-n.n c.loop-n.invariant.1 (sym c.leads.ensures ∙ c.if-leads.false))
+pub returns-then-alive-from : goal.returns-then-alive-from
+returns-then-alive-from c =
+    let s = c.in-Some.ensures.steps in
+    let i = c.loop-n.invariant in
+    leaf-not c.args.graph.now c.args.alive.now c.args.q c.requires.q_in_bounds c.in-Some.n c.in-Some-idle_target.target (omega arith) (omega arith) (sym c.in-Some-idle_target.ensures) (subst (Lives c.args.alive.now) c.from.ensures c.if-alive-from.true)
 
 pub returns : goal.returns
-returns c = leaf c.args.arcs.now c.args.upper c.args.lower c.args.first.now c.args.alive.now c.requires.graph c.args.q c.requires.q_in_bounds (λ n a b. c.loop-n.invariant.1 n a (omega (arith, c.loop-n-test.false, c.arcs_of-of.ensures.1)))
+returns c = let s = c.in-None.ensures.steps in let i = c.loop-n.invariant in leaf c.args.graph.now c.args.alive.now c.args.q c.requires.q_in_bounds (λ n x a b e. i.4 n x a (omega arith) e)

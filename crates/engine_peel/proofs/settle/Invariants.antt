@@ -1,9 +1,10 @@
--- The loop: each round keeps the states on cycles; what falls is the count of states that are alive, and whether there is another round.
-use Rattle.engine_peel.proofs.Rounds.{Rounds, left}
+-- The loop: each round keeps the count of cells and the states on cycles, and one in which a state dies leaves fewer alive.
+use Rattle.std.proofs.Common.{◌≡◌, length}
+use Rattle.engine_peel.specs.Peel.{Cyclic, living}
 use Rattle.engine_peel.proofs.settle.Given as goal
 
-abbrev pub invariant-loop-on : goal.invariant-loop-on
-invariant-loop-on l = Rounds l.arcs l.upper l.lower l.initial.alive l.alive l.on
+abbrev pub invariant-loop : goal.invariant-loop
+invariant-loop l = (length l.alive ≡ length l.initial.alive) × (Cyclic l.graph l.initial.alive → Cyclic l.graph l.alive)
 
-abbrev pub decreases-loop-on : goal.decreases-loop-on
-decreases-loop-on l = left l.arcs l.upper l.lower l.alive l.on
+abbrev pub decreases-loop : goal.decreases-loop
+decreases-loop l = living l.alive

@@ -1,9 +1,6 @@
 -- The first frame that is not linked by the rules of the sides. The invariant: those so far are, and the code holds the frame below with where its
 -- state's arcs begin.
-use Prim.Native.Nat.{ℕ, ◌-◌, ◌<◌, ◌≤◌}
-use mathlib.Core.Path.{◌≡◌}
-use mathlib.Core.Bool.{true}
-use lib.ListN.{get_or}
+use Rattle.std.proofs.Common.{◌≡◌, ℕ, ◌-◌, ◌<◌, ◌≤◌, true, get_or}
 use Rattle.machine.specs.Stack.{look_at}
 use Rattle.engine_frames.specs.Frames.{frame_of}
 use Rattle.engine_place.specs.Place.{linked_at}
@@ -11,8 +8,5 @@ use Rattle.engine_place.proofs.links_from.Given as goal
 
 abbrev pub invariant-loop-i : goal.invariant-loop-i
 invariant-loop-i l =
-    (l.from ≤ l.i) × (l.i ≤ l.depth) × ((j : ℕ) → l.from ≤ j → j < l.i → linked_at l.setup l.first l.arcs l.upper l.lower l.stack j ≡ true) × (l.g ≡ frame_of (look_at l.stack (l.i - 1)))
+    ((j : ℕ) → l.from ≤ j → j < l.i → linked_at l.setup l.first l.arcs l.upper l.lower l.stack j ≡ true) × (l.g ≡ frame_of (look_at l.stack (l.i - 1)))
     × (l.begin ≡ get_or l.first l.g.state 0)
-
-abbrev pub decreases-loop-i : goal.decreases-loop-i
-decreases-loop-i l = l.depth - l.i

@@ -1,44 +1,31 @@
 -- The refusals in their order, then what the search for a cycle found.
-use native.Mathlib.Omega.{arith}
-use mathlib.Core.Path.{sym, ap, ◌∙◌}
-use Rattle.table_check.specs.declared.Checked.{Checked}
-use Rattle.table_check.proofs.Passing.{laid}
-use Rattle.engine_admission.proofs.Words.{asking_turned, asking_passes}
+use Rattle.refusal.specs.declared.Refusal.TheVariants.{Input, State}
+use Rattle.refusal.specs.declared.StateCause.TheVariants.{LoadedTable}
+use Rattle.table_check.proofs.Passing.{passed, failed}
+use Rattle.engine_admission.proofs.Words.{asking_table, asking_turned}
 use Rattle.engine_start.proofs.Starts.{start-turned, start-laid, start_graph, start-initials, start-ready, start-cycle}
 use Rattle.engine_start.proofs.start.Goals as goal
 
-pub returns-in-Refused : goal.returns-in-Refused
-returns-in-Refused c = start-turned c.args.table.now c.args.task c.args.upper.now c.args.lower.now c.args.ceiling c.in-Refused.refusal (asking_turned _ c.in-Refused.refusal (sym c.in-Refused.is ∙ c.asked-asking.ensures c.args.table.now (ap (λ (x : Checked). x.ok) c.check-checked.ensures))) c.refused.result c.refused.ensures
+pub returns-in_default : goal.returns-in_default
+returns-in_default c = start-turned c.args.table.now c.args.task c.args.upper.now c.args.lower.now c.args.ceiling (State LoadedTable) (asking_table c.args.table.now c.args.task c.args.upper.now c.args.lower.now c.args.ceiling (failed c.args.table.now c.in_default.ensures)) c.refused.result c.refused.ensures
 
-pub offset_bounds-table-arcs : goal.offset_bounds-table-arcs
-offset_bounds-table-arcs c = let l = start-laid c.args.table.now c.args.task c.args.upper.now c.args.lower.now c.args.ceiling (asking_passes c.args.task c.args.upper.now c.args.lower.now c.args.ceiling c.args.table.now c.check-checked.result.ok (ap (λ (x : Checked). x.ok) c.check-checked.ensures) (sym c.in_default.is ∙ c.asked-asking.ensures c.args.table.now (ap (λ (x : Checked). x.ok) c.check-checked.ensures))) c.check-checked.result.layout (laid c.args.table.now c.check-checked.result c.check-checked.ensures) in omega (arith, l.arcs-is, l.end_is, l.whole)
+pub returns-in-Err : goal.returns-in-Err
+returns-in-Err c = start-turned c.args.table.now c.args.task c.args.upper.now c.args.lower.now c.args.ceiling (Input c.in-Err.cause) (asking_turned _ _ (c.in-Err.ensures c.args.table.now (passed c.args.table.now c.in-Some.checked c.in-Some.ensures))) c.refused-in-Err.result c.refused-in-Err.ensures
 
-pub slice_bounds-find-count : goal.slice_bounds-find-count
-slice_bounds-find-count c = let l = start-laid c.args.table.now c.args.task c.args.upper.now c.args.lower.now c.args.ceiling (asking_passes c.args.task c.args.upper.now c.args.lower.now c.args.ceiling c.args.table.now c.check-checked.result.ok (ap (λ (x : Checked). x.ok) c.check-checked.ensures) (sym c.in_default.is ∙ c.asked-asking.ensures c.args.table.now (ap (λ (x : Checked). x.ok) c.check-checked.ensures))) c.check-checked.result.layout (laid c.args.table.now c.check-checked.result c.check-checked.ensures) in omega (arith, l.arcs-is, l.end_is, l.whole)
+pub arcs-requires : goal.arcs-requires
+arcs-requires c = start-laid c.args.table.now c.args.task c.args.upper.now c.args.lower.now c.args.ceiling c.in-Some.checked c.in-Some.ensures c.in_default-admitted.ensures
 
-pub offset_bounds-table-initials : goal.offset_bounds-table-initials
-offset_bounds-table-initials c = let l = start-laid c.args.table.now c.args.task c.args.upper.now c.args.lower.now c.args.ceiling (asking_passes c.args.task c.args.upper.now c.args.lower.now c.args.ceiling c.args.table.now c.check-checked.result.ok (ap (λ (x : Checked). x.ok) c.check-checked.ensures) (sym c.in_default.is ∙ c.asked-asking.ensures c.args.table.now (ap (λ (x : Checked). x.ok) c.check-checked.ensures))) c.check-checked.result.layout (laid c.args.table.now c.check-checked.result c.check-checked.ensures) in omega (arith, l.initials-is, l.terminals-is, l.whole)
+pub invariant_of-graph : goal.invariant_of-graph
+invariant_of-graph c = record { graph = start_graph c.args.table.now c.args.task c.args.upper.now c.args.lower.now c.args.ceiling c.in-Some.checked c.in-Some.ensures c.in_default-admitted.ensures c.arcs.result.now c.from.result c.arcs.ensures.table c.from.ensures }
 
-pub slice_bounds-find-count-2 : goal.slice_bounds-find-count-2
-slice_bounds-find-count-2 c = let l = start-laid c.args.table.now c.args.task c.args.upper.now c.args.lower.now c.args.ceiling (asking_passes c.args.task c.args.upper.now c.args.lower.now c.args.ceiling c.args.table.now c.check-checked.result.ok (ap (λ (x : Checked). x.ok) c.check-checked.ensures) (sym c.in_default.is ∙ c.asked-asking.ensures c.args.table.now (ap (λ (x : Checked). x.ok) c.check-checked.ensures))) c.check-checked.result.layout (laid c.args.table.now c.check-checked.result c.check-checked.ensures) in omega (arith, l.initials-is, l.terminals-is, l.whole)
+pub initials-requires : goal.initials-requires
+initials-requires c = start-laid c.args.table.now c.args.task c.args.upper.now c.args.lower.now c.args.ceiling c.in-Some.checked c.in-Some.ensures c.in_default-admitted.ensures
 
-pub find-found-requires : goal.find-found-requires
-find-found-requires c = record { graph = start_graph c.args.table.now c.args.task c.args.upper.now c.args.lower.now c.args.ceiling (asking_passes c.args.task c.args.upper.now c.args.lower.now c.args.ceiling c.args.table.now c.check-checked.result.ok (ap (λ (x : Checked). x.ok) c.check-checked.ensures) (sym c.in_default.is ∙ c.asked-asking.ensures c.args.table.now (ap (λ (x : Checked). x.ok) c.check-checked.ensures))) c.check-checked.result.layout (laid c.args.table.now c.check-checked.result c.check-checked.ensures) c.check-checked.result c.check-checked.ensures; all_below = start-initials c.args.table.now c.args.task c.args.upper.now c.args.lower.now c.args.ceiling (asking_passes c.args.task c.args.upper.now c.args.lower.now c.args.ceiling c.args.table.now c.check-checked.result.ok (ap (λ (x : Checked). x.ok) c.check-checked.ensures) (sym c.in_default.is ∙ c.asked-asking.ensures c.args.table.now (ap (λ (x : Checked). x.ok) c.check-checked.ensures))) c.check-checked.result.layout (laid c.args.table.now c.check-checked.result c.check-checked.ensures) }
+pub find-requires : goal.find-requires
+find-requires c = start-initials c.args.table.now c.args.task c.args.upper.now c.args.lower.now c.args.ceiling c.in-Some.checked c.in-Some.ensures c.in_default-admitted.ensures c.initials.result.now c.from.result c.initials.ensures.table c.from.ensures
 
-pub returns-then-found-eq0 : goal.returns-then-found-eq0
-returns-then-found-eq0 c = start-ready c.args.table.now c.args.task c.args.upper.now c.args.lower.now c.args.ceiling (asking_passes c.args.task c.args.upper.now c.args.lower.now c.args.ceiling c.args.table.now c.check-checked.result.ok (ap (λ (x : Checked). x.ok) c.check-checked.ensures) (sym c.in_default.is ∙ c.asked-asking.ensures c.args.table.now (ap (λ (x : Checked). x.ok) c.check-checked.ensures))) c.check-checked.result.layout (laid c.args.table.now c.check-checked.result c.check-checked.ensures) c.reads.result c.reads-2.result c.reads.ensures c.reads-2.ensures c.find-found.result c.find-found.ensures c.if-found-eq0.true c.ready.result c.ready.ensures
+pub returns-in-None : goal.returns-in-None
+returns-in-None c = start-ready c.args.table.now c.args.task c.args.upper.now c.args.lower.now c.args.ceiling c.in-Some.checked c.in-Some.ensures c.in_default-admitted.ensures c.arcs.result.now c.from.result c.reads.result c.reads-2.result c.initials.result.now c.arcs.ensures.table c.initials.ensures.table c.from.ensures c.reads.ensures c.reads-2.ensures c.in-None.ensures c.ready.result c.ready.ensures
 
-pub returns : goal.returns
-returns c = start-cycle c.args.table.now c.args.task c.args.upper.now c.args.lower.now c.args.ceiling (asking_passes c.args.task c.args.upper.now c.args.lower.now c.args.ceiling c.args.table.now c.check-checked.result.ok (ap (λ (x : Checked). x.ok) c.check-checked.ensures) (sym c.in_default.is ∙ c.asked-asking.ensures c.args.table.now (ap (λ (x : Checked). x.ok) c.check-checked.ensures))) c.check-checked.result.layout (laid c.args.table.now c.check-checked.result c.check-checked.ensures) c.reads.result c.reads-2.result c.reads.ensures c.reads-2.ensures c.find-found.result c.find-found.ensures c.first_run.result c.first_run.ensures c.if-found-eq0.false
-
-pub slice_bounds-find-start : goal.slice_bounds-find-start
-slice_bounds-find-start c = let l = start-laid c.args.table.now c.args.task c.args.upper.now c.args.lower.now c.args.ceiling (asking_passes c.args.task c.args.upper.now c.args.lower.now c.args.ceiling c.args.table.now c.check-checked.result.ok (ap (λ (x : Checked). x.ok) c.check-checked.ensures) (sym c.in_default.is ∙ c.asked-asking.ensures c.args.table.now (ap (λ (x : Checked). x.ok) c.check-checked.ensures))) c.check-checked.result.layout (laid c.args.table.now c.check-checked.result c.check-checked.ensures) in omega (arith, l.arcs-is, l.end_is, l.whole)
-
-pub slice_bounds-find-end : goal.slice_bounds-find-end
-slice_bounds-find-end c = let l = start-laid c.args.table.now c.args.task c.args.upper.now c.args.lower.now c.args.ceiling (asking_passes c.args.task c.args.upper.now c.args.lower.now c.args.ceiling c.args.table.now c.check-checked.result.ok (ap (λ (x : Checked). x.ok) c.check-checked.ensures) (sym c.in_default.is ∙ c.asked-asking.ensures c.args.table.now (ap (λ (x : Checked). x.ok) c.check-checked.ensures))) c.check-checked.result.layout (laid c.args.table.now c.check-checked.result c.check-checked.ensures) in omega (arith, l.arcs-is, l.end_is, l.whole)
-
-pub slice_bounds-find-start-2 : goal.slice_bounds-find-start-2
-slice_bounds-find-start-2 c = let l = start-laid c.args.table.now c.args.task c.args.upper.now c.args.lower.now c.args.ceiling (asking_passes c.args.task c.args.upper.now c.args.lower.now c.args.ceiling c.args.table.now c.check-checked.result.ok (ap (λ (x : Checked). x.ok) c.check-checked.ensures) (sym c.in_default.is ∙ c.asked-asking.ensures c.args.table.now (ap (λ (x : Checked). x.ok) c.check-checked.ensures))) c.check-checked.result.layout (laid c.args.table.now c.check-checked.result c.check-checked.ensures) in omega (arith, l.initials-is, l.terminals-is, l.whole)
-
-pub slice_bounds-find-end-3 : goal.slice_bounds-find-end-3
-slice_bounds-find-end-3 c = let l = start-laid c.args.table.now c.args.task c.args.upper.now c.args.lower.now c.args.ceiling (asking_passes c.args.task c.args.upper.now c.args.lower.now c.args.ceiling c.args.table.now c.check-checked.result.ok (ap (λ (x : Checked). x.ok) c.check-checked.ensures) (sym c.in_default.is ∙ c.asked-asking.ensures c.args.table.now (ap (λ (x : Checked). x.ok) c.check-checked.ensures))) c.check-checked.result.layout (laid c.args.table.now c.check-checked.result c.check-checked.ensures) in omega (arith, l.initials-is, l.terminals-is, l.whole)
+pub returns-in-Some-find : goal.returns-in-Some-find
+returns-in-Some-find c = start-cycle c.args.table.now c.args.task c.args.upper.now c.args.lower.now c.args.ceiling c.in-Some.checked c.in-Some.ensures c.in_default-admitted.ensures c.arcs.result.now c.from.result c.reads.result c.reads-2.result c.initials.result.now c.arcs.ensures.table c.initials.ensures.table c.from.ensures c.reads.ensures c.reads-2.ensures c.in-Some-find.found c.in-Some-find.ensures c.first_run.result c.first_run.ensures

@@ -1,59 +1,41 @@
 use native.Mathlib.Omega.{arith}
-use Prim.Native.Nat.{ℕ, ◌<◌, ◌≤◌}
-use mathlib.Core.Path.{subst, ◌∙◌}
+use Prim.Native.Nat.{◌+◌, ◌<◌, ◌≤◌}
+use mathlib.Core.Path.{◌∙◌}
+use lib.ListN.{get_or}
 use Rattle.machine.specs.Query.{upper_side, lower_side}
-use Rattle.engine_step.proofs.Moves.{begins-is, state-indexed, drops_by, sum-small, count_small, next_in, arc_in_lem, arc-alike, skips_by, pushes-by}
+use Rattle.engine_step.proofs.Moves.{begins-is, drops_by, count_small, skips_by, pushes-by}
 use Rattle.engine_step.proofs.choose.Goals as goal
 
-pub overflow_add-result : goal.overflow_add-result
-overflow_add-result c = let h = c.requires.top.some_left c.if-depth-eq0.true in omega (arith, c.requires.top.few-initials)
-
-pub bounds-initials-i : goal.bounds-initials-i
-bounds-initials-i c = c.requires.top.some_left c.if-depth-eq0.true
-
-pub returns-then-depth-eq0 : goal.returns-then-depth-eq0
-returns-then-depth-eq0 c =
+pub returns-then-run-eq0 : goal.returns-then-run-eq0
+returns-then-run-eq0 c =
     let a = c.args in
-    begins-is a.setup a.classes.now a.initials.now a.arcs.now a.upper.now a.lower.now a.run.started a.stack.now a.run.depth c.if-depth-eq0.true (c.requires.top.some_left c.if-depth-eq0.true)
-
-pub bounds-first-state : goal.bounds-first-state
-bounds-first-state c =
-    let a = c.args in
-    state-indexed a.setup a.classes.now a.initials.now a.arcs.now a.upper.now a.lower.now a.run.started a.stack.now a.first.now a.run.depth c.requires.top c.if-depth-eq0.false c.look-f.result c.look-f.ensures
+    let x = a.setting in
+    begins-is x.setup x.classes.now x.initials.now x.arcs.now x.upper.now x.lower.now a.run.started a.stack.now a.run.depth c.if-run-eq0.true (c.requires.top.some_left c.if-run-eq0.true)
 
 pub returns-then-end-next : goal.returns-then-end-next
 returns-then-end-next c =
     let a = c.args in
-    drops_by a.setup a.classes.now a.initials.now a.arcs.now a.upper.now a.lower.now a.run.started a.stack.now a.first.now a.run.depth c.requires.top c.if-depth-eq0.false c.look-f.result c.look-f.ensures
-    (subst (λ (x : ℕ). x ≤ c.look-f.result.next) c.cell_as_index-end.ensures.0 c.if-end-next.true)
+    let x = a.setting in
+    let h : get_or x.first.now (c.look-f.result.state + 1) 0 ≤ c.look-f.result.next = omega (arith, c.from-end.ensures, c.if-end-next.true) in
+    drops_by x.setup x.classes.now x.initials.now x.arcs.now x.upper.now x.lower.now a.run.started a.stack.now x.first.now a.run.depth c.requires.top c.if-run-eq0.false c.look-f.result c.look-f.ensures h
 
-pub arc_at-arc-requires : goal.arc_at-arc-requires
-arc_at-arc-requires c =
+pub fit-requires-clause-up_bound : goal.fit-requires-clause-up_bound
+fit-requires-clause-up_bound c =
     let a = c.args in
-    arc_in_lem a.setup a.classes.now a.initials.now a.arcs.now a.upper.now a.lower.now a.run.started a.stack.now a.first.now a.run.depth c.requires.top c.if-depth-eq0.false c.look-f.result c.look-f.ensures
-    (subst (λ (x : ℕ). c.look-f.result.next < x) c.cell_as_index-end.ensures.0 c.if-end-next.false)
+    let x = a.setting in
+    let small = count_small x.setup x.classes.now x.initials.now x.arcs.now x.upper.now x.lower.now a.run.started a.stack.now x.first.now a.run.depth c.requires.top c.if-run-eq0.false c.look-f.result c.look-f.ensures in
+    (small upper_side, small lower_side)
 
-pub fit-requires : goal.fit-requires
-fit-requires c =
+pub returns-in-None : goal.returns-in-None
+returns-in-None c =
     let a = c.args in
-    let small = count_small a.setup a.classes.now a.initials.now a.arcs.now a.upper.now a.lower.now a.run.started a.stack.now a.first.now a.run.depth c.requires.top c.if-depth-eq0.false c.look-f.result c.look-f.ensures in
-    let alike = arc-alike a.setup a.classes.now a.initials.now a.arcs.now a.upper.now a.lower.now a.run.started a.stack.now a.first.now a.run.depth c.requires.top c.if-depth-eq0.false c.look-f.result c.look-f.ensures (subst (λ (x : ℕ). c.look-f.result.next < x) c.cell_as_index-end.ensures.0 c.if-end-next.false) c.requires.small_words.1 c.arc_at-arc.result c.arc_at-arc.ensures in
-    record { up_bound = (small upper_side, small lower_side); alike = (alike, c.requires.small_words.0, c.requires.small_words.1) }
+    let x = a.setting in
+    let h : c.look-f.result.next < get_or x.first.now (c.look-f.result.state + 1) 0 = omega (arith, c.from-end.ensures, c.if-end-next.false) in
+    skips_by x.setup x.classes.now x.initials.now x.arcs.now x.upper.now x.lower.now a.run.started a.stack.now x.first.now a.run.depth c.requires.top c.if-run-eq0.false c.look-f.result c.look-f.ensures h c.requires.small_words.1 c.arc_at-arc.result c.arc_at-arc.ensures c.in-None.ensures
 
-pub within_ceiling-requires : goal.within_ceiling-requires
-within_ceiling-requires c =
+pub returns-in-Some : goal.returns-in-Some
+returns-in-Some c =
     let a = c.args in
-    let p = c.requires.top in
-    record { le_depth = (omega arith, p.on_stack, p.few-frames); depth_bound = (next_in a.setup a.classes.now a.initials.now a.arcs.now a.upper.now a.lower.now a.run.started a.stack.now a.first.now a.run.depth p c.if-depth-eq0.false c.look-f.result c.look-f.ensures (subst (λ (x : ℕ). c.look-f.result.next < x) c.cell_as_index-end.ensures.0 c.if-end-next.false), sum-small a.setup a.classes.now a.initials.now a.arcs.now a.upper.now a.lower.now a.run.started a.stack.now a.first.now a.run.depth p c.if-depth-eq0.false c.look-f.result c.look-f.ensures) }
-
-pub returns-in-Fails : goal.returns-in-Fails
-returns-in-Fails c =
-    let a = c.args in
-    skips_by a.setup a.classes.now a.initials.now a.arcs.now a.upper.now a.lower.now a.run.started a.stack.now a.first.now a.run.depth c.requires.top c.if-depth-eq0.false c.look-f.result c.look-f.ensures
-    (subst (λ (x : ℕ). c.look-f.result.next < x) c.cell_as_index-end.ensures.0 c.if-end-next.false) c.requires.small_words.1 c.arc_at-arc.result c.arc_at-arc.ensures c.in-Fails.ensures
-
-pub returns-in-Fits : goal.returns-in-Fits
-returns-in-Fits c =
-    let a = c.args in
-    c.within_ceiling.ensures ∙ pushes-by a.setup a.classes.now a.initials.now a.arcs.now a.upper.now a.lower.now a.run.started a.stack.now a.first.now a.run.depth c.requires.top c.if-depth-eq0.false c.look-f.result c.look-f.ensures
-    (subst (λ (x : ℕ). c.look-f.result.next < x) c.cell_as_index-end.ensures.0 c.if-end-next.false) c.requires.small_words.1 c.arc_at-arc.result c.arc_at-arc.ensures _ _ c.in-Fits.ensures
+    let x = a.setting in
+    let h : c.look-f.result.next < get_or x.first.now (c.look-f.result.state + 1) 0 = omega (arith, c.from-end.ensures, c.if-end-next.false) in
+    c.within_ceiling.ensures ∙ pushes-by x.setup x.classes.now x.initials.now x.arcs.now x.upper.now x.lower.now a.run.started a.stack.now x.first.now a.run.depth c.requires.top c.if-run-eq0.false c.look-f.result c.look-f.ensures h c.requires.small_words.1 c.arc_at-arc.result c.arc_at-arc.ensures _ c.in-Some.ensures

@@ -5,4 +5,4 @@ use Rattle.input.proofs.read_all.Goals as goal
 
 pub loop-at-preserved : goal.loop-at-preserved
 loop-at-preserved g c =
-    (search rules, Consumes-more _ _ _ _ _ _ _ _ c.loop-at.invariant.0 c.in-Bytes.ensures.within c.loop-at.invariant.1 c.in-Bytes.ensures.bytes.0)
+    (search rules, Consumes-more _ _ _ _ _ _ _ _ c.loop-at.invariant.0 c.in_ok-more.ensures.bound.0 c.loop-at.invariant.1 c.in_ok-more.ensures.bytes.0)

@@ -1,20 +1,17 @@
--- At every turn the letters so far are the same.
-use native.Mathlib.Omega.{arith}
-use mathlib.Core.Path.{sym}
-use Rattle.lexicon.proofs.Comparing.{common-all, common-short, common-differ, common-more}
+-- The letters that are the same at the front of both.
+use Rattle.std.proofs.Common.{rules}
+use borrow.Author.Tests.{tests}
+use mathlib.Core.Path.{◌∙◌}
+use Rattle.std.proofs.lemmas.Iterator.{YieldsList-from_slice, YieldsList-from_zip}
+use Rattle.std.proofs.lemmas.Iterator.Consumers.{count_from_yields_List}
+use Rattle.std.proofs.lemmas.Iterator.Search.{YieldsList-from_take_while}
+use Rattle.lexicon.proofs.Comparing.{same_letters, common-zip}
 use Rattle.lexicon.proofs.common.Goals as goal
 
-pub loop-k-init : goal.loop-k-init
-loop-k-init c = (omega arith, omega arith)
-
-pub returns-then-word-k : goal.returns-then-word-k
-returns-then-word-k c = sym (common-short c.args.before.now c.args.word.now c.loop-k.k c.loop-k.invariant.1 c.loop-k-test.true c.if-word-k.true)
-
-pub returns-then-before-k : goal.returns-then-before-k
-returns-then-before-k c = sym (common-differ c.args.before.now c.args.word.now c.loop-k.k c.loop-k.invariant.1 c.loop-k-test.true (omega arith) c.if-before-k.true)
-
-pub loop-k-preserved : goal.loop-k-preserved
-loop-k-preserved c = (omega arith, common-more c.args.before.now c.args.word.now c.loop-k.k c.loop-k.invariant.1 c.loop-k-test.true (omega arith) c.if-before-k.false)
-
 pub returns : goal.returns
-returns c = sym (common-all c.args.before.now c.args.word.now c.loop-k.k c.loop-k.invariant.1 c.loop-k-test.false)
+returns c =
+    count_from_yields_List _ _ c.count.ensures.ran
+    (YieldsList-from_take_while _ same_letters
+    (YieldsList-from_zip (YieldsList-from_slice c.args.before.now cc) (YieldsList-from_slice c.args.word.now cc))
+    c.take_while.ensures.closure c.take_while.ensures.done (λ x b q k. search (rules, tests)))
+    ∙ common-zip c.args.before.now c.args.word.now

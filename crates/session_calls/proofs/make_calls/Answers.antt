@@ -7,41 +7,18 @@ use Rattle.session_calls.proofs.make_calls.Goals as goal
 pub loop-left-init : goal.loop-left-init
 loop-left-init c = record { is = refl; same-stack = refl; same-output = refl }
 
-pub shape_of-stack-in-Found : goal.shape_of-stack-in-Found
-shape_of-stack-in-Found c = omega (arith, c.advance-called.auto, c.loop-left.invariant.same-stack)
-
-pub shape_of-output-in-Found : goal.shape_of-output-in-Found
-shape_of-output-in-Found c = omega (arith, c.advance-called.auto, c.loop-left.invariant.same-output)
-
 pub returns-in-Found : goal.returns-in-Found
 returns-in-Found c = call-found c.loop-left.invariant c.loop-left-test.true (made_of c.advance-called.result c.advance-called.ensures) c.in-Found.is
-
-pub loop-left-preserved : goal.loop-left-preserved
-loop-left-preserved c = call-paused c.loop-left.invariant c.loop-left-test.true (made_of c.advance-called.result c.advance-called.ensures) c.in-Paused.is (omega (arith, c.advance-called.auto)) (omega (arith, c.advance-called.auto))
-
-pub shape_of-stack-in-Ended : goal.shape_of-stack-in-Ended
-shape_of-stack-in-Ended c = omega (arith, c.advance-called.auto, c.loop-left.invariant.same-stack)
-
-pub shape_of-output-in-Ended : goal.shape_of-output-in-Ended
-shape_of-output-in-Ended c = omega (arith, c.advance-called.auto, c.loop-left.invariant.same-output)
 
 pub returns-in-Ended : goal.returns-in-Ended
 returns-in-Ended c = call-ended c.loop-left.invariant c.loop-left-test.true (made_of c.advance-called.result c.advance-called.ensures) c.in-Ended.is
 
-pub shape_of-stack-in-Refused : goal.shape_of-stack-in-Refused
-shape_of-stack-in-Refused c = omega (arith, c.advance-called.auto, c.loop-left.invariant.same-stack)
-
-pub shape_of-output-in-Refused : goal.shape_of-output-in-Refused
-shape_of-output-in-Refused c = omega (arith, c.advance-called.auto, c.loop-left.invariant.same-output)
-
 pub returns-in-Refused : goal.returns-in-Refused
 returns-in-Refused c = call-refused c.loop-left.invariant c.loop-left-test.true (made_of c.advance-called.result c.advance-called.ensures) c.in-Refused.is
 
-pub shape_of-stack : goal.shape_of-stack
-shape_of-stack c = c.loop-left.invariant.same-stack
-
-pub shape_of-output : goal.shape_of-output
-shape_of-output c = c.loop-left.invariant.same-output
+pub loop-left-preserved : goal.loop-left-preserved
+loop-left-preserved c =
+    call-paused c.loop-left.invariant c.loop-left-test.true (made_of c.advance-called.result c.advance-called.ensures) c.in-Paused.is (omega (arith, c.advance-called.auto)) (omega (arith, c.advance-called.auto))
 
 pub returns : goal.returns
 returns c = none_left c.loop-left.invariant c.loop-left-test.false

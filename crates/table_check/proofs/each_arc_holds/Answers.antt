@@ -1,8 +1,7 @@
-use Prim.Native.Nat.{◌≤◌}
 use native.Mathlib.Omega.{arith}
 use mathlib.Core.Path.{◌≡◌, refl, sym, ap, ap₂, ◌∙◌}
 use mathlib.Core.List.{List}
-use lib.Seq.{length-take-le}
+use Rattle.std.specs.Prelude.{is_err}
 use Rattle.table_format.specs.declared.Arc as Held
 use Rattle.table_format.specs.Table.{Arc}
 use Rattle.table_format.specs.Classes.{class_count}
@@ -10,10 +9,10 @@ use Rattle.table_format.specs.Rules.{each, arc_faults, arcs_keep}
 use Rattle.table_format.specs.Loaded.{rows_in, arcs_in}
 use Rattle.table_format.specs.Cells.{arc_count, arc_of, arc_said}
 use Rattle.table_rules.specs.Judge.{judged, largest, arc_key}
-use Rattle.table_format.proofs.Arcs.{at_equal, front}
+use Rattle.table_format.proofs.Arcs.{front}
 use Rattle.table_rules.proofs.Turn.{keep-arc, fail_arc, top-arc}
 use Rattle.table_check.proofs.each_arc_holds.Goals as goal
-use Rattle.table_check.proofs.each_arc_holds.Goals.{After-arc_fault, else-top-key, then-top-key}
+use Rattle.table_check.proofs.each_arc_holds.Goals.{After-arc_fault}
 
 -- how the arc is judged, after the arcs before it
 judged-here : (c : After-arc_fault)
@@ -24,38 +23,23 @@ judged-here c =
 
 pub loop-n-init : goal.loop-n-init
 unfolding largest each arcs_in
-loop-n-init c = (refl, omega arith, omega arith, refl)
+loop-n-init c = (omega arith, refl)
 
-pub slice_bounds-arc_fault-end : goal.slice_bounds-arc_fault-end
-slice_bounds-arc_fault-end c = sym (length-take-le _ c.args.cells.now (omega arith))
+pub arc_fault-requires-clause-before_value : goal.arc_fault-requires-clause-before_value
+arc_fault-requires-clause-before_value c = ap (arcs_keep c.args.states (rows_in class_count c.args.rows.now)) (front c.args.cells.now c.loop-n.n (omega arith)) ∙ c.loop-n.invariant.1
 
-pub arc_fault-requires : goal.arc_fault-requires
-arc_fault-requires c =
-    let f = front c.args.cells.now c.loop-n.n (omega arith) in
-    record {
-      rows_len = c.requires;
-      before_value = ap (arcs_keep c.args.states (rows_in class_count c.args.rows.now)) f ∙ c.loop-n.invariant.3;
-      before_bound = omega (arith, ap (largest arc_key) f);
-    }
+pub arc_fault-requires-clause-before_bound : goal.arc_fault-requires-clause-before_bound
+arc_fault-requires-clause-before_bound c = omega (arith, ap (largest arc_key) (front c.args.cells.now c.loop-n.n (omega arith)))
 
-pub returns-in_default : goal.returns-in_default
-returns-in_default c =
+pub returns-then-is_err : goal.returns-then-is_err
+returns-then-is_err c =
     let a = c.args in
-    sym (fail_arc a.states (rows_in class_count a.rows.now) a.cells.now c.loop-n.n c.in_default.field-0 (arc_count a.cells.now) (omega arith) (sym (judged-here (goal.at.returns-in_default c).After-arc_fault) ∙ c.in_default.is))
+    sym (fail_arc a.states (rows_in class_count a.rows.now) a.cells.now c.loop-n.n (arc_count a.cells.now) (omega arith) (sym (ap is_err (judged-here (goal.at.returns-then-is_err c).After-arc_fault)) ∙ sym c.is_err.ensures.value ∙ c.if-is_err.true))
 
 pub loop-n-preserved : goal.loop-n-preserved
 loop-n-preserved c =
     let a = c.args in
-    let key : c.arc_key-key.result ≡ arc_key (arc_of a.cells.now c.loop-n.n) = c.arc_key-key.ensures ∙ ap (λ (x : Held.Arc). arc_key (arc_said x)) c.arc_at-arc.ensures in
-    let below : largest arc_key (arcs_in c.loop-n.n a.cells.now) ≤ c.if-top-key.top = elim c.if-top-key.branch [ then-top-key w ↦ omega arith | else-top-key w ↦ omega arith ] in
-    let own : arc_key (arc_of a.cells.now c.loop-n.n) ≤ c.if-top-key.top = elim c.if-top-key.branch [ then-top-key w ↦ omega arith | else-top-key w ↦ omega arith ] in (
-      c.loop-n.invariant.0,
-      omega arith,
-      top-arc a.states (rows_in class_count a.rows.now) a.cells.now c.loop-n.n c.if-top-key.top below own,
-      keep-arc a.states (rows_in class_count a.rows.now) a.cells.now c.loop-n.n c.loop-n.invariant.3 (sym (judged-here (goal.at.loop-n-preserved c).After-arc_fault) ∙ c.in-Kept.is),
+    let key : c.arc_key.result ≡ arc_key (arc_of a.cells.now c.loop-n.n) = c.arc_key.ensures ∙ ap (λ (x : Held.Arc). arc_key (arc_said x)) c.arc_at-arc.ensures in (
+      top-arc a.states (rows_in class_count a.rows.now) a.cells.now c.loop-n.n c.max-top.result (omega arith) (omega arith),
+      keep-arc a.states (rows_in class_count a.rows.now) a.cells.now c.loop-n.n c.loop-n.invariant.1 (sym (ap is_err (judged-here (goal.at.loop-n-preserved c).After-arc_fault)) ∙ sym c.is_err.ensures.value ∙ c.if-is_err.false),
     )
-
-pub returns : goal.returns
-returns c =
-    let a = c.args in
-    sym (at_equal (λ m. arcs_keep a.states (rows_in class_count a.rows.now) (arcs_in m a.cells.now)) (arc_count a.cells.now) c.loop-n.n (omega arith) ∙ c.loop-n.invariant.3)

@@ -1,13 +1,10 @@
-use Prim.Native.Nat.{◌≤◌, ◌-◌}
+use Prim.Native.Nat.{◌≤◌}
 use mathlib.Core.Path.{◌≡◌}
 use mathlib.Core.Bool.{true}
-use lib.ListN.{length, take}
+use lib.ListN.{take}
 use Rattle.table_format.specs.Rules.{initials_keep}
 use Rattle.table_rules.specs.Judge.{largest, state_key}
 use Rattle.table_check.proofs.initials_hold.Given as goal
 
 abbrev pub invariant-loop-k : goal.invariant-loop-k
-invariant-loop-k l = (l.k ≤ length l.list) × (largest state_key (take l.k l.list) ≤ l.top) × (initials_keep l.states (take l.k l.list) ≡ true)
-
-abbrev pub decreases-loop-k : goal.decreases-loop-k
-decreases-loop-k l = length l.list - l.k
+invariant-loop-k l = (largest state_key (take l.k l.list) ≤ l.top) × (initials_keep l.states (take l.k l.list) ≡ true)

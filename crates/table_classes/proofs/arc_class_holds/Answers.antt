@@ -1,7 +1,12 @@
 -- By the upper letter: without a class the lower one decides, with one the first cell of its row.
-use Prim.Native.Nat.{◌-◌}
-use mathlib.Core.Path.{sym, ◌∙◌}
-use Rattle.table_format.specs.Classes.{class_count}
+use Prim.Native.Nat.{ℕ, ◌-◌, ◌*◌}
+use native.Mathlib.Omega.{arith}
+use mathlib.Core.Path.{sym, ap, ◌∙◌}
+use mathlib.Core.Bool.{not}
+use lib.Dec.{eqb}
+use borrow.Author.Tests.{le-ltb}
+use lib.ListN.{get_or}
+use Rattle.table_format.specs.Classes.{class_count, row_width}
 use Rattle.table_format.specs.Loaded.{rows_in}
 use Rattle.table_format.specs.Cells.{arc_said}
 use Rattle.table_classes.proofs.Arcs.{defined_cell, defined_none, plain-above, class_unlike, class_alike}
@@ -13,8 +18,13 @@ returns-then-arc-lt-FIRST_CLASS c = sym (plain-above (rows_in class_count c.args
 pub returns-then-arc : goal.returns-then-arc
 returns-then-arc c = sym (class_unlike (rows_in class_count c.args.rows.now) (arc_said c.args.arc) c.if-arc-lt-FIRST_CLASS.false c.if-arc.true)
 
-pub returns-then-class-ge-CLASS_COUNT : goal.returns-then-class-ge-CLASS_COUNT
-returns-then-class-ge-CLASS_COUNT c = sym (class_alike (rows_in class_count c.args.rows.now) (arc_said c.args.arc) c.if-arc-lt-FIRST_CLASS.false c.if-arc.false ∙ defined_none c.args.rows.now ((arc_said c.args.arc).upper - 64) c.if-class-ge-CLASS_COUNT.true)
+pub returns-then-class-lt-CLASS_COUNT : goal.returns-then-class-lt-CLASS_COUNT
+returns-then-class-lt-CLASS_COUNT c =
+    sym
+    (class_alike (rows_in class_count c.args.rows.now) (arc_said c.args.arc) c.if-arc-lt-FIRST_CLASS.false c.if-arc.false ∙ defined_cell c.args.rows.now (c.args.arc.upper - 64) (omega (arith, c.from-class.ensures))
+    ∙ ap (λ (n : ℕ). not (eqb (get_or c.args.rows.now (row_width * n) 0) 0)) (sym c.from-class.ensures))
 
-pub returns : goal.returns
-returns c = sym (class_alike (rows_in class_count c.args.rows.now) (arc_said c.args.arc) c.if-arc-lt-FIRST_CLASS.false c.if-arc.false ∙ defined_cell c.args.rows.now ((arc_said c.args.arc).upper - 64) c.if-class-ge-CLASS_COUNT.false)
+pub returns-else-class-lt-CLASS_COUNT : goal.returns-else-class-lt-CLASS_COUNT
+returns-else-class-lt-CLASS_COUNT c =
+    le-ltb _ _ c.if-class-lt-CLASS_COUNT.false
+    ∙ sym (class_alike (rows_in class_count c.args.rows.now) (arc_said c.args.arc) c.if-arc-lt-FIRST_CLASS.false c.if-arc.false ∙ defined_none c.args.rows.now (c.args.arc.upper - 64) (omega (arith, c.from-class.ensures)))

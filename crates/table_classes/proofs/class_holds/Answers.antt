@@ -1,29 +1,29 @@
--- At every turn the classes so far are not defined, from the class on.
+use Prim.Native.Nat.{◌-◌}
 use native.Mathlib.Omega.{arith}
-use mathlib.Core.Path.{sym, ◌∙◌}
-use borrow.Author.Count.{below_more}
-use Rattle.table_classes.proofs.ClassRows.{class_over, class_defined, class_free}
+use mathlib.Core.Path.{◌≡◌, refl, sym, ◌∙◌}
+use mathlib.Core.Bool.{◌&&◌}
+use lib.Dec.{ltb}
+use borrow.Author.Rules.{rules}
+use borrow.Author.Tests.{tests, lt-ltb, le-ltb}
+use Rattle.std.specs.List.{list_all, range_with_len}
+use Rattle.std.proofs.lemmas.Iterator.{YieldsList-from_range}
+use Rattle.std.proofs.lemmas.Iterator.Search.{all_from_yields_List}
+use Rattle.table_format.specs.Classes.{class_count}
+use Rattle.table_classes.proofs.Chains.{and_then, and_stop}
+use Rattle.table_classes.proofs.ClassRows.{is_free, class_by_cells}
 use Rattle.table_classes.proofs.class_holds.Goals as goal
-use Rattle.table_classes.proofs.class_holds.Goals.{else-rows-c-ne0, then-rows-c-ne0+else-class-c}
+use Rattle.table_classes.proofs.class_holds.Goals.{Joined-class-lt-CLASS_COUNT, then-class-lt-CLASS_COUNT, else-class-lt-CLASS_COUNT}
 
-pub returns-then-class-ge-CLASS_COUNT : goal.returns-then-class-ge-CLASS_COUNT
-returns-then-class-ge-CLASS_COUNT c =
-    let at = c.args in
-    sym (class_over at.rows.now at.class at.letters.now c.if-class-ge-CLASS_COUNT.true)
+-- whether the class may be defined
+may : (c : Joined-class-lt-CLASS_COUNT) → c.if-class-lt-CLASS_COUNT.value ≡ (ltb c.args.class class_count && list_all (is_free c.args.rows.now) (range_with_len c.args.class (class_count - c.args.class)))
+may c =
+    elim c.if-class-lt-CLASS_COUNT.branch [
+      | then-class-lt-CLASS_COUNT w ↦ and_then {p = ltb c.args.class class_count} refl (lt-ltb _ _ (omega (arith, c.from-class.ensures))) w.value-is (all_from_yields_List (is_free c.args.rows.now) _ _ w.all.result w.all.ensures.ran (YieldsList-from_range c.args.class class_count _ (cc) refl) (λ x b q k. search (rules, tests)))
+      | else-class-lt-CLASS_COUNT w ↦ and_stop {p = ltb c.args.class class_count} _ refl (le-ltb _ _ (omega (arith, c.from-class.ensures))) (search rules)
+    ]
 
-pub loop-c-init : goal.loop-c-init
-loop-c-init c = (omega arith, λ k h. absurd (omega arith))
+pub returns-then-all : goal.returns-then-all
+returns-then-all c = and_then (may (goal.at.returns-then-all c).Joined-class-lt-CLASS_COUNT) c.if-all.true refl c.letters_rise.ensures ∙ sym (class_by_cells c.args.rows.now c.args.class c.args.letters.now)
 
-pub returns-then-class-c : goal.returns-then-class-c
-returns-then-class-c c =
-    let at = c.args in
-    sym (class_defined at.rows.now at.class at.letters.now c.loop-c.c c.loop-c-test.true c.if-class-c.true c.if-rows-c-ne0.true)
-
-pub loop-c-preserved : goal.loop-c-preserved
-loop-c-preserved c = (omega arith, below_more _ _ c.loop-c.invariant.1 (elim c.if-rows-c-ne0.branch [ then-rows-c-ne0+else-class-c w ↦ λ h. absurd (omega arith) | else-rows-c-ne0 w ↦ λ h. w.if-rows-c-ne0.false ]))
-
-pub returns : goal.returns
-returns c =
-    let at = c.args in
-    c.letters_rise.ensures
-    ∙ sym (class_free at.rows.now at.class at.letters.now c.if-class-ge-CLASS_COUNT.false (λ k h. c.loop-c.invariant.1 k (omega arith)))
+pub returns-else-all : goal.returns-else-all
+returns-else-all c = and_stop _ (may (goal.at.returns-else-all c).Joined-class-lt-CLASS_COUNT) c.if-all.false refl ∙ sym (class_by_cells c.args.rows.now c.args.class c.args.letters.now)

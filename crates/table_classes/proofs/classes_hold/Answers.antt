@@ -1,25 +1,17 @@
--- At every turn the rows so far hold.
-use native.Mathlib.Omega.{arith}
-use mathlib.Core.Path.{refl, sym, ◌∙◌}
-use Rattle.table_format.specs.Rules.{each}
-use Rattle.table_classes.proofs.ClassRows.{blank-keeps, part_length, row-fails, row_more, rows-done}
+use mathlib.Core.Path.{sym, ◌∙◌}
+use borrow.Author.Rules.{rules}
+use borrow.Author.Tests.{tests}
+use Rattle.std.proofs.lemmas.Iterator.{YieldsList-from_range}
+use Rattle.std.proofs.lemmas.Iterator.Search.{all_from_yields_List}
+use Rattle.table_format.specs.Classes.{class_count}
+use Rattle.table_format.specs.Rules.{row_holds}
+use Rattle.table_classes.proofs.ClassRows.{blank-keeps, part, rows_all_hold}
 use Rattle.table_classes.proofs.classes_hold.Goals as goal
 
 pub returns-then-is_blank : goal.returns-then-is_blank
-returns-then-is_blank c = sym (blank-keeps c.args.rows.now c.requires (sym c.is_blank.ensures ∙ c.if-is_blank.true))
+returns-then-is_blank c = c.if-is_blank.true ∙ sym (blank-keeps c.args.rows.now c.requires (sym c.is_blank.ensures ∙ c.if-is_blank.true))
 
-pub loop-c-init : goal.loop-c-init
-unfolding each
-loop-c-init c = (omega arith, refl)
-
-pub row_holds-requires : goal.row_holds-requires
-row_holds-requires c = part_length c.args.rows.now c.loop-c.c c.loop-c-test.true c.requires
-
-pub returns-then-not-row_holds : goal.returns-then-not-row_holds
-returns-then-not-row_holds c = sym (row-fails c.args.rows.now c.loop-c.c c.loop-c-test.true (sym c.row_holds.ensures ∙ c.if-not-row_holds.true))
-
-pub loop-c-preserved : goal.loop-c-preserved
-loop-c-preserved c = (omega arith, row_more c.args.rows.now c.loop-c.c c.loop-c-test.true c.loop-c.invariant.1 (sym c.row_holds.ensures ∙ c.if-not-row_holds.false))
-
-pub returns : goal.returns
-returns c = sym (rows-done c.args.rows.now c.loop-c.c c.loop-c-test.false c.loop-c.invariant.1)
+pub returns-else-is_blank : goal.returns-else-is_blank
+returns-else-is_blank c =
+    all_from_yields_List (λ n. row_holds (part c.args.rows.now n)) _ _ c.all.result c.all.ensures.ran (YieldsList-from_range 0 class_count class_count (cc) (search rules)) (λ x b q k. search (rules, tests))
+    ∙ rows_all_hold c.args.rows.now

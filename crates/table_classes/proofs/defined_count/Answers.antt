@@ -10,7 +10,7 @@ pub loop-c-preserved : goal.loop-c-preserved
 loop-c-preserved c =
     let rows = c.args.rows.now in
     let n = c.loop-c.c in
-    elim c.if-rows-c-ne0.branch [ then-rows-c-ne0 w ↦ (omega arith, omega arith, omega (arith, ap length (lines_defined rows n (omega arith) w.if-rows-c-ne0.true))) | else-rows-c-ne0 w ↦ (omega arith, omega arith, omega (arith, ap length (lines_undefined rows n (omega arith) w.if-rows-c-ne0.false))) ]
+    elim c.if-rows-c-ne0.branch [ then-rows-c-ne0 w ↦ (omega arith, omega (arith, ap length (lines_defined rows n (omega arith) w.if-rows-c-ne0.true))) | else-rows-c-ne0 w ↦ (omega arith, omega (arith, ap length (lines_undefined rows n (omega arith) w.if-rows-c-ne0.false))) ]
 
 pub returns : goal.returns
 returns c = omega (arith, ap length (lines_none c.args.rows.now c.loop-c.c (omega arith)))

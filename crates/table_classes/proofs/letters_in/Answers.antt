@@ -1,15 +1,17 @@
--- At every turn, the letters passed and those left are the letters of the row.
-use native.Mathlib.Omega.{arith}
-use mathlib.Core.Path.{ap}
+use mathlib.Core.Path.{ap, ◌∙◌}
+use borrow.Author.Rules.{rules}
+use borrow.Author.Tests.{tests}
 use lib.ListN.{length}
-use Rattle.table_classes.proofs.Letters.{letters-turn, letters_stop, letters-end}
+use Rattle.std.specs.Prelude.{Option, nat_eq}
+use Rattle.std.specs.Option.{unwrap_or}
+use Rattle.std.proofs.lemmas.Iterator.{YieldsList-from_slice}
+use Rattle.std.proofs.lemmas.Iterator.Search.{position_from_yields_List}
+use Prim.Native.Nat.{ℕ}
+use Rattle.table_classes.proofs.Letters.{letters_found}
 use Rattle.table_classes.proofs.letters_in.Goals as goal
 
-pub returns-then-row-k-eq0 : goal.returns-then-row-k-eq0
-returns-then-row-k-eq0 c = omega (arith, ap length (letters_stop c.args.row.now c.loop-k.k (omega arith) c.if-row-k-eq0.true))
-
-pub loop-k-preserved : goal.loop-k-preserved
-loop-k-preserved c = (omega arith, omega (arith, letters-turn c.args.row.now c.loop-k.k (omega arith) c.if-row-k-eq0.false))
-
 pub returns : goal.returns
-returns c = omega (arith, ap length (letters-end c.args.row.now c.loop-k.k (omega arith)))
+returns c =
+    c.unwrap_or.ensures
+    ∙ ap (λ (o : Option ℕ). unwrap_or o (length c.args.row.now)) (position_from_yields_List (λ x. nat_eq x 0) _ _ _ c.position.ensures.ran (YieldsList-from_slice c.args.row.now cc) (λ x b q k. search (rules, tests)))
+    ∙ letters_found c.args.row.now

@@ -10,7 +10,7 @@ use Rattle.table_classes.proofs.ClassRows.{copy_more, copied, rows_all, rows_ins
 use Rattle.table_classes.proofs.rows.Goals as goal
 
 pub loop-c-init : goal.loop-c-init
-loop-c-init c = (omega arith, refl, refl)
+loop-c-init c = (refl, refl)
 
 pub row_at-requires : goal.row_at-requires
 row_at-requires c =
@@ -24,9 +24,9 @@ pub loop-c-preserved : goal.loop-c-preserved
 loop-c-preserved c =
     let table = c.args.table.now in
     let count : length (classes_in table) ≡ class_count = length-rows_in class_count (drop classes_at table) in
-    (omega arith, length-set c.loop-c.rows c.loop-c.c _ ∙ c.loop-c.invariant.1, copy_more [] c.loop-c.rows (classes_in table) c.loop-c.c _ (omega arith) (omega arith) c.loop-c.invariant.2 (c.row_at.ensures ∙ sym (row_in table c.loop-c.c c.loop-c-test.true)))
+    (length-set c.loop-c.row-items c.loop-c.c _ ∙ c.loop-c.invariant.0, copy_more [] c.loop-c.row-items (classes_in table) c.loop-c.c _ (omega arith) (omega arith) c.loop-c.invariant.1 (c.row_at.ensures ∙ sym (row_in table c.loop-c.c c.loop-c-test.true)))
 
 pub returns : goal.returns
 returns c =
     let table = c.args.table.now in
-    copied c.loop-c.rows (classes_in table) c.loop-c.c class_count c.loop-c.invariant.1 c.loop-c.invariant.0 c.loop-c-test.false c.loop-c.invariant.2 ∙ rows_all table
+    copied c.loop-c.row-items (classes_in table) c.loop-c.c class_count c.loop-c.invariant.0 (omega arith) c.loop-c-test.false c.loop-c.invariant.1 ∙ rows_all table

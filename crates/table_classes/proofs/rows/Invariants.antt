@@ -1,5 +1,4 @@
 -- At every turn the first rows are those of the classes.
-use Prim.Native.Nat.{◌-◌, ◌≤◌}
 use mathlib.Core.Path.{◌≡◌}
 use lib.ListN.{length, take}
 use Rattle.table_format.specs.Classes.{class_count}
@@ -7,7 +6,4 @@ use Rattle.table_format.specs.Loaded.{classes_in}
 use Rattle.table_classes.proofs.rows.Given as goal
 
 abbrev pub invariant-loop-c : goal.invariant-loop-c
-invariant-loop-c l = (l.c ≤ class_count) × (length l.rows ≡ class_count) × (take l.c l.rows ≡ take l.c (classes_in l.table))
-
-abbrev pub decreases-loop-c : goal.decreases-loop-c
-decreases-loop-c l = class_count - l.c
+invariant-loop-c l = (length l.row-items ≡ class_count) × (take l.c l.row-items ≡ take l.c (classes_in l.table))

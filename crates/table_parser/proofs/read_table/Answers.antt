@@ -1,7 +1,11 @@
-use Prim.Native.Nat.{ℕ}
+use Rattle.std.specs.Prelude.{Err}
+use Rattle.std.proofs.lemmas.Result.{err_from_is_err_and}
+use Prim.Native.Nat.{ℕ, ◌<◌}
 use native.Mathlib.Omega.{arith}
 use mathlib.Core.Path.{◌≡◌, sym, ap, ◌∙◌}
 use mathlib.Core.Bool.{Bool, true, false}
+use lib.Dec.{eqb}
+use borrow.Author.Tests.{eqb-true, eqb-false}
 use lib.ListN.{drop, get_or, replicate}
 use mathlib.Core.List.{List}
 use Rattle.table_format.specs.Table.{Counts}
@@ -19,6 +23,11 @@ use Rattle.table_items.proofs.Filled.{counts-filled}
 use Rattle.table_items.proofs.LineKinds.{has_form_lem, not_code, not_wide}
 use Rattle.table_parser.proofs.Items.{header_missing, header_bad, header_misplaced, header_limit, header_on}
 use Rattle.table_parser.proofs.read_table.Goals as goal
+use Rattle.table_parser.proofs.read_table.Goals.{then-count-ne-HEADER_BYTES-via-then-count-ne-HEADER_BYTES, then-count-ne-HEADER_BYTES-via-else-count-ne-HEADER_BYTES+then-bytes-ne-HEADER_KIND}
+
+-- a text that is not empty
+some : (n : ℕ) {r : Bool} → r ≡ eqb n 0 → r ≡ false → 0 < n
+some n e f = let z = eqb-false n 0 (sym e ∙ f) in omega arith
 
 -- the first line, its bytes in their array, and that it is a header
 module _ {text : List ℕ} {count next : ℕ} {bytes : List ℕ} (L : LineRead text 0 count next (replicate line_bytes 0) bytes) where
@@ -40,46 +49,44 @@ module _ {text : List ℕ} {count next : ℕ} {bytes : List ℕ} (L : LineRead t
       → counts_hold (counts_from said) ≡ b
   counts-told b e h t = sym (ap counts_hold (counts-are e)) ∙ sym h ∙ t
 
-pub returns-then-text-eq0 : goal.returns-then-text-eq0
-returns-then-text-eq0 c = c.refused.ensures ∙ ap gathered (sym (header_missing c.args.text.now c.if-text-eq0.true))
+pub returns-then-is_empty : goal.returns-then-is_empty
+returns-then-is_empty c = ap gathered (sym (header_missing c.args.text.now (eqb-true _ 0 (sym c.is_empty.ensures ∙ c.if-is_empty.true))))
 
-pub returns-in_default : goal.returns-in_default
-returns-in_default c =
-    c.refused-in_default.ensures
-    ∙ ap gathered (sym (header_bad _ (line-bad _ 0 (omega (arith, c.if-text-eq0.false)) c.scan-line.ensures.0 c.in_default.is)))
+pub returns-in_err-count : goal.returns-in_err-count
+returns-in_err-count c =
+    let p = err_from_is_err_and c.from_residual.result c.from_residual.ensures.1 in
+    let bad = line-bad _ 0 (some _ c.is_empty.ensures c.if-is_empty.false) c.scan.ensures.0 c.in_err-count.was in
+    p.1 ∙ ap Err (p.2 ∙ bad.0) ∙ ap gathered (sym (header_bad _ bad.1))
 
 pub returns-then-count-ne-HEADER_BYTES : goal.returns-then-count-ne-HEADER_BYTES
 returns-then-count-ne-HEADER_BYTES c =
-    let L = line_read _ 0 (omega (arith, c.if-text-eq0.false)) c.scan-line.ensures.0 c.in-Says.is c.scan-line.ensures.1 in
-    c.refused-then-count-ne-HEADER_BYTES.ensures
-    ∙ ap gathered (sym (header_misplaced L (not_wide header_kind header_width (said L) (λ z. c.if-count-ne-HEADER_BYTES.true (L.count-is ∙ z)))))
-
-pub returns-then-bytes-ne-HEADER_KIND : goal.returns-then-bytes-ne-HEADER_KIND
-returns-then-bytes-ne-HEADER_KIND c =
-    let L = line_read _ 0 (omega (arith, c.if-text-eq0.false)) c.scan-line.ensures.0 c.in-Says.is c.scan-line.ensures.1 in
+    let L = line_read _ 0 (some _ c.is_empty.ensures c.if-is_empty.false) c.scan.ensures.0 c.in_ok-count.was c.scan.ensures.1 in
     let b = said L in
-    c.refused-then-bytes-ne-HEADER_KIND.ensures
-    ∙ ap gathered (sym (header_misplaced L (not_code header_kind header_width b (λ z. c.if-bytes-ne-HEADER_KIND.true (byte_at _ b (bytes-are L) 0 (omega arith) ∙ z)))))
+    elim c.then-count-ne-HEADER_BYTES.branch [
+      | then-count-ne-HEADER_BYTES-via-then-count-ne-HEADER_BYTES w ↦
+          ap gathered (sym (header_misplaced L (not_wide header_kind header_width b (λ z. w.if-count-ne-HEADER_BYTES.true (L.count-is ∙ z)))))
+      | then-count-ne-HEADER_BYTES-via-else-count-ne-HEADER_BYTES+then-bytes-ne-HEADER_KIND w ↦
+          ap gathered (sym (header_misplaced L (not_code header_kind header_width b (λ z. w.if-bytes-ne-HEADER_KIND.true (byte_at _ b (bytes-are L) 0 (omega arith) ∙ z)))))
+    ]
+
+pub returns-then-not-counts_hold : goal.returns-then-not-counts_hold
+returns-then-not-counts_hold c =
+    let L = line_read _ 0 (some _ c.is_empty.ensures c.if-is_empty.false) c.scan.ensures.0 c.in_ok-count.was c.scan.ensures.1 in
+    ap gathered
+    (sym (header_limit L (is-header L c.if-bytes-ne-HEADER_KIND.false c.if-count-ne-HEADER_BYTES.false) (counts-told L false c.counted-cells.ensures c.counts_hold.ensures c.if-not-counts_hold.true)))
 
 pub read_items-requires : goal.read_items-requires
 read_items-requires c =
-    let L = line_read _ 0 (omega (arith, c.if-text-eq0.false)) c.scan-line.ensures.0 c.in-Says.is c.scan-line.ensures.1 in (
+    let L = line_read _ 0 (some _ c.is_empty.ensures c.if-is_empty.false) c.scan.ensures.0 c.in_ok-count.was c.scan.ensures.1 in (
       L.next-inside,
-      sym c.counts_hold.ensures ∙ c.if-counts_hold.true,
+      sym c.counts_hold.ensures ∙ c.if-not-counts_hold.false,
       c.counted-cells.ensures ∙ ap (λ (x : Counts). filled_up (count_cells x)) (sym (ap counts_in c.counted-cells.ensures ∙ counts-filled _)),
     )
 
-pub returns-then-counts_hold : goal.returns-then-counts_hold
-returns-then-counts_hold c =
-    let L = line_read _ 0 (omega (arith, c.if-text-eq0.false)) c.scan-line.ensures.0 c.in-Says.is c.scan-line.ensures.1 in
-    c.read_items.ensures
-    ∙ ap gathered
-    (ap (λ (x : Counts). items_parsed x (drop c.in-Says.next c.args.text.now)) (counts-are L c.counted-cells.ensures)
-    ∙ sym (header_on L (is-header L c.if-bytes-ne-HEADER_KIND.false c.if-count-ne-HEADER_BYTES.false) (counts-told L true c.counted-cells.ensures c.counts_hold.ensures c.if-counts_hold.true)))
-
 pub returns : goal.returns
 returns c =
-    let L = line_read _ 0 (omega (arith, c.if-text-eq0.false)) c.scan-line.ensures.0 c.in-Says.is c.scan-line.ensures.1 in
-    c.refused-2.ensures
+    let L = line_read _ 0 (some _ c.is_empty.ensures c.if-is_empty.false) c.scan.ensures.0 c.in_ok-count.was c.scan.ensures.1 in
+    c.read_items.ensures
     ∙ ap gathered
-    (sym (header_limit L (is-header L c.if-bytes-ne-HEADER_KIND.false c.if-count-ne-HEADER_BYTES.false) (counts-told L false c.counted-cells.ensures c.counts_hold.ensures c.if-counts_hold.false)))
+    (ap (λ (x : Counts). items_parsed x (drop c.in_ok-count.field-0.next c.args.text.now)) (counts-are L c.counted-cells.ensures)
+    ∙ sym (header_on L (is-header L c.if-bytes-ne-HEADER_KIND.false c.if-count-ne-HEADER_BYTES.false) (counts-told L true c.counted-cells.ensures c.counts_hold.ensures c.if-not-counts_hold.false)))

@@ -1,10 +1,9 @@
 -- At every turn, storing the lines of the arcs that are left gives what storing all of them gives.
 use Prim.Native.Nat.{◌+◌, ◌*◌, ◌<◌}
 use native.Mathlib.Omega.{arith}
-use mathlib.Core.Path.{◌≡◌, refl, sym, ap, ◌∙◌}
+use mathlib.Core.Path.{◌≡◌, sym, ap, ◌∙◌}
 use lib.ListN.{length, get_or}
 use lib.Seq.{sets}
-use borrow.Author.Rules.{rules}
 use Rattle.table_format.specs.declared.Arc as Held
 use Rattle.table_format.specs.Loaded.{arc_width}
 use Rattle.table_format.specs.Cells.{arc_count, arc_said}
@@ -12,9 +11,6 @@ use Rattle.table_format.specs.Line.{line_text}
 use Rattle.table_format.specs.Text.{arc_bytes}
 use Rattle.table_printer.proofs.Lines.{arcs-turn, arcs-size, arcs-end}
 use Rattle.table_printer.proofs.arc_lines.Goals as goal
-
-pub loop-n-init : goal.loop-n-init
-loop-n-init c = (refl, omega arith, refl, refl, refl)
 
 pub arc_line-to-requires : goal.arc_line-to-requires
 arc_line-to-requires c =
@@ -38,9 +34,9 @@ loop-n-preserved c =
     let place = wrote.0 ∙ ap (λ (a : Held.Arc). c.loop-n.to + length (line_text (arc_bytes (arc_said a)))) said in
     let stored = wrote.1 ∙ ap (λ (a : Held.Arc). sets c.loop-n.text c.loop-n.to (line_text (arc_bytes (arc_said a)))) said in
     let h : c.loop-n.n < arc_count arcs = omega arith in
-    (c.loop-n.invariant.0, omega arith, search rules, omega (arith, place, arcs-size arcs c.loop-n.n h), arcs-turn arcs c.loop-n.n h c.loop-n.text _ c.loop-n.to _ stored place ∙ c.loop-n.invariant.4)
+    (omega (arith, place, arcs-size arcs c.loop-n.n h), arcs-turn arcs c.loop-n.n h c.loop-n.text _ c.loop-n.to _ stored place ∙ c.loop-n.invariant.1)
 
 pub returns : goal.returns
 returns c =
     let none = arcs-end c.args.arcs.now c.loop-n.n (omega arith) in
-    (omega (arith, ap length none), sym (ap (sets c.loop-n.text c.loop-n.to) none) ∙ c.loop-n.invariant.4)
+    (omega (arith, ap length none), sym (ap (sets c.loop-n.text c.loop-n.to) none) ∙ c.loop-n.invariant.1)

@@ -13,7 +13,7 @@ loop-n-preserved c =
     let arcs = c.args.arcs.now in
     let penalty = ap (λ (a : Held.Arc). a.penalty) c.arc_at-arc.ensures in
     let more = arcs-size arcs c.loop-n.n (omega arith) in
-    elim c.if-arc-eq0.branch [ then-arc-eq0 w ↦ (c.loop-n.invariant.0, omega arith, omega (arith, w.size-is), omega (arith, w.size-is, plain_size (arc_of arcs c.loop-n.n) (sym penalty ∙ w.if-arc-eq0.true))) | else-arc-eq0 w ↦ (c.loop-n.invariant.0, omega arith, omega (arith, w.size-is), omega (arith, w.size-is, penalised-size (arc_of arcs c.loop-n.n) (λ e. w.if-arc-eq0.false (penalty ∙ e)))) ]
+    elim c.if-arc-eq0.branch [ then-arc-eq0 w ↦ (omega (arith, w.size-is), omega (arith, w.size-is, plain_size (arc_of arcs c.loop-n.n) (sym penalty ∙ w.if-arc-eq0.true))) | else-arc-eq0 w ↦ (omega (arith, w.size-is), omega (arith, w.size-is, penalised-size (arc_of arcs c.loop-n.n) (λ e. w.if-arc-eq0.false (penalty ∙ e)))) ]
 
 pub returns : goal.returns
 returns c = omega (arith, ap length (arcs-end c.args.arcs.now c.loop-n.n (omega arith)))

@@ -2,23 +2,17 @@
 use Prim.Native.Nat.{◌+◌}
 use native.Mathlib.Omega.{arith}
 use mathlib.Core.Path.{refl, sym}
-use lib.ListN.{length-set}
 use lib.Seq.{length-take-le}
 use Rattle.table_format.specs.Text.{class_bytes}
 use Rattle.table_classes.proofs.Letters.{letters-few}
-use Rattle.table_printer.proofs.Lines.{length-line, letter-put, letters-put, line_told_lem}
+use Rattle.table_printer.proofs.Lines.{length-line, letters-put, line_told_lem}
 use Rattle.table_printer.proofs.class_line.Goals as goal
 
+pub slice_bounds-letter-items-end : goal.slice_bounds-letter-items-end
+slice_bounds-letter-items-end c = sym (length-take-le _ c.args.row.now (omega (arith, c.letters_in-count.ensures, letters-few c.args.row.now)))
+
 pub loop-k-init : goal.loop-k-init
-loop-k-init c = (omega arith, c.letters_in-count.ensures, omega (arith, letters-few c.args.row.now, c.letters_in-count.ensures), refl, refl)
-
-pub overflow_cast-bytes : goal.overflow_cast-bytes
-overflow_cast-bytes c = omega (arith, c.requires.row_len.1 c.loop-k.k)
-
-pub loop-k-preserved : goal.loop-k-preserved
-loop-k-preserved c =
-    let args = c.args in
-    (omega arith, c.loop-k.invariant.1, c.loop-k.invariant.2, simp length-set c.loop-k.invariant.3, letter-put args.class args.row.now c.loop-k.bytes c.loop-k.k c.loop-k.invariant.4 (omega arith) (omega arith))
+loop-k-init c = (c.letters_in-count.ensures, omega (arith, letters-few c.args.row.now, c.letters_in-count.ensures), refl, refl)
 
 pub slice_bounds-put_line-end : goal.slice_bounds-put_line-end
 slice_bounds-put_line-end c = sym (length-take-le _ c.loop-k.bytes (omega arith))
@@ -32,5 +26,6 @@ pub returns : goal.returns
 returns c =
     let args = c.args in
     let row = args.row.now in
-    let said = letters-put args.class row c.loop-k.bytes c.loop-k.k c.loop-k.invariant.4 c.letters_in-count.result (omega arith) (omega arith) in
+    let all = length-take-le c.letters_in-count.result row (omega (arith, letters-few row)) in
+    let said = letters-put args.class row c.loop-k.bytes c.loop-k.k c.loop-k.invariant.3 c.letters_in-count.result (omega (arith, all)) (omega (arith, all)) in
     line_told_lem _ _ _ _ _ _ said c.put_line.ensures

@@ -1,5 +1,5 @@
 -- At every turn, the bytes begin with the kind, the class and the letters passed.
-use Prim.Native.Nat.{◌+◌, ◌-◌, ◌≤◌}
+use Prim.Native.Nat.{◌+◌, ◌≤◌}
 use mathlib.Core.Path.{◌≡◌}
 use mathlib.Core.List.{◌∷◌}
 use lib.ListN.{length, take}
@@ -9,11 +9,7 @@ use Rattle.table_printer.proofs.class_line.Given as goal
 
 abbrev pub invariant-loop-k : goal.invariant-loop-k
 invariant-loop-k l =
-    (l.k ≤ l.count)
-    × (l.count ≡ length (letters_in l.row))
+    (l.count ≡ length (letters_in l.row))
     × (l.count ≤ row_width)
     × (length l.bytes ≡ line_bytes)
     × (take (l.k + 2) l.bytes ≡ 6 ∷ l.class ∷ take l.k l.row)
-
-abbrev pub decreases-loop-k : goal.decreases-loop-k
-decreases-loop-k l = l.count - l.k

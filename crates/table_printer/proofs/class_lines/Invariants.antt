@@ -1,19 +1,13 @@
 -- At every turn, storing the lines of the classes that are left gives what storing all of them gives.
-use Prim.Native.Nat.{◌+◌, ◌-◌, ◌≤◌}
+use Prim.Native.Nat.{◌+◌}
 use mathlib.Core.Path.{◌≡◌}
 use lib.ListN.{length}
 use lib.Seq.{sets}
-use Rattle.table_format.specs.Classes.{class_count}
 use Rattle.table_format.specs.Text.{join_lines}
 use Rattle.table_classes.proofs.Letters.{lines_from}
 use Rattle.table_printer.proofs.class_lines.Given as goal
 
 abbrev pub invariant-loop-c : goal.invariant-loop-c
 invariant-loop-c l =
-    (l.c ≤ class_count)
-    × (length l.text ≡ length l.initial.text)
-    × (l.to + length (join_lines (lines_from l.c l.rows)) ≡ l.at + length (join_lines (lines_from 0 l.rows)))
+    (l.to + length (join_lines (lines_from l.c l.rows)) ≡ l.at + length (join_lines (lines_from 0 l.rows)))
     × (sets l.text l.to (join_lines (lines_from l.c l.rows)) ≡ sets l.initial.text l.at (join_lines (lines_from 0 l.rows)))
-
-abbrev pub decreases-loop-c : goal.decreases-loop-c
-decreases-loop-c l = class_count - l.c

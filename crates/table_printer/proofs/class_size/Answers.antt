@@ -36,11 +36,10 @@ loop-c-preserved c =
     elim c.if-rows-at-ne0.branch [
       | then-rows-at-ne0 w ↦
           let line = length-line (class_bytes n (row_from n rows)) in (
-            omega arith,
             omega (arith, w.letters_in.ensures, w.size-is, letters-few (row_from n rows), row-long rows n (omega arith) (omega arith)),
             omega (arith, w.letters_in.ensures, w.size-is, line, class_size_lem rows n (omega arith) w.if-rows-at-ne0.true),
           )
-      | else-rows-at-ne0 w ↦ (omega arith, omega (arith, w.size-is), omega (arith, w.size-is, ap length (class_skip rows n (omega arith) w.if-rows-at-ne0.false)))
+      | else-rows-at-ne0 w ↦ (omega (arith, w.size-is), omega (arith, w.size-is, ap length (class_skip rows n (omega arith) w.if-rows-at-ne0.false)))
     ]
 
 pub returns : goal.returns

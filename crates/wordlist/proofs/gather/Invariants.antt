@@ -4,8 +4,8 @@ use lib.ListN.{length}
 use Rattle.wordlist.proofs.Going.{Going}
 use Rattle.wordlist.proofs.gather.Given as goal
 
-abbrev pub invariant-loop-at : goal.invariant-loop-at
-invariant-loop-at l = Going l.text l.initial.list l.list l.at l.before l.count l.bytes
+abbrev pub invariant-loop-from : goal.invariant-loop-from
+invariant-loop-from l = Going l.text l.initial.list l.list l.at l.before l.count l.bytes
 
-abbrev pub decreases-loop-at : goal.decreases-loop-at
-decreases-loop-at l = length l.text - l.at
+abbrev pub decreases-loop-from : goal.decreases-loop-from
+decreases-loop-from l = length l.text - l.at

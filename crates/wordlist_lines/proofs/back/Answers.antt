@@ -1,20 +1,11 @@
--- At every turn only blanks stand from here on.
-use native.Mathlib.Omega.{arith}
-use mathlib.Core.Path.{sym, ap, ◌∙◌}
-use mathlib.Core.Bool.{not}
-use lib.Seq.{take-length}
-use Rattle.wordlist_lines.specs.Lines.{no_blank, untrailed}
-use Rattle.wordlist_lines.proofs.Lines.{last_found, last_less, last_none}
+-- The place of the last character that is no blank.
+use Rattle.std.proofs.Common.{arith, rules}
+use Rattle.wordlist_lines.specs.Lines.{no_blank}
+use Rattle.wordlist_lines.proofs.Lines.{LastIs, last_some, last_missing}
 use Rattle.wordlist_lines.proofs.back.Goals as goal
 
-pub loop-k-init : goal.loop-k-init
-loop-k-init c = (omega arith, ap untrailed (take-length c.args.line.now))
+pub returns-in-Some : goal.returns-in-Some
+returns-in-Some c = let last : LastIs no_blank c.args.line.now c.rposition.result = search rules in last_some no_blank c.args.line.now c.rposition.result c.in-Some.k c.in-Some.is last
 
-pub returns-then-not-is_blank : goal.returns-then-not-is_blank
-returns-then-not-is_blank c = (omega arith, last_found no_blank c.args.line.now c.loop-k.k c.loop-k.invariant.1 c.loop-k-test.true c.loop-k.invariant.0 (ap not (sym c.is_blank.ensures ∙ c.if-not-is_blank.true)))
-
-pub loop-k-preserved : goal.loop-k-preserved
-loop-k-preserved c = (omega arith, last_less no_blank c.args.line.now c.loop-k.k c.loop-k.invariant.1 c.loop-k-test.true c.loop-k.invariant.0 (ap not (sym c.is_blank.ensures ∙ c.if-not-is_blank.false)))
-
-pub returns : goal.returns
-returns c = (omega arith, last_none no_blank c.args.line.now c.loop-k.k c.loop-k.invariant.1 c.loop-k-test.false)
+pub returns-in-None : goal.returns-in-None
+returns-in-None c = let last : LastIs no_blank c.args.line.now c.rposition.result = search rules in (omega arith, last_missing no_blank c.args.line.now c.rposition.result c.in-None.is last)

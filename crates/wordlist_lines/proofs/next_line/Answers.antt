@@ -38,15 +38,12 @@ slice_bounds-front-count c = omega (arith, end-within (goal.at.slice_bounds-fron
 pub overflow_add-first : goal.overflow_add-first
 overflow_add-first c = omega (arith, end-within (goal.at.overflow_add-first c).After-line_size, last_within (goal.at.overflow_add-first c).After-back, first-within c)
 
-pub after-next-requires : goal.after-next-requires
-after-next-requires c = end-within (goal.at.after-next-requires c).After-line_size
-
 pub slice_bounds-passed_over-count : goal.slice_bounds-passed_over-count
 slice_bounds-passed_over-count c = first-within (goal.at.slice_bounds-passed_over-count c).After-front
 
 pub returns-then-not-passed_over : goal.returns-then-not-passed_over
-returns-then-not-passed_over c = turn-found c.args.text.now c.args.at c.loop-from.passed _ _ _ _ c.loop-from.invariant (turn_is c.args.text.now c.loop-from.from c.line_size.result c.back.result c.front.result c.after-next.result c.loop-from-test.true
-    c.line_size.ensures.0 c.line_size.ensures.1 c.back.ensures.0 c.back.ensures.1 c.front.ensures.0 c.front.ensures.1 c.after-next.ensures) (sym c.passed_over.ensures ∙ c.if-not-passed_over.true)
+returns-then-not-passed_over c = turn-found c.args.text.now c.args.at c.loop-from.passed _ _ _ _ c.loop-from.invariant (turn_is c.args.text.now c.loop-from.from c.line_size.result c.back.result c.front.result c.min-next.result c.loop-from-test.true
+    c.line_size.ensures.0 c.line_size.ensures.1 c.back.ensures.0 c.back.ensures.1 c.front.ensures.0 c.front.ensures.1 c.min-next.ensures) (sym c.passed_over.ensures ∙ c.if-not-passed_over.true)
 
 pub overflow_add-passed : goal.overflow_add-passed
 overflow_add-passed c = omega (arith, c.loop-from.invariant.moves, c.loop-from-test.true)
@@ -54,15 +51,15 @@ overflow_add-passed c = omega (arith, c.loop-from.invariant.moves, c.loop-from-t
 pub loop-from-smaller : goal.loop-from-smaller
 loop-from-smaller c = omega (
   arith,
-  (turn_is c.args.text.now c.loop-from.from c.line_size.result c.back.result c.front.result c.after-next.result c.loop-from-test.true
-      c.line_size.ensures.0 c.line_size.ensures.1 c.back.ensures.0 c.back.ensures.1 c.front.ensures.0 c.front.ensures.1 c.after-next.ensures).moves,
-  (turn_is c.args.text.now c.loop-from.from c.line_size.result c.back.result c.front.result c.after-next.result c.loop-from-test.true
-      c.line_size.ensures.0 c.line_size.ensures.1 c.back.ensures.0 c.back.ensures.1 c.front.ensures.0 c.front.ensures.1 c.after-next.ensures).within,
+  (turn_is c.args.text.now c.loop-from.from c.line_size.result c.back.result c.front.result c.min-next.result c.loop-from-test.true
+      c.line_size.ensures.0 c.line_size.ensures.1 c.back.ensures.0 c.back.ensures.1 c.front.ensures.0 c.front.ensures.1 c.min-next.ensures).moves,
+  (turn_is c.args.text.now c.loop-from.from c.line_size.result c.back.result c.front.result c.min-next.result c.loop-from-test.true
+      c.line_size.ensures.0 c.line_size.ensures.1 c.back.ensures.0 c.back.ensures.1 c.front.ensures.0 c.front.ensures.1 c.min-next.ensures).within,
 )
 
 pub loop-from-preserved : goal.loop-from-preserved
-loop-from-preserved c = turn-passed c.args.text.now c.args.at c.loop-from.passed _ _ _ _ c.loop-from.invariant (turn_is c.args.text.now c.loop-from.from c.line_size.result c.back.result c.front.result c.after-next.result c.loop-from-test.true
-    c.line_size.ensures.0 c.line_size.ensures.1 c.back.ensures.0 c.back.ensures.1 c.front.ensures.0 c.front.ensures.1 c.after-next.ensures) (sym c.passed_over.ensures ∙ c.if-not-passed_over.false)
+loop-from-preserved c = turn-passed c.args.text.now c.args.at c.loop-from.passed _ _ _ _ c.loop-from.invariant (turn_is c.args.text.now c.loop-from.from c.line_size.result c.back.result c.front.result c.min-next.result c.loop-from-test.true
+    c.line_size.ensures.0 c.line_size.ensures.1 c.back.ensures.0 c.back.ensures.1 c.front.ensures.0 c.front.ensures.1 c.min-next.ensures) (sym c.passed_over.ensures ∙ c.if-not-passed_over.false)
 
 pub returns : goal.returns
 returns c = passing-done c.args.text.now c.args.at c.loop-from.passed c.loop-from.from c.loop-from.invariant c.loop-from-test.false

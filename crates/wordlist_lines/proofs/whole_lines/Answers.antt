@@ -1,21 +1,15 @@
--- At every turn no line feed stands from here on.
-use native.Mathlib.Omega.{arith}
-use mathlib.Core.Path.{sym, ap, ◌∙◌}
-use lib.ListN.{length}
-use lib.Seq.{take-length, length-take-le}
-use borrow.Author.Tests.{eq-eqb, ne_eqb}
-use Rattle.wordlist_lines.specs.Lines.{is_feed, up_to_last}
-use Rattle.wordlist_lines.proofs.Lines.{last_found, last_less, last_none}
+-- The place of the last line feed.
+use Rattle.std.proofs.Common.{length, ap, sym, ◌∙◌, rules, length-take-le}
+use Rattle.wordlist_lines.specs.Lines.{is_feed}
+use Rattle.wordlist_lines.proofs.Lines.{LastIs, last_some, last_missing}
 use Rattle.wordlist_lines.proofs.whole_lines.Goals as goal
 
-pub loop-k-init : goal.loop-k-init
-loop-k-init c = (omega arith, ap (up_to_last is_feed) (take-length c.args.text.now))
+pub returns-in-Some : goal.returns-in-Some
+returns-in-Some c =
+    let text = c.args.text.now in
+    let last : LastIs is_feed c.args.text.now c.rposition.result = search rules in
+    let kept = last_some is_feed text c.rposition.result c.in-Some.k c.in-Some.is last in
+    sym (length-take-le _ text kept.0) ∙ ap length kept.1
 
-pub returns-then-text-k-eq10 : goal.returns-then-text-k-eq10
-returns-then-text-k-eq10 c = sym (length-take-le c.loop-k.k c.args.text.now c.loop-k.invariant.0) ∙ ap length (last_found is_feed c.args.text.now c.loop-k.k c.loop-k.invariant.1 c.loop-k-test.true c.loop-k.invariant.0 (eq-eqb _ _ c.if-text-k-eq10.true))
-
-pub loop-k-preserved : goal.loop-k-preserved
-loop-k-preserved c = (omega arith, last_less is_feed c.args.text.now c.loop-k.k c.loop-k.invariant.1 c.loop-k-test.true c.loop-k.invariant.0 (ne_eqb _ _ c.if-text-k-eq10.false))
-
-pub returns : goal.returns
-returns c = ap length (last_none is_feed c.args.text.now c.loop-k.k c.loop-k.invariant.1 c.loop-k-test.false)
+pub returns-in-None : goal.returns-in-None
+returns-in-None c = let last : LastIs is_feed c.args.text.now c.rposition.result = search rules in ap length (last_missing is_feed c.args.text.now c.rposition.result c.in-None.is last)

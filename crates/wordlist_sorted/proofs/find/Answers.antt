@@ -1,31 +1,35 @@
 -- At every turn the words so far are below the word, so that it goes among the others.
-use mathlib.Core.Path.{sym, ◌∙◌}
-use Rattle.wordlist_sorted.proofs.Finding.{gone_none, next-room, gone_all, gone_more, gone_here, gone_listed}
+use Rattle.std.proofs.Common.{arith, length, ap, refl, sym, ◌∙◌}
+use Rattle.wordlist_sorted.proofs.Finding.{gone_none, next-within, gone_all, gone_more, gone_here, gone_listed}
 use Rattle.wordlist_sorted.proofs.find.Goals as goal
 
-pub loop-at-init : goal.loop-at-init
-loop-at-init c = λ ws e. gone_none c.args.word.now ws
+pub loop-listed-init : goal.loop-listed-init
+loop-listed-init c = λ ws e. rw c.into_iter-listed-iterator.ensures.into_iter_gives (gone_none c.args.word.now ws c.args.list.now e)
 
-pub slice_bounds-is_above-end : goal.slice_bounds-is_above-end
-slice_bounds-is_above-end c =
-    let args = c.args in
+pub returns-then-rises : goal.returns-then-rises
+returns-then-rises c = λ ws e.
+    gone_here c.args.word.now ws c.loop-listed.at c.loop-listed.listed-iterator.0.now (c.loop-listed.invariant ws e) c.in-Some.listed.now c.next.new.self.0.now c.in-Some.ensures.steps
+    (sym c.rises.ensures ∙ c.if-not-rises.true) (sym c.rises-then-not-rises.ensures ∙ c.if-rises.true)
+
+pub returns-else-rises : goal.returns-else-rises
+returns-else-rises c = λ ws e.
+    gone_listed c.args.word.now ws c.loop-listed.at c.loop-listed.listed-iterator.0.now (c.loop-listed.invariant ws e) c.in-Some.listed.now c.next.new.self.0.now c.in-Some.ensures.steps
+    (sym c.rises.ensures ∙ c.if-not-rises.true) (sym c.rises-then-not-rises.ensures ∙ c.if-rises.false)
+
+pub overflow_add-at-in-loop-listed : goal.overflow_add-at-in-loop-listed
+overflow_add-at-in-loop-listed c =
     let pre = c.requires in
-    next-room args.word.now args.list.now pre.0 c.loop-at.at (c.loop-at.invariant pre.0 pre.1) pre.1 c.loop-at-test.true c.byte_as_index.result c.byte_as_index.ensures.0
+    omega (
+      arith,
+      next-within c.args.word.now pre.0 c.loop-listed.at c.loop-listed.listed-iterator.0.now (c.loop-listed.invariant pre.0 pre.1) c.in-Some.listed.now c.next.new.self.0.now c.in-Some.ensures.steps,
+      ap length pre.1,
+    )
 
-pub returns-then-is_above : goal.returns-then-is_above
-returns-then-is_above c = λ ws e.
-    let args = c.args in
-    gone_here args.word.now args.list.now ws c.loop-at.at (c.loop-at.invariant ws e) e c.loop-at-test.true c.byte_as_index.result c.byte_as_index.ensures.0 (sym c.is_above.ensures ∙ c.if-not-is_above.true) (sym c.is_above-then-not-is_above.ensures ∙ c.if-is_above.true)
-
-pub returns-then-not-is_above : goal.returns-then-not-is_above
-returns-then-not-is_above c = λ ws e.
-    let args = c.args in
-    gone_listed args.word.now args.list.now ws c.loop-at.at (c.loop-at.invariant ws e) e c.loop-at-test.true c.byte_as_index.result c.byte_as_index.ensures.0 (sym c.is_above.ensures ∙ c.if-not-is_above.true) (sym c.is_above-then-not-is_above.ensures ∙ c.if-is_above.false)
-
-pub loop-at-preserved : goal.loop-at-preserved
-loop-at-preserved c = λ ws e.
-    let args = c.args in
-    gone_more args.word.now args.list.now ws c.loop-at.at (c.loop-at.invariant ws e) e c.loop-at-test.true c.byte_as_index.result c.byte_as_index.ensures.0 (sym c.is_above.ensures ∙ c.if-not-is_above.false)
+pub loop-listed-preserved : goal.loop-listed-preserved
+loop-listed-preserved c = λ ws e.
+    gone_more c.args.word.now ws c.loop-listed.at c.loop-listed.listed-iterator.0.now (c.loop-listed.invariant ws e) c.in-Some.listed.now c.next.new.self.0.now c.in-Some.ensures.steps
+    (sym c.rises.ensures ∙ c.if-not-rises.false) _ refl
 
 pub returns : goal.returns
-returns c = λ ws e. gone_all c.args.word.now c.args.list.now ws c.loop-at.at (c.loop-at.invariant ws e) e c.loop-at-test.false
+returns c = λ ws e.
+    gone_all c.args.word.now ws c.loop-listed.at c.loop-listed.listed-iterator.0.now (c.loop-listed.invariant ws e) c.in-None.ensures.steps.1

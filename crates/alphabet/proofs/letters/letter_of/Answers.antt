@@ -1,16 +1,21 @@
 -- By the place among the small letters, or else among the capitals.
-use Rattle.alphabet.specs.Letters.{smalls, capitals}
+use Rattle.std.proofs.Common.{arith, ◌<◌, refl, sym}
+use Rattle.alphabet.specs.Letters.{letter_count, smalls, capitals, place_in}
 use Rattle.alphabet.proofs.LetterOf.{small-found, capital_found, none_found}
 use Rattle.alphabet.proofs.letters.letter_of.Goals as goal
 
-pub returns-then-small-lt-LETTERS : goal.returns-then-small-lt-LETTERS
+pub returns-in-Some : goal.returns-in-Some
 unfolding smalls
-returns-then-small-lt-LETTERS c = small-found c.args.code c.place-small.result c.place-small.ensures c.if-small-lt-LETTERS.true
+returns-in-Some c = let h : c.in-Some.k < letter_count = c.in-Some.ensures.0 in (omega arith, small-found c.args.code c.in-Some.k c.in-Some.ensures.1 h)
 
-pub returns-then-capital-lt-LETTERS : goal.returns-then-capital-lt-LETTERS
+pub returns-in_err-k : goal.returns-in_err-k
 unfolding smalls capitals
-returns-then-capital-lt-LETTERS c = capital_found c.args.code c.place-small.result c.place-small.ensures c.place-capital.result c.place-capital.ensures c.if-small-lt-LETTERS.false c.if-capital-lt-LETTERS.true
+returns-in_err-k c =
+    rw c.from_residual.ensures (let code = c.args.code in sym (none_found code (place_in smalls code) refl (place_in capitals code) refl c.in_default.ensures c.in_err-k.ensures))
 
 pub returns : goal.returns
 unfolding smalls capitals
-returns c = none_found c.args.code c.place-small.result c.place-small.ensures c.place-capital.result c.place-capital.ensures c.if-small-lt-LETTERS.false c.if-capital-lt-LETTERS.false
+returns c =
+    let code = c.args.code in
+    let h : c.in_ok-k.k < letter_count = c.in_ok-k.ensures.0 in
+    (omega arith, capital_found code (place_in smalls code) refl c.in_ok-k.k c.in_ok-k.ensures.1 c.in_default.ensures h)

@@ -3,7 +3,7 @@ use native.Mathlib.Omega.{arith}
 use mathlib.Core.Path.{sym, ap, ◌∙◌}
 use lib.ListN.{length}
 use borrow.Author.Tests.{leb-true, leb-false}
-use Rattle.destination.specs.declared.Answer.TheVariants.{Done}
+use Rattle.std.specs.Prelude.{Ok}
 use Rattle.destination.proofs.Stored.{stored-fits, stored_short, stored_refused}
 use Rattle.alphabet.specs.Shown.{shown}
 use Rattle.alphabet.proofs.Showing.{showing_none, showing_more, showing_done}
@@ -17,28 +17,28 @@ returns-then-not-has_room c =
     let short = (stored_short out destination).1 (leb-false _ _ (sym c.has_room.ensures ∙ c.if-not-has_room.true)) in
     (sym short, sym (stored_refused out destination _ short).1)
 
-pub loop-k-init : goal.loop-k-init
-loop-k-init c = showing_none c.args.text.now c.args.destination.now
+pub loop-c-init : goal.loop-c-init
+loop-c-init c = showing_none c.args.text.now c.args.destination.now
 
 pub put_shown-at-requires : goal.put_shown-at-requires
 put_shown-at-requires c =
     let text = c.args.text.now in
     let room = leb-true (length (shown text)) _ (sym c.has_room.ensures ∙ c.if-not-has_room.false) in
-    omega (arith, next-length text c.loop-k.k (omega arith))
+    omega (arith, next-length text c.loop-c.c-index (omega arith))
 
-pub loop-k-preserved : goal.loop-k-preserved
-loop-k-preserved c =
+pub loop-c-preserved : goal.loop-c-preserved
+loop-c-preserved c =
     let args = c.args in
-    showing_more args.text.now args.destination.now c.loop-k.destination c.loop-k.at c.loop-k.k c.loop-k.invariant (omega arith) _ c.put_shown-at.result c.put_shown-at.ensures.0 c.put_shown-at.ensures.1
+    showing_more args.text.now args.destination.now c.loop-c.destination c.loop-c.at c.loop-c.c-index c.loop-c.invariant (omega arith) _ c.put_shown-at.result c.put_shown-at.ensures.0 c.put_shown-at.ensures.1
 
 pub shape_of-destination : goal.shape_of-destination
-shape_of-destination c = c.loop-k.invariant.same
+shape_of-destination c = c.loop-c.invariant.same
 
 pub returns : goal.returns
 returns c =
     let args = c.args in
     let out = shown args.text.now in
     let room = leb-true (length out) _ (sym c.has_room.ensures ∙ c.if-not-has_room.false) in
-    let done = showing_done args.text.now args.destination.now c.loop-k.destination c.loop-k.at c.loop-k.k c.loop-k.invariant c.loop-k-test.false room in
+    let done = showing_done args.text.now args.destination.now c.loop-c.destination c.loop-c.at c.loop-c.c-index c.loop-c.invariant c.loop-c-test.false room in
     let fits = stored-fits out args.destination.now room in
-    (ap Done done.0 ∙ sym fits.0, done.1 ∙ sym fits.1)
+    (ap Ok done.0 ∙ sym fits.0, done.1 ∙ sym fits.1)

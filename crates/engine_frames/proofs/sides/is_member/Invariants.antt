@@ -1,11 +1,7 @@
-use Prim.Native.Nat.{◌≤◌, ◌-◌}
 use mathlib.Core.Path.{◌≡◌}
-use lib.ListN.{length, take}
-use Rattle.machine.specs.Transducer.{member}
+use lib.ListN.{take}
+use Rattle.table_format.specs.Rules.{any}
 use Rattle.engine_frames.proofs.sides.is_member.Given as goal
 
-abbrev pub invariant-loop-k : goal.invariant-loop-k
-invariant-loop-k l = (l.k ≤ length l.list) × (l.found ≡ member l.state (take l.k l.list))
-
-abbrev pub decreases-loop-k : goal.decreases-loop-k
-decreases-loop-k l = length l.list - l.k
+abbrev pub invariant-loop-y : goal.invariant-loop-y
+invariant-loop-y g l = l.found ≡ any (λ y. g.T.PartialEq.eq y l.x) (take l.y-index l.list)

@@ -1,37 +1,31 @@
--- At every turn the readings so far hold, and the others decide.
-use Prim.Native.Nat.{ℕ, ◌+◌}
-use native.Mathlib.Omega.{arith}
-use mathlib.Core.Path.{sym, ap, subst, ◌∙◌}
-use Rattle.faces.specs.Lent.{every, is_letter}
-use Rattle.faces.proofs.Lent.{reading-part, Held, held_none, held-done, held-short, held_missing, held-letters, held_more, held_many}
+-- At every turn the readings so far hold, and the bytes that are left decide.
+use Prim.Native.Nat.{ℕ}
+use mathlib.Core.Path.{sym, ap, ◌∙◌}
+use lib.Dec.{eqb}
+use lib.ListN.{length}
+use mathlib.Core.List.{List}
+use Rattle.faces.proofs.Lent.{held_none, held-done, held_many, held-letters, held_more}
 use Rattle.faces.proofs.list.list_holds.Goals as goal
+use Rattle.faces.proofs.list.list_holds.Goals.{then-count-eq-MOST_READINGS-via-then-count-eq-MOST_READINGS, then-count-eq-MOST_READINGS-via-else-count-eq-MOST_READINGS+then-not-letters_hold}
 
-pub loop-at-init : goal.loop-at-init
-loop-at-init c = held_none c.args.readings.now
+pub loop-reading-init : goal.loop-reading-init
+loop-reading-init c = held_none c.args.bytes.now
 
 pub returns-then-count-eq-MOST_READINGS : goal.returns-then-count-eq-MOST_READINGS
-returns-then-count-eq-MOST_READINGS c = sym (held_many c.args.readings.now c.loop-at.at c.loop-at.count c.loop-at.invariant c.loop-at-test.true c.if-count-eq-MOST_READINGS.true)
+returns-then-count-eq-MOST_READINGS c =
+    let H = c.loop-reading.invariant in
+    let step = c.in-Some.ensures.steps in
+    elim c.then-count-eq-MOST_READINGS.branch [
+      | then-count-eq-MOST_READINGS-via-then-count-eq-MOST_READINGS w ↦ sym (held_many _ _ _ H _ _ step w.if-count-eq-MOST_READINGS.true)
+      | then-count-eq-MOST_READINGS-via-else-count-eq-MOST_READINGS+then-not-letters_hold w ↦
+          sym (held-letters _ _ _ H _ _ step (sym w.letters_hold.ensures ∙ w.if-not-letters_hold.true))
+    ]
 
-pub returns-then-readings-from : goal.returns-then-readings-from
-returns-then-readings-from c = sym (held-short c.args.readings.now c.loop-at.at c.loop-at.count c.loop-at.invariant c.loop-at-test.true c.if-readings-from.true)
-
-pub returns-then-readings-end : goal.returns-then-readings-end
-returns-then-readings-end c = sym (held_missing c.args.readings.now c.loop-at.at c.loop-at.count c.loop-at.invariant (omega arith) (omega (arith, c.letters_at.ensures.0)))
-
-pub returns-then-not-letters_hold : goal.returns-then-not-letters_hold
-returns-then-not-letters_hold c =
-    let args = c.args in
-    let part = reading-part args.readings.now c.loop-at.at c.letters_at.result c.letters_at.ensures.0 in
-    let told = ap (every is_letter) (sym part) ∙ sym c.letters_hold.ensures ∙ c.if-not-letters_hold.true in
-    sym (held-letters args.readings.now c.loop-at.at c.loop-at.count c.loop-at.invariant (omega arith) (omega (arith, c.letters_at.ensures.0)) told)
-
-pub loop-at-preserved : goal.loop-at-preserved
-loop-at-preserved c =
-    let args = c.args in
-    let part = reading-part args.readings.now c.loop-at.at c.letters_at.result c.letters_at.ensures.0 in
-    let told = ap (every is_letter) (sym part) ∙ sym c.letters_hold.ensures ∙ c.if-not-letters_hold.false in
-    subst (λ (n : ℕ). Held args.readings.now (c.loop-at.at + 2 + n) (c.loop-at.count + 1)) (sym c.letters_at.ensures.0)
-    (held_more args.readings.now c.loop-at.at c.loop-at.count c.loop-at.invariant (omega arith) (omega (arith, c.letters_at.ensures.0)) told (omega arith))
+pub loop-reading-preserved : goal.loop-reading-preserved
+loop-reading-preserved c =
+    held_more _ _ _ c.loop-reading.invariant _ _ c.in-Some.ensures.steps (sym c.letters_hold.ensures ∙ c.if-not-letters_hold.false) c.if-count-eq-MOST_READINGS.false
 
 pub returns : goal.returns
-returns c = sym (held-done c.args.readings.now c.loop-at.at c.loop-at.count c.loop-at.invariant c.loop-at-test.false)
+returns c =
+    let left = c.in_default.ensures.steps in
+    held-done _ _ _ c.loop-reading.invariant left.1 c.is_empty.result (c.is_empty.ensures ∙ ap (λ (l : List ℕ). eqb (length l) 0) left.0)

@@ -5,8 +5,8 @@ use Rattle.keys.proofs.print.key.Goals as goal
 
 pub slice_bounds-sheet-end : goal.slice_bounds-sheet-end
 slice_bounds-sheet-end g c =
-    key-within c.sheet_room-sheet.result c.write-written.new.sheet c.write-written.auto.sheet _ _ c.in-Done.is c.args.table.now c.args.word.now c.face_table-faces.result c.write-written.ensures.0
+    key-within c.sheet_room-sheet.result c.write.new.sheet c.write.auto.sheet _ _ c.in_ok-size.was c.args.table.now c.args.word.now c.face_table-faces.result c.write.ensures.0
 
 pub slice_bounds-lines-end : goal.slice_bounds-lines-end
 slice_bounds-lines-end g c =
-    sym (length-take-le _ _ (key-within c.sheet_room-sheet.result c.write-written.new.sheet c.write-written.auto.sheet _ _ c.in-Done.is c.args.table.now c.args.word.now c.face_table-faces.result c.write-written.ensures.0))
+    sym (length-take-le _ _ (key-within c.sheet_room-sheet.result c.write.new.sheet c.write.auto.sheet _ _ c.in_ok-size.was c.args.table.now c.args.word.now c.face_table-faces.result c.write.ensures.0))

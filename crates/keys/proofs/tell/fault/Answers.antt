@@ -3,11 +3,11 @@ use Rattle.std.proofs.Common.{arith}
 use Rattle.keys.proofs.Bounds.{fault-within}
 use Rattle.keys.proofs.tell.fault.Goals as goal
 
-pub overflow_add-end : goal.overflow_add-end
-overflow_add-end g c = omega (arith, fault-within _ _ _ _ c.spell-spelling.ensures)
+pub overflow_add-fault : goal.overflow_add-fault
+overflow_add-fault g c = omega (arith, fault-within _ _ _ _ c.in-Err.ensures)
 
-pub overflow_add-spelling : goal.overflow_add-spelling
-overflow_add-spelling g c = omega (arith, fault-within _ _ _ _ c.spell-spelling.ensures)
+pub overflow_add-fault-2 : goal.overflow_add-fault-2
+overflow_add-fault-2 g c = omega (arith, fault-within _ _ _ _ c.in-Err.ensures)
 
 pub slice_bounds-character-end : goal.slice_bounds-character-end
-slice_bounds-character-end g c = omega (arith, fault-within _ _ _ _ c.spell-spelling.ensures)
+slice_bounds-character-end g c = omega (arith, fault-within _ _ _ _ c.in-Err.ensures)

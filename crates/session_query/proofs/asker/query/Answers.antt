@@ -1,37 +1,35 @@
--- No line, a malformed one, one that is followed, one that is too long, and whether the bytes of the others are a query's.
-use mathlib.Core.Path.{sym, ◌∙◌}
-use lib.ListN.{replicate}
-use lib.Seq.{length-take-le}
-use native.Mathlib.Omega.{arith}
+-- No line, a malformed one, and whether a line is alone, not too long and a query's.
+use Rattle.std.proofs.Common.{◌<◌, replicate, length, refl, sym, ◌∙◌}
+use Rattle.std.proofs.lemmas.Result.{err_from_is_err_and}
+use borrow.Author.Tests.{eqb-true}
 use Rattle.session_query.specs.Query.{query_bytes}
 use Rattle.table_scanner.proofs.ScannedLine.{LineRead, line_read, line-bad}
-use Rattle.session_query.proofs.Query.{asks_none, asks-bad, asks-followed, asks-long, asks-other, asks-query}
+use Rattle.session_query.proofs.Queries.{some-text, asks_none, asks-bad, asks-followed, asks-long, asks-other, asks-query}
 use Rattle.session_query.proofs.asker.query.Goals as goal
-use Rattle.session_query.proofs.asker.query.Goals.{In-Says}
+use Rattle.session_query.proofs.asker.query.Goals.{In_ok-count, else-next-text-via-then-next-text+then-count-le-QUERY_BYTES+else-is_query, else-next-text-via-then-next-text+else-count-le-QUERY_BYTES, else-next-text-via-else-next-text}
 
 -- the line, well formed
-line : (c : In-Says)
-    → LineRead c.args.text.now 0 c.in-Says.count c.in-Says.next (replicate query_bytes 0) c.scan-line.new.bytes
-line c = line_read _ 0 (omega (arith, c.if-text-eq0.false)) c.scan-line.ensures.0 c.in-Says.is c.scan-line.ensures.1
+line : (c : In_ok-count) → LineRead c.args.text.now 0 c.in_ok-count.field-0.count c.in_ok-count.field-0.next (replicate query_bytes 0) c.scan.new.bytes
+line c = line_read _ 0 (some-text c.args.text.now c.if-is_empty.ensures) c.scan.ensures.0 c.in_ok-count.was c.scan.ensures.1
 
-pub returns-then-text-eq0 : goal.returns-then-text-eq0
-returns-then-text-eq0 c = asks_none c.args.text.now c.if-text-eq0.true c.none.result c.none.ensures
+pub returns-then-is_empty : goal.returns-then-is_empty
+returns-then-is_empty c = asks_none c.args.text.now (eqb-true (length c.args.text.now) 0 (sym c.if-is_empty.ensures)) _ refl
 
-pub returns-in_default : goal.returns-in_default
-returns-in_default c =
-    asks-bad _ (line-bad _ 0 (omega (arith, c.if-text-eq0.false)) c.scan-line.ensures.0 c.in_default.is) c.none-in_default.result c.none-in_default.ensures
-
-pub returns-then-next-text : goal.returns-then-next-text
-returns-then-next-text c = asks-followed _ (line (goal.at.returns-then-next-text c).In-Says) c.none-then-next-text.result c.none-then-next-text.ensures (λ e. omega arith)
-
-pub returns-then-count-gt-QUERY_BYTES : goal.returns-then-count-gt-QUERY_BYTES
-returns-then-count-gt-QUERY_BYTES c = asks-long _ (line (goal.at.returns-then-count-gt-QUERY_BYTES c).In-Says) c.none-then-count-gt-QUERY_BYTES.result c.none-then-count-gt-QUERY_BYTES.ensures c.if-count-gt-QUERY_BYTES.true
-
-pub slice_bounds-is_query-end : goal.slice_bounds-is_query-end
-slice_bounds-is_query-end c = sym (length-take-le _ _ (omega (arith, c.if-count-gt-QUERY_BYTES.false, c.scan-line.auto)))
+pub returns-in_err-count : goal.returns-in_err-count
+returns-in_err-count c =
+    let p = err_from_is_err_and c.from_residual.result c.from_residual.ensures.1 in
+    let some : 0 < length c.args.text.now = some-text c.args.text.now c.if-is_empty.ensures in
+    let bad = line-bad _ 0 some c.scan.ensures.0 c.in_err-count.was in
+    rw (p.1, p.2, bad.0) (asks-bad c.args.text.now bad.1 _ refl)
 
 pub returns-then-is_query : goal.returns-then-is_query
-returns-then-is_query c = asks-query _ (line (goal.at.returns-then-is_query c).In-Says) c.if-count-gt-QUERY_BYTES.false c.if-next-text.false (sym c.if-is_query.true ∙ c.is_query.ensures)
+returns-then-is_query c = asks-query _ (line (goal.at.returns-then-is_query c).In_ok-count) c.if-count-le-QUERY_BYTES.true c.if-next-text.true (sym c.if-is_query.true ∙ c.is_query.ensures)
 
-pub returns : goal.returns
-returns c = asks-other _ (line (goal.at.returns c).In-Says) c.if-count-gt-QUERY_BYTES.false (sym c.if-is_query.false ∙ c.is_query.ensures) c.none-2.result c.none-2.ensures
+pub returns-else-next-text : goal.returns-else-next-text
+returns-else-next-text c =
+    let l = line (goal.at.returns-else-next-text c).In_ok-count in
+    elim c.else-next-text.branch [
+      | else-next-text-via-then-next-text+then-count-le-QUERY_BYTES+else-is_query w ↦ asks-other _ l w.if-count-le-QUERY_BYTES.true (sym w.if-is_query.false ∙ w.is_query.ensures) _ refl
+      | else-next-text-via-then-next-text+else-count-le-QUERY_BYTES w ↦ asks-long _ l _ refl w.if-count-le-QUERY_BYTES.false
+      | else-next-text-via-else-next-text w ↦ asks-followed _ l _ refl w.if-next-text.false
+    ]

@@ -1,11 +1,13 @@
 -- At every turn what is passed and what is left through the line that is looked for add up to the table's text.
-use Prim.Native.Nat.{◌-◌}
-use lib.ListN.{length}
+use Rattle.std.proofs.Common.{◌≡◌, drop}
+use Rattle.std.specs.Slice.Iter.{split_inclusive_rest}
 use Rattle.session_query.proofs.Parts.{Counted}
 use Rattle.session_query.proofs.splitter.table_end.Given as goal
 
-abbrev pub invariant-loop-at : goal.invariant-loop-at
-invariant-loop-at l = Counted l.text l.at
-
-abbrev pub decreases-loop-at : goal.decreases-loop-at
-decreases-loop-at l = length l.text - l.at
+abbrev pub invariant-loop-line : goal.invariant-loop-line
+invariant-loop-line l = record {
+  callable : (goal.iterator-loop-line).can_next l.line-iterator;
+  finite : (goal.iterator-loop-line).is_finite l.line-iterator;
+  rest : split_inclusive_rest l.line-iterator ≡ drop l.end l.text;
+  counted : Counted l.text l.end;
+}

@@ -1,62 +1,45 @@
 -- At every turn, storing the lines of the readings that are left gives what storing all of them gives.
+use Prim.Native.Nat.{ℕ, ◌+◌}
 use native.Mathlib.Omega.{arith}
-use mathlib.Core.Path.{ap, ◌∙◌}
-use Rattle.faces.specs.Lent.{every, is_letter}
-use Rattle.faces.proofs.Lent.{reading-part, list-few}
-use Rattle.sheet.proofs.Stored.{putting_begun, putting_next, putting_room, putting_more, putting_done}
+use mathlib.Core.Path.{sym, ap, subst, ◌∙◌}
+use mathlib.Core.List.{List, map}
+use lib.Seq.{sets}
+use Rattle.std.specs.Iterator.Adapters.{enumerate_source, enumerate_count}
+use Rattle.faces.specs.declared.list.Readings.{Readings}
+use Rattle.faces.specs.Faces.{face_of}
+use Rattle.sheet_lines.specs.Lines.{reading_lines, joined}
+use Rattle.sheet.proofs.Stored.{Putting, putting_begun, putting_letters, putting_room, putting_more, putting_done}
 use Rattle.sheet.proofs.writer.put_readings.Goals as goal
 
-pub loop-place-init : goal.loop-place-init
-loop-place-init c =
-    let args = c.args in
-    putting_begun args.readings.now args.faces.now args.sheet.now args.at c.requires.readings_value
+pub loop-before-init : goal.loop-before-init
+loop-before-init c =
+    let bytes = c.args.readings.now in
+    let faces = c.args.faces.now in
+    let sheet = c.args.sheet.now in
+    let at = c.args.at in
+    let same = c.into_iter-before-iterator.ensures.into_iter_gives in
+    let count = ap (enumerate_count {I = Readings}) same ∙ c.enumerate-before-items.ensures.count in
+    let source = ap (λ x. (enumerate_source {I = Readings} x).0.now) same ∙ ap (λ (x : Readings). x.0.now) c.enumerate-before-items.ensures.source in
+    subst (λ (n : ℕ). Putting bytes faces sheet at sheet at (n + 1) (enumerate_source c.into_iter-before-iterator.result).0.now) (sym count)
+    (subst (λ (rest : List ℕ). Putting bytes faces sheet at sheet at 1 rest) (sym source) (putting_begun bytes faces sheet at c.requires.readings_value))
 
-pub letters_at-requires : goal.letters_at-requires
-letters_at-requires c =
-    let args = c.args in
-    let next = putting_next args.readings.now args.faces.now _ _ _ _ _ _ c.loop-place.invariant c.loop-place-test.true in
-    next.pair
+pub put_reading-to-requires-clause-letters_value : goal.put_reading-to-requires-clause-letters_value
+put_reading-to-requires-clause-letters_value c = putting_letters _ _ _ _ _ _ _ _ c.loop-before.invariant _ _ c.in-Some.ensures.steps.0
 
-pub overflow_add-end : goal.overflow_add-end
-overflow_add-end c =
-    let args = c.args in
-    let next = putting_next args.readings.now args.faces.now _ _ _ _ _ _ c.loop-place.invariant c.loop-place-test.true in
-    omega (arith, next.room, c.letters_at.ensures.0)
+pub put_reading-to-requires-clause-letters_in_bounds : goal.put_reading-to-requires-clause-letters_in_bounds
+put_reading-to-requires-clause-letters_in_bounds c =
+    let room = putting_room _ _ _ _ _ _ _ _ c.loop-before.invariant _ _ c.in-Some.ensures.steps.0 in
+    omega (arith, room, c.loop-before.invariant.same, c.requires.readings_in_bounds)
 
-pub slice_bounds-put_reading-end : goal.slice_bounds-put_reading-end
-slice_bounds-put_reading-end c =
-    let args = c.args in
-    let next = putting_next args.readings.now args.faces.now _ _ _ _ _ _ c.loop-place.invariant c.loop-place-test.true in
-    omega (arith, next.room, c.letters_at.ensures.0)
-
-pub put_reading-to-requires : goal.put_reading-to-requires
-put_reading-to-requires c =
-    let args = c.args in
-    let part = reading-part args.readings.now c.loop-place.place c.letters_at.result c.letters_at.ensures.0 in
-    let next = putting_next args.readings.now args.faces.now _ _ _ _ _ _ c.loop-place.invariant c.loop-place-test.true in
-    let room = putting_room args.readings.now args.faces.now _ _ _ _ _ _ c.loop-place.invariant _ c.letters_at.result c.loop-place-test.true c.letters_at.ensures.0 part in
-    record {
-      letters_value = ap (every is_letter) part ∙ next.letters;
-      letters_in_bounds = omega (arith, room.0, c.loop-place.invariant.same, c.requires.readings_in_bounds);
-    }
-
-pub overflow_add-n : goal.overflow_add-n
-overflow_add-n c =
-    let args = c.args in
-    let part = reading-part args.readings.now c.loop-place.place c.letters_at.result c.letters_at.ensures.0 in
-    let room = putting_room args.readings.now args.faces.now _ _ _ _ _ _ c.loop-place.invariant _ c.letters_at.result c.loop-place-test.true c.letters_at.ensures.0 part in
-    omega (arith, room.1, list-few args.readings.now c.requires.readings_value)
-
-pub loop-place-preserved : goal.loop-place-preserved
-loop-place-preserved c =
-    let args = c.args in
-    let part = reading-part args.readings.now c.loop-place.place c.letters_at.result c.letters_at.ensures.0 in
-    putting_more args.readings.now args.faces.now _ _ _ _ _ _ c.loop-place.invariant _ c.letters_at.result c.loop-place-test.true c.letters_at.ensures.0 part _ _ c.put_reading-to.auto.sheet c.put_reading-to.ensures.0 c.put_reading-to.ensures.1
-
-pub shape_of-sheet : goal.shape_of-sheet
-shape_of-sheet c = c.loop-place.invariant.same
+pub loop-before-preserved : goal.loop-before-preserved
+loop-before-preserved c =
+    let step = c.in-Some.ensures.steps in
+    let faces = c.args.faces.now in
+    let lines = map (face_of faces) c.in-Some.reading.now in
+    let put = c.put_reading-to.ensures in
+    subst (λ (n : ℕ). Putting c.args.readings.now faces c.args.sheet.now c.args.at c.put_reading-to.new.sheet c.put_reading-to.result (n + 1) (enumerate_source c.next.new.self).0.now) (sym step.2)
+    (putting_more _ _ _ _ _ _ _ _ c.loop-before.invariant _ _ step.0 _ _ c.put_reading-to.auto.sheet put.0
+    (put.1 ∙ ap (λ (n : ℕ). sets c.loop-before.sheet c.loop-before.to (joined (reading_lines (n + 1) lines))) step.1))
 
 pub returns : goal.returns
-returns c =
-    let args = c.args in
-    putting_done args.readings.now args.faces.now _ _ _ _ _ _ c.loop-place.invariant c.loop-place-test.false
+returns c = putting_done _ _ _ _ _ _ _ _ c.loop-before.invariant c.in-None.ensures.steps.0.1

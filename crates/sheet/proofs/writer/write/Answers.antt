@@ -2,8 +2,6 @@
 use native.Mathlib.Omega.{arith}
 use mathlib.Core.Path.{sym, ap, ◌∙◌}
 use Rattle.destination.specs.Told.{stored_told}
-use Rattle.table_format.proofs.Tests.{and_right}
-use Rattle.faces.specs.Faces.{faces_hold}
 use Rattle.sheet.proofs.Calls.{write_is, write_leaves, write_fault, write_short, write_refused}
 use Rattle.sheet.proofs.writer.write.Goals as goal
 
@@ -13,20 +11,12 @@ returns-then-not-holds c =
     let fault = (write_fault args.readings.now args.faces.now args.ended args.sheet.now).1 (sym c.holds.ensures ∙ c.if-not-holds.true) in
     (ap stored_told (sym fault), sym (write_refused args.readings.now args.faces.now args.ended args.sheet.now _ fault))
 
-pub size_of-size-requires : goal.size_of-size-requires
-size_of-size-requires c = and_right (faces_hold c.args.faces.now) _ (sym c.holds.ensures ∙ c.if-not-holds.false)
-
 pub returns-then-sheet-size : goal.returns-then-sheet-size
 returns-then-sheet-size c =
     let args = c.args in
     let holds = sym c.holds.ensures ∙ c.if-not-holds.false in
     let short = (write_short args.readings.now args.faces.now args.ended args.sheet.now).1 (holds, omega (arith, c.size_of-size.ensures, c.if-sheet-size.true)) in
     (ap stored_told (sym short), sym (write_refused args.readings.now args.faces.now args.ended args.sheet.now _ short))
-
-pub write_lines-requires : goal.write_lines-requires
-write_lines-requires c =
-    let holds = sym c.holds.ensures ∙ c.if-not-holds.false in
-    record { readings_value = and_right (faces_hold c.args.faces.now) _ holds; readings_in_bounds = omega (arith, c.size_of-size.ensures) }
 
 pub returns : goal.returns
 returns c =

@@ -1,58 +1,33 @@
 -- At every turn the arcs to come stand behind those that are there.
-use Prim.Native.Nat.{ℕ}
+use Prim.Native.Nat.{ℕ, ◌+◌}
 use native.Mathlib.Omega.{arith}
-use mathlib.Core.Path.{ap, ◌∙◌}
-use lib.ListN.{get_or}
+use mathlib.Core.Path.{◌≡◌, sym, ap, ap₂, subst, ◌∙◌}
 use lib.Seq.{sets}
+use Rattle.std.proofs.Common.{Some}
 use Rattle.table_format.specs.Loaded.{arc_cells}
 use Rattle.table_format.specs.Cells.{arc_as}
-use Rattle.trie_states.specs.Tree.{child_arc}
-use Rattle.trie.proofs.Storing.{going_none, going_on, going_more, going_done}
+use Rattle.trie_states.specs.Tree.{letter_of, first_of, next_of, child_arc}
+use Rattle.trie.proofs.Storing.{GoingAll, going_on, going_more, going_done, steps_left, steps-fewer}
 use Rattle.trie.proofs.cells.put_children.Goals as goal
 
-pub loop-child-init : goal.loop-child-init
-loop-child-init c = let args = c.args in going_none (child_arc (λ j. get_or args.letters.now j 0) args.state) args.next.now args.cells.now args.at args.first
+pub loop-next-smaller : goal.loop-next-smaller
+loop-next-smaller c =
+    let links = c.args.links.now in
+    let room = c.requires.room in
+    let on = going_on c.loop-next.invariant c.in-Some.is room.0 room.1 in
+    let from : steps_left (next_of links c.from-k.result) ≡ steps_left (next_of links c.in-Some.child) = ap (λ (i : ℕ). steps_left (next_of links i)) c.from-k.ensures in
+    let was : steps_left c.loop-next.next ≡ steps_left (Some c.in-Some.child) = ap steps_left c.in-Some.is in
+    omega (arith, from, was, steps-fewer (next_of links c.in-Some.child) c.in-Some.child on.0 on.1)
 
-pub bounds-letters-k : goal.bounds-letters-k
-bounds-letters-k c = omega (arith, c.cell_as_index-k.ensures.0, c.requires.next_len.1)
-
-pub put_arc-requires : goal.put_arc-requires
-put_arc-requires c =
-    let args = c.args in
-    let room = c.requires.by_index in
-    omega (arith, (going_on (child_arc (λ j. get_or args.letters.now j 0) args.state) args.next.now args.cells.now args.at args.first c.loop-child.cells c.loop-child.to c.loop-child.child c.loop-child.invariant c.loop-child-test.true room.0 room.1).1, c.loop-child.invariant.0, room.2)
-
-pub overflow_add-to : goal.overflow_add-to
-overflow_add-to c =
-    let args = c.args in
-    let room = c.requires.by_index in
-    omega (arith, (going_on (child_arc (λ j. get_or args.letters.now j 0) args.state) args.next.now args.cells.now args.at args.first c.loop-child.cells c.loop-child.to c.loop-child.child c.loop-child.invariant c.loop-child-test.true room.0 room.1).1, room.2)
-
-pub offset_bounds-next-k : goal.offset_bounds-next-k
-offset_bounds-next-k c = omega (arith, c.cell_as_index-k.ensures.1)
-
-pub bounds-next-k : goal.bounds-next-k
-bounds-next-k c = omega (arith, c.cell_as_index-k.ensures.0, c.requires.next_len.0)
-
-pub loop-child-smaller : goal.loop-child-smaller
-loop-child-smaller c =
-    let args = c.args in
-    let room = c.requires.by_index in
-    let same = ap (λ (k : ℕ). get_or args.next.now k 0) c.cell_as_index-k.ensures.0 in
-    omega (arith, same, (going_on (child_arc (λ j. get_or args.letters.now j 0) args.state) args.next.now args.cells.now args.at args.first c.loop-child.cells c.loop-child.to c.loop-child.child c.loop-child.invariant c.loop-child-test.true room.0 room.1).0)
-
-pub loop-child-preserved : goal.loop-child-preserved
-loop-child-preserved c =
-    let args = c.args in
-    let same = c.cell_as_index-k.ensures.0 in
-    let letter = c.byte_as_cell-letter.ensures.0 ∙ ap (λ (k : ℕ). get_or args.letters.now k 0) same in
-    let put = c.put_arc.ensures ∙ ap (λ (x : ℕ). sets c.loop-child.cells c.loop-child.to (arc_cells (arc_as args.state x x c.loop-child.child))) letter in
-    going_more (child_arc (λ j. get_or args.letters.now j 0) args.state) args.next.now args.cells.now args.at args.first c.loop-child.cells c.loop-child.to c.loop-child.child c.loop-child.invariant c.loop-child-test.true _ put _ (ap (λ (k : ℕ). get_or args.next.now k 0) same)
-
-pub shape_of-cells : goal.shape_of-cells
-shape_of-cells c = c.loop-child.invariant.0
+pub loop-next-preserved : goal.loop-next-preserved
+loop-next-preserved c =
+    let tree = c.args.tree.now in
+    let links = c.args.links.now in
+    let letter : c.from-letter.result ≡ letter_of tree c.in-Some.child = c.from-letter.ensures ∙ ap (letter_of tree) c.from-k.ensures in
+    let put = c.put.ensures ∙ ap (sets c.loop-next.cells c.loop-next.to) (c.cells.ensures ∙ ap₂ (λ (x y : ℕ). arc_cells (arc_as c.args.state x x y)) letter c.from.ensures) in
+    subst
+    (λ (i : ℕ). GoingAll (child_arc (letter_of tree) c.args.state) (next_of links) c.args.cells.now c.args.at (first_of links c.args.state) c.put.new.destination (c.loop-next.to + 5) (next_of links i))
+    (sym c.from-k.ensures) (going_more c.loop-next.invariant c.in-Some.is put)
 
 pub returns : goal.returns
-returns c =
-    let args = c.args in
-    going_done (child_arc (λ j. get_or args.letters.now j 0) args.state) args.next.now args.cells.now args.at args.first c.loop-child.cells c.loop-child.to c.loop-child.child c.loop-child.invariant c.loop-child-test.false
+returns c = going_done c.loop-next.invariant c.in_default.is
