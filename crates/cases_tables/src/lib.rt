@@ -26,8 +26,11 @@ fn tell(rt: &impl Print, answer: Result<usize, Refusal>, unit: &str) {
 
 // Fills the cells with numbers, and with the mark after their end and for those that no cell holds.
 fn fill(cells: &mut [u16], list: Numbers) {
-    for (k, cell) in cells.iter_mut().enumerate() {
-        *cell = u16::try_from(list.at(k)).unwrap_or(CELL_MARK);
+    for (cell, number) in cells.iter_mut().zip(list.0) {
+        *cell = u16::try_from(*number).unwrap_or(CELL_MARK);
+    }
+    if let Some(rest) = cells.get_mut(list.0.len()..) {
+        rest.fill(CELL_MARK);
     }
 }
 
@@ -76,7 +79,7 @@ pub fn again(rt: &impl Print, case: Case, cells: &mut [u16]) {
 }
 
 fn write_into(rt: &impl Print, cells: &[u16], text: &mut [u8]) {
-    let told = if table_check::check(cells).is_some() {
+    let told = if table_check::check(cells).is_ok() {
         "passes"
     } else {
         "fails"
@@ -99,10 +102,8 @@ pub fn load(rt: &impl Print, case: Case, cells: &mut [u16]) {
 // `@` CELLS FROM TO: the index of first arcs that the check of so many cells tells, from one state to another; where it fails, zeros.
 pub fn index(rt: &impl Print, case: Case, cells: &[u16]) {
     let size = case.list.amount(0, cells.len());
-    let first = match table_check::check(&cells[..size]) {
-        Some(checked) => checked.first,
-        None => [0; 257],
-    };
+    let (Ok(checked) | Err(checked)) = table_check::check(&cells[..size]);
+    let first = checked.first;
     let from = case.list.amount(1, first.len());
     show::cells(rt, &first, from, case.list.amount(2, first.len()));
 }

@@ -17,7 +17,7 @@ use Rattle.table_format.specs.Rules.{keeps_rules}
 use Rattle.table_format.specs.Cells.{arcs_as}
 use Rattle.table_format.specs.Index.{first_index}
 use Rattle.table_format.specs.Loaded.{counts_in, extent, table_in}
-use Rattle.std.specs.Prelude.{Some}
+use Rattle.std.specs.Prelude.{Ok}
 use Rattle.table_check.specs.declared.Checked.{Checked}
 use Rattle.table_check.specs.Check.{LaidOut, layout_of, checked}
 use Rattle.table_check.proofs.Passing.{indexed}
@@ -155,6 +155,6 @@ module _ (cells upper lower first : List ℕ) (run : Run) (P : Admitted cells ru
     search_outcome e r c o S = call-outcome stack n buffer r c o (place_searched setup classes initials terminals arcs upper lower run stack n buffer e r c o S)
 
 -- what the table check and the query tell
-pub admitted_by : (cells : List ℕ) (task : ℕ) (upper lower : List ℕ) (ceiling : ℕ) (r : Checked) → Asks cells task upper lower ceiling → Some r ≡ checked cells → Admitted cells task upper lower ceiling r.first
+pub admitted_by : (cells : List ℕ) (task : ℕ) (upper lower : List ℕ) (ceiling : ℕ) (r : Checked) → Asks cells task upper lower ceiling → Ok r ≡ checked cells → Admitted cells task upper lower ceiling r.first
 admitted_by cells task upper lower ceiling r Q e =
     record { asks = Q.asks; task-is = Q.task-is; loads = Q.loads; runs-is = Q.runs-is; index = indexed cells r e }

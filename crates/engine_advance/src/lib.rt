@@ -14,10 +14,11 @@ use machine::{Called, Run};
 use refusal::StateCause;
 use table_check::Checked;
 
-// 21, then the steps, where 20, 11, 10 and 39 are not given.
+// 21, then the steps, where 20, 11, 10 and 39 are not given. The rows of the classes come by value beside what the check tells, and are lent on.
 fn resume(
     table: &[u16],
     checked: &Checked,
+    classes: [[u8; 16]; 8],
     upper: &[u8],
     lower: &[u8],
     run: Run,
@@ -27,11 +28,11 @@ fn resume(
 ) -> Called
     requires admitted { Admitted table.now run.task upper.now lower.now run.ceiling checked.now.first }
     requires layout { checked.now.layout ≡ layout_of (counts_in table.now) }
+    requires rows { classes ≡ (table_in table.now).classes }
     ensures { OutcomeIs (outcome table.now upper.now lower.now run stack.old allowance output.old)
         (told result.answer) result.run stack.new output.new }
 {
     let at = checked.layout;
-    let classes = table_classes::rows(table);
     let setting = Setting {
         setup: Setup {
             states: at.states,
@@ -66,11 +67,14 @@ pub fn advance(
     ensures { OutcomeIs (outcome table.now upper.now lower.now run stack.old allowance output.old)
         (told result.answer) result.run stack.new output.new }
 {
-    let Some(checked) = table_check::check(table) else {
+    let Ok(checked) = table_check::check(table) else {
         return engine_search::refused(0, StateCause::LoadedTable.into(), run);
     };
     if let Err(cause) = engine_admission::admitted(run.task, upper, lower, run.ceiling) {
         return engine_search::refused(0, cause.into(), run);
     }
-    resume(table, &checked, upper, lower, run, stack, allowance, output)
+    let classes = table_classes::rows(table);
+    resume(
+        table, &checked, classes, upper, lower, run, stack, allowance, output,
+    )
 }

@@ -55,7 +55,7 @@ module _ (cells : List ℕ) (task : ℕ) (upper lower : List ℕ) (ceiling : ℕ
   start-turned r a s e = is-started (e ∙ ap (λ (w : Asked). started_as w (first_run task ceiling)) (sym a))
 
   -- a search that may run, by what the table check tells and what the admission answers
-  module _ (r : Checked) (is : Some r ≡ checked cells) (f : (table : List ℕ) → loaded table ≡ some (table_in table) → Ok tt ≡ admission_of (asked table task upper lower ceiling)) where
+  module _ (r : Checked) (is : Ok r ≡ checked cells) (f : (table : List ℕ) → loaded table ≡ some (table_in table) → Ok tt ≡ admission_of (asked table task upper lower ceiling)) where
     A : Asks cells task upper lower ceiling
     A = asking_passes task upper lower ceiling cells (passed cells r is) (f cells (passed cells r is))
 

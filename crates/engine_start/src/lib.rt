@@ -50,7 +50,7 @@ fn ready(task: u32, ceiling: u32) -> Started
 pub fn start(table: &[u16], task: u32, upper: &[u8], lower: &[u8], ceiling: u32) -> Started
     ensures { StartedIs (started table.now task upper.now lower.now ceiling) result }
 {
-    let Some(checked) = table_check::check(table) else {
+    let Ok(checked) = table_check::check(table) else {
         return refused(Refusal::State(StateCause::LoadedTable));
     };
     if let Err(cause) = engine_admission::admitted(task, upper, lower, ceiling) {

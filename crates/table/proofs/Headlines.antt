@@ -11,7 +11,8 @@ use Rattle.refusal.specs.declared.InputCause.{InputCause}
 use Rattle.refusal.specs.declared.StateCause.TheVariants.{LoadedTable, DestinationShort}
 use Rattle.refusal.specs.declared.Refusal.{Refusal}
 use Rattle.refusal.specs.declared.Refusal.TheVariants.{Input, State}
-use Rattle.std.specs.Prelude.{Ok, Err, IsSome}
+use Rattle.std.specs.Prelude.{Ok, Err}
+use Rattle.std.specs.Result.{IsOk}
 use Rattle.table_format.specs.Table.{Table}
 use Rattle.table_format.specs.Rules.{keeps_rules}
 use Rattle.table_format.specs.Loaded.{cells_of, counts_in, extent, loaded}
@@ -24,7 +25,7 @@ use Rattle.table.proofs.Calls as calls
 
 -- THE CHECK: "20. The loaded table breaks a rule above." It passes exactly the cells that hold a table that keeps the rules (`loads`,
 -- table_format/proofs/Headlines).
-pub check_is : (c : List ℕ) → IsSome (checked c) ↔ ((t : Table) × (loaded c ≡ some t))
+pub check_is : (c : List ℕ) → IsOk (checked c) ↔ ((t : Table) × (loaded c ≡ some t))
 check_is = passing.check_is
 
 -- THE READER, on any text and destination.

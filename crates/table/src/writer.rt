@@ -59,7 +59,7 @@ pub fn write(cells: &[u16], text: &mut [u8]) -> Result<usize, Refusal>
     ensures { (stored_told result ≡ stored_told (write_answer cells.now text.old))
         × (text.new ≡ write_text cells.now text.old) }
 {
-    let Some(_) = table_check::check(cells) else {
+    let Ok(_) = table_check::check(cells) else {
         return Err(Refusal::State(StateCause::LoadedTable));
     };
     let size = text_size(cells);

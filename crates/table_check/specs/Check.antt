@@ -1,5 +1,5 @@
--- What the table check tells, where the cells hold a table that keeps the rules: where its parts stand, where each state's arcs begin.
-use Rattle.std.specs.Prelude.{ℕ, ◌-◌, ◌≤◌, ◌≡◌, List, length, take, drop, Option, None, Some}
+-- What the table check tells: whether the cells hold a table that keeps the rules, where its parts stand, where each state's arcs begin.
+use Rattle.std.specs.Prelude.{ℕ, ◌-◌, ◌≤◌, ◌≡◌, List, length, take, drop, replicate, Result, Ok, Err}
 use Rattle.std.proofs.Math.Option as maybe
 use Rattle.table_check.specs.declared.Checked.{Checked}
 use Rattle.table_check.specs.declared.Layout.{Layout}
@@ -30,10 +30,10 @@ terminals_part cells l = take (l.arcs - l.terminals) (drop l.terminals cells)
 abbrev pub arcs_part : List ℕ → Layout → List ℕ
 arcs_part cells l = take (l.end - l.arcs) (drop l.arcs cells)
 
--- the table check, where l is the layout by the counts
-abbrev pub checked_as : Layout → maybe.Option Table → Option Checked
-checked_as l maybe.none = None
-checked_as l (maybe.some t) = Some (record { layout = l; first = first_arcs t })
+-- the table check, where l is the layout by the counts; a table that is refused has it too, and an index of zeros
+abbrev pub checked_as : Layout → maybe.Option Table → Result Checked Checked
+checked_as l maybe.none = Err (record { layout = l; first = replicate 257 0 })
+checked_as l (maybe.some t) = Ok (record { layout = l; first = first_arcs t })
 
-unfoldable pub checked : List ℕ → Option Checked
+unfoldable pub checked : List ℕ → Result Checked Checked
 checked cells = checked_as (layout_of (counts_in cells)) (loaded cells)

@@ -50,7 +50,7 @@ impl Layout {
     }
 }
 
-// What the table check tells of a table that keeps the rules: where its parts stand, and where each state's arcs begin.
+// What the table check tells: where a table's parts stand, and where each state's arcs begin.
 #[derive(Clone, Copy)]
 pub struct Checked {
     pub layout: Layout,
@@ -150,15 +150,18 @@ fn keeps_rules(cells: &[u16], at: Layout) -> bool
         && arcs_hold(rows, at.arcs(cells), at.states)
 }
 
-// The table check.
-pub fn check(cells: &[u16]) -> Option<Checked>
+// The table check: Ok where the table keeps the rules. Of one that breaks a rule it tells the layout by the counts too, and an index of zeros.
+pub fn check(cells: &[u16]) -> Result<Checked, Checked>
     ensures { result ≡ checked cells.now }
 {
     let layout = layout_of(cells);
     if layout.end <= cells.len() && keeps_rules(cells, layout) {
         let first = first_arcs(layout.arcs(cells), layout.states);
-        Some(Checked { layout, first })
+        Ok(Checked { layout, first })
     } else {
-        None
+        Err(Checked {
+            layout,
+            first: [0; 257],
+        })
     }
 }

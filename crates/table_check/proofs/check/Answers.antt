@@ -3,7 +3,7 @@ use mathlib.Core.Path.{◌≡◌, sym, ap, ap₂, subst, ◌∙◌}
 use mathlib.Core.Bool.{true}
 use mathlib.Core.List.{List}
 use Prim.Native.Nat.{ℕ, ◌≤◌}
-use Rattle.std.specs.Prelude.{Some}
+use Rattle.std.specs.Prelude.{Ok}
 use Rattle.table_check.specs.declared.Layout.{Layout}
 use Rattle.table_format.specs.Loaded.{counts_in}
 use Rattle.table_format.specs.Cells.{arc_count, arcs_as}
@@ -32,7 +32,7 @@ pub returns-then-keeps_rules : goal.returns-then-keeps_rules
 unfolding checked
 returns-then-keeps_rules c =
     let l = (laid_out c.args.cells.now c.layout_of-layout.result c.layout_of-layout.ensures c.if-layout-cells.true) in
-    ap₂ (λ (x : Layout) (f : List ℕ). Some (record { layout = x; first = f })) c.layout_of-layout.ensures
+    ap₂ (λ (x : Layout) (f : List ℕ). Ok (record { layout = x; first = f })) c.layout_of-layout.ensures
     (c.first_arcs-first.ensures ∙ ap (λ (part : List ℕ). first_index c.layout_of-layout.result.states (arcs_as part)) c.arcs.ensures.part ∙ index-part c.args.cells.now c.layout_of-layout.result l)
     ∙ ap (checked_as (layout_of (counts_in c.args.cells.now))) (sym (loaded-kept c.args.cells.now l.whole (sym c.keeps_rules.ensures ∙ c.if-keeps_rules.true)))
 
@@ -40,6 +40,6 @@ pub returns-else-layout-cells : goal.returns-else-layout-cells
 unfolding checked
 returns-else-layout-cells c =
     elim c.else-layout-cells.branch [
-      | else-layout-cells-via-then-layout-cells+else-keeps_rules w ↦ ap (checked_as (layout_of (counts_in c.args.cells.now))) (sym (loaded-broken c.args.cells.now (sym w.keeps_rules.ensures ∙ w.if-keeps_rules.false)))
-      | else-layout-cells-via-else-layout-cells w ↦ ap (checked_as (layout_of (counts_in c.args.cells.now))) (sym (loaded-short c.args.cells.now (omega (arith, ap (λ (x : Layout). x.end) c.layout_of-layout.ensures, w.if-layout-cells.false))))
+      | else-layout-cells-via-then-layout-cells+else-keeps_rules w ↦ ap₂ checked_as c.layout_of-layout.ensures (sym (loaded-broken c.args.cells.now (sym w.keeps_rules.ensures ∙ w.if-keeps_rules.false)))
+      | else-layout-cells-via-else-layout-cells w ↦ ap₂ checked_as c.layout_of-layout.ensures (sym (loaded-short c.args.cells.now (omega (arith, ap (λ (x : Layout). x.end) c.layout_of-layout.ensures, w.if-layout-cells.false))))
     ]
