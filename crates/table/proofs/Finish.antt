@@ -31,48 +31,45 @@ module _ (text destination : List ℕ) where
   unfolding read_answer read_cells
   from-parsed p r d e f g = (ap stored_told (f ∙ ap (λ (q : Parsed). read_as q destination) (sym e)), g ∙ ap (λ (q : Parsed). read_cells_as q destination) (sym e))
 
-  module _ {g : Result Gathered InputCause} (made : g ≡ gathered (parsed text)) where
+  module _ (g : Gathered) (made : g ≡ gathered (parsed text)) where
     as_parsed : (p : Parsed) → parsed text ≡ p → g ≡ gathered p
     as_parsed p h = made ∙ ap gathered h
 
-    pub left-fault : (f : InputCause) → g ≡ Err f → Left (Err (Input f)) destination
+    pub left-fault : (f : InputCause) → g.read ≡ Err f → Left (Err (Input f)) destination
     left-fault f e = go (parsed text) refl
       where
         go : (p : Parsed) → parsed text ≡ p → Left (Err (Input f)) destination
-        go (accepted t) h = let z : ◌≡◌ {A = ℕ} 0 1 = cc (sym e ∙ as_parsed (accepted t) h) in absurd (omega arith)
+        go (accepted t) h = let z : ◌≡◌ {A = ℕ} 0 1 = cc (sym e ∙ ap (λ (x : Gathered). x.read) (as_parsed (accepted t) h)) in absurd (omega arith)
         go (turned_down cause) h =
-            let q : f ≡ cause = cc (sym e ∙ as_parsed (turned_down cause) h) in
+            let q : f ≡ cause = cc (sym e ∙ ap (λ (x : Gathered). x.read) (as_parsed (turned_down cause) h)) in
             from-parsed (turned_down cause) (Err (Input f)) destination h (ap (λ (x : InputCause). Err (Input x)) q) refl
 
-    module _ (held-in : Gathered) (e : g ≡ Ok held-in) where
+    module _ (n : ℕ) (e : g.read ≡ Ok n) where
       -- the text is a table's, and these are its cells
-      found : (t : Table) × (parsed text ≡ accepted t) × (held-in ≡ record { cells = filled_up (cells_of t); count = length (cells_of t) })
+      found : (t : Table) × (parsed text ≡ accepted t) × (n ≡ length (cells_of t))
       found = go (parsed text) refl
         where
-          go : (p : Parsed) → parsed text ≡ p → (t : Table) × (parsed text ≡ accepted t) × (held-in ≡ record { cells = filled_up (cells_of t); count = length (cells_of t) })
-          go (accepted t) h = (t, h, cc (sym e ∙ as_parsed (accepted t) h))
-          go (turned_down cause) h = let z : ◌≡◌ {A = ℕ} 0 1 = cc (sym e ∙ as_parsed (turned_down cause) h) in absurd (omega arith)
+          go : (p : Parsed) → parsed text ≡ p → (t : Table) × (parsed text ≡ accepted t) × (n ≡ length (cells_of t))
+          go (accepted t) h = (t, h, cc (sym e ∙ ap (λ (x : Gathered). x.read) (as_parsed (accepted t) h)))
+          go (turned_down cause) h = let z : ◌≡◌ {A = ℕ} 0 1 = cc (sym e ∙ ap (λ (x : Gathered). x.read) (as_parsed (turned_down cause) h)) in absurd (omega arith)
 
-      cells-found : held-in.cells ≡ filled_up (cells_of found.0)
-      cells-found = ap (λ (x : Gathered). x.cells) found.2
+      cells-found : g.cells ≡ filled_up (cells_of found.0)
+      cells-found = ap (λ (x : Gathered). x.cells) (as_parsed (accepted found.0) found.1)
 
-      count-found : held-in.count ≡ length (cells_of found.0)
-      count-found = ap (λ (x : Gathered). x.count) found.2
-
-      few : held-in.count ≤ most_cells
+      few : n ≤ most_cells
       few =
           let t = found.0 in
           let keeps = (read-text text t found.1).0 in
           let b = table-bounded t keeps in
-          omega (arith, count-found, length-cells t ((keeps-parts t).0 keeps).classes, b.states, b.initials, b.terminals, b.arcs)
+          omega (arith, found.2, length-cells t ((keeps-parts t).0 keeps).classes, b.states, b.initials, b.terminals, b.arcs)
 
-      pub read-room : held-in.count ≤ length held-in.cells
-      read-room = omega (arith, few, count-found, ap length cells-found, length-filled (cells_of found.0) (omega (arith, few, count-found)))
+      pub read-room : n ≤ length g.cells
+      read-room = omega (arith, few, found.2, ap length cells-found, length-filled (cells_of found.0) (omega (arith, few, found.2)))
 
-      held : take held-in.count held-in.cells ≡ cells_of found.0
-      held = ap (take held-in.count) cells-found ∙ take-filled (cells_of found.0) held-in.count count-found
+      held : take n g.cells ≡ cells_of found.0
+      held = ap (take n) cells-found ∙ take-filled (cells_of found.0) n found.2
 
       -- the cells are stored
-      pub left-stored : (r : Result ℕ Refusal) (d : List ℕ) → r ≡ stored_answer (take held-in.count held-in.cells) destination → d ≡ stored_cells (take held-in.count held-in.cells) destination → Left r d
+      pub left-stored : (r : Result ℕ Refusal) (d : List ℕ) → r ≡ stored_answer (take n g.cells) destination → d ≡ stored_cells (take n g.cells) destination → Left r d
       left-stored r d a b =
           from-parsed (accepted found.0) r d found.1 (a ∙ ap (λ (l : List ℕ). stored_answer l destination) held) (b ∙ ap (λ (l : List ℕ). stored_cells l destination) held)

@@ -12,6 +12,9 @@ pub fn read(text: &[u8], destination: &mut [u16]) -> Result<usize, Refusal>
     ensures { (stored_told result ≡ stored_told (read_answer text.now destination.old))
         × (destination.new ≡ read_cells text.now destination.old) }
 {
-    let Gathered { cells, count } = table_parser::read_table(text)?;
-    store(&cells[..count], destination)
+    let Gathered { read, cells } = table_parser::read_table(text);
+    match read {
+        Ok(count) => store(&cells[..count], destination),
+        Err(cause) => Err(Refusal::Input(cause)),
+    }
 }

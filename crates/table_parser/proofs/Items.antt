@@ -9,7 +9,6 @@ use lib.Seq.{sets}
 use Rattle.refusal.specs.declared.InputCause.{InputCause}
 use Rattle.refusal.specs.declared.InputCause.TheVariants.{Malformed, Misplaced, CountLimit}
 use Rattle.std.specs.Prelude.{Result, Ok, Err}
-use Rattle.table_parser.specs.declared.Gathered.{Gathered}
 use Rattle.table_format.specs.Table.{Table, Counts}
 use Rattle.table_format.specs.Classes.{class_count}
 use Rattle.table_format.specs.Rules.{unless, counts_hold, header_faults}
@@ -17,13 +16,13 @@ use Rattle.table_format.specs.Loaded.{arc_width, initials_at, most_cells, count_
 use Rattle.table_format.specs.Line.{lines_of, bytes_of}
 use Rattle.table_format.specs.Text.{line_bytes}
 use Rattle.table_rules.specs.Judge.{judged}
-use Rattle.table_format.specs.Parse.{is_header, in_place, LineKind, class, initial, terminal, arc, end, Progress, due, counts_from, class_from, kind_faults, bytes_faults, opening, parsed, onward, within, closed, empty_table, Parsed, turned_down, decide, parse_from}
+use Rattle.table_format.specs.Parse.{is_header, in_place, LineKind, class, initial, terminal, arc, end, Progress, due, counts_from, class_from, kind_faults, bytes_faults, opening, parsed, onward, within, closed, empty_table, Parsed, accepted, turned_down, decide, parse_from}
 use denote.Enum.Bare.{sameb}
 use Rattle.table_items.specs.contracts.LineKind.{the_type}
 use Rattle.table_items.specs.declared.LineKind.{LineKind as CodedKind}
 use Rattle.table_items.specs.declared.LineKind.TheVariants as Coded
 use Rattle.table_items.specs.Draft.{kind_said, filled_up, draft_cells, kind_after, Drafted, IsItem, place_of, filled_after, item_cells, item_key, Tracks}
-use Rattle.table_parser.specs.Gathered.{gathered, items_parsed, after_end}
+use Rattle.table_parser.specs.Gathered.{gathered, ReadInto, items_parsed, after_end}
 use Rattle.table_scanner.specs.Scan.{first_line}
 use Rattle.table_scanner.proofs.ScannedLine.{LineRead, LineBad}
 use Rattle.table_parser.proofs.ParseLine.{parse-line, parse-bad, parse-after}
@@ -114,6 +113,10 @@ module _ {c : Counts} {text : List ℕ} {start at lines filled top : ℕ} {cells
         few arc l h = omega (arith, f, w.states, w.initials, w.terminals, w.arcs, l.0, l.1, l.2)
         few end l h = absurd (h refl)
 
+  -- a refusal
+  pub out-refused : {f : InputCause} {r : Result ℕ InputCause} → All c text start ≡ turned_down f → r ≡ Err f → ReadInto (All c text start) r cells
+  out-refused {r = r} h e = subst (λ (p : Parsed). ReadInto p r cells) (sym h) e
+
   pub out_missing : length text ≤ at → All c text start ≡ turned_down Misplaced
   unfolding parse_from lines_of
   out_missing h = R.rest-is ∙ ap (λ (x : List ℕ). parse_from (within c R.table) (lines_of x)) (drop_of_length-le text h)
@@ -170,12 +173,14 @@ module _ {c : Counts} {text : List ℕ} {start at lines filled top : ℕ} {cells
       end_on : its_kind ≡ end → All c text start ≡ parse_from (closed R.table) (lines_of (drop next text))
       end_on d = onto ∙ ap (λ (p : Progress). parse_from p (lines_of (drop next text))) (onward-due c R.table end said d)
 
-      pub out-end : its_kind ≡ end → length text ≤ next → ◌≡◌ {A = Result Gathered InputCause} (Ok (record { cells = cells; count = filled })) (gathered (All c text start))
+      ended : its_kind ≡ end → length text ≤ next → All c text start ≡ accepted R.table
       unfolding parse_from lines_of
+      ended d h = end_on d ∙ ap (λ (s : List ℕ). parse_from (closed R.table) (lines_of s)) (drop_of_length-le text h)
+
+      pub out-end : its_kind ≡ end → length text ≤ next → ReadInto (All c text start) (Ok filled) cells
       out-end d h =
           let q : draft_cells c R.table ≡ cells_of R.table = end-cells R.tracks said d in
-          ap Ok (λ i. record { cells = (R.tracks.cells_are ∙ ap filled_up q) i; count = (R.tracks.filled_is ∙ ap length q) i })
-          ∙ ap gathered (sym (end_on d ∙ ap (λ (s : List ℕ). parse_from (closed R.table) (lines_of s)) (drop_of_length-le text h)))
+          subst (λ (p : Parsed). ReadInto p (Ok filled) cells) (sym (ended d h)) (ap Ok (R.tracks.filled_is ∙ ap length q), R.tracks.cells_are ∙ ap filled_up q)
 
       pub out-after : its_kind ≡ end → next < length text → All c text start ≡ turned_down (after_end (first_line (drop next text)))
       out-after d h = end_on d ∙ parse-after R.table (drop next text) (omega (arith, length-drop next text))
@@ -232,3 +237,13 @@ module _ {text : List ℕ} {count next : ℕ} {before bytes : List ℕ} (L : Lin
     pub header_on : counts_hold (counts_from first) ≡ true → parsed text ≡ items_parsed (counts_from first) (drop next text)
     unfolding onward
     header_on e = header_decided ∙ decide-kept earned _ (header_judged true e)
+
+-- What is gathered, from what was read into the cells.
+
+pub gathered-all : (p : Parsed) {r : Result ℕ InputCause} {cells : List ℕ} {n : ℕ} → ReadInto p r cells → r ≡ Ok n → record { read = Ok n; cells = cells } ≡ gathered p
+gathered-all (accepted t) h e = λ i. record { read = (sym e ∙ h.0) i; cells = h.1 i }
+gathered-all (turned_down f) h e = cc
+
+pub gathered-refused : (p : Parsed) {r : Result ℕ InputCause} (cells : List ℕ) {f : InputCause} → ReadInto p r cells → r ≡ Err f → gathered (turned_down f) ≡ gathered p
+gathered-refused (accepted t) cells h e = cc (h.0)
+gathered-refused (turned_down g) cells h e = ap (λ (x : InputCause). gathered (turned_down x)) (cc)

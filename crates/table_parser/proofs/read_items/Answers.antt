@@ -2,7 +2,7 @@ use Rattle.std.specs.Prelude.{Result, Err}
 use Rattle.std.proofs.lemmas.Result.{err_from_is_err_and}
 use Prim.Native.Nat.{ℕ, ◌≤◌}
 use native.Mathlib.Omega.{arith}
-use mathlib.Core.Path.{◌≡◌, sym, ap, subst, ◌∙◌}
+use mathlib.Core.Path.{◌≡◌, refl, sym, ap, subst, ◌∙◌}
 use mathlib.Core.List.{List}
 use lib.ListN.{length, get_or, replicate}
 use lib.Seq.{sets}
@@ -15,10 +15,9 @@ use Rattle.table_format.specs.Parse.{LineKind, due, kind_faults}
 use Rattle.refusal.specs.declared.InputCause.{InputCause}
 use Rattle.table_scanner.specs.Scan.{padded}
 use Rattle.table_items.specs.Draft.{kind_after, IsItem, filled_after, place_of, item_cells, item_key, Tracks}
-use Rattle.table_parser.specs.Gathered.{gathered}
 use Rattle.table_scanner.proofs.ScannedLine.{LineRead, line_read, line-bad}
 use Rattle.table_scanner.proofs.Padded.{byte_at}
-use Rattle.table_parser.proofs.Items.{is_end, is_no_end, ReadingOn, reading-start, long, due-code, few_bytes, class_below, drafted, item-is, out_missing, out-bad, out-broken, out-end, out-after, room, lines-few, reading-more}
+use Rattle.table_parser.proofs.Items.{is_end, is_no_end, ReadingOn, reading-start, long, due-code, few_bytes, class_below, drafted, item-is, out-refused, out_missing, out-bad, out-broken, out-end, out-after, room, lines-few, reading-more}
 use Rattle.table_parser.proofs.read_items.Goals as goal
 
 -- the line that was scanned in a turn, and its bytes in their array
@@ -46,13 +45,13 @@ module _ {n : Counts} {text : List ℕ} {start at lines filled top : ℕ} {cells
   earns e f = sym (f n R.table said R.tracks e bytes-are L.count-is)
 
 pub loop-at-init : goal.loop-at-init
-loop-at-init c = reading-start c.args.text.now c.args.start c.args.counted c.requires.0 c.requires.1 c.requires.2
+loop-at-init c = reading-start c.args.text.now c.args.start c.args.cells.now c.requires.0 c.requires.1 c.requires.2
 
 pub returns-in_err-count : goal.returns-in_err-count
 returns-in_err-count c =
     let p = err_from_is_err_and c.from_residual.result c.from_residual.ensures.1 in
     let bad = line-bad _ _ c.loop-at-test.true c.scan.ensures.0 c.in_err-count.was in
-    p.1 ∙ ap Err (p.2 ∙ bad.0) ∙ ap gathered (sym (out-bad c.loop-at.invariant bad.1))
+    out-refused c.loop-at.invariant (out-bad c.loop-at.invariant bad.1) (p.1 ∙ ap Err (p.2 ∙ bad.0))
 
 pub item_fault-requires : goal.item_fault-requires
 item_fault-requires c =
@@ -66,7 +65,7 @@ returns-in_err-item_fault c =
     let L = line_read _ _ c.loop-at-test.true c.scan.ensures.0 c.in_ok-count.was c.scan.ensures.1 in
     let k = kind-is R L c.kind_due-kind.ensures in
     let p = err_from_is_err_and c.from_residual-in_err-item_fault.result c.from_residual-in_err-item_fault.ensures.1 in
-    p.1 ∙ ap Err p.2 ∙ ap gathered (sym (out-broken R L _ (earns R L k c.item_fault.ensures ∙ c.in_err-item_fault.was)))
+    out-refused R (out-broken R L _ (earns R L k c.item_fault.ensures ∙ c.in_err-item_fault.was)) (p.1 ∙ ap Err p.2)
 
 pub returns-then-next-text : goal.returns-then-next-text
 returns-then-next-text c =
@@ -75,7 +74,7 @@ returns-then-next-text c =
     let k = kind-is R L c.kind_due-kind.ensures in
     let kept = earns R L k c.item_fault.ensures ∙ c.in_ok-item_fault.was in
     let at_end = sym k ∙ is_end _ (sym c.eq.ensures ∙ c.if-eq.true) in
-    ap Err c.after_end.ensures ∙ ap gathered (sym (out-after R L kept at_end c.if-next-text.true))
+    out-refused R (out-after R L kept at_end c.if-next-text.true) (ap Err c.after_end.ensures)
 
 pub returns-then-eq : goal.returns-then-eq
 returns-then-eq c =
@@ -128,4 +127,4 @@ loop-at-preserved c =
     (told.0 ∙ ap (λ (j : LineKind). filled_after j b filled) k, told.1 ∙ ap (λ (j : LineKind). sets cells (place_of j b filled) (item_cells j b)) k)
 
 pub returns : goal.returns
-returns c = ap gathered (sym (out_missing c.loop-at.invariant c.loop-at-test.false))
+returns c = out-refused c.loop-at.invariant (out_missing c.loop-at.invariant c.loop-at-test.false) refl

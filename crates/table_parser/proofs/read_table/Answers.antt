@@ -1,5 +1,3 @@
-use Rattle.std.specs.Prelude.{Err}
-use Rattle.std.proofs.lemmas.Result.{err_from_is_err_and}
 use Prim.Native.Nat.{ℕ, ◌<◌}
 use native.Mathlib.Omega.{arith}
 use mathlib.Core.Path.{◌≡◌, sym, ap, ◌∙◌}
@@ -12,16 +10,17 @@ use Rattle.table_format.specs.Table.{Counts}
 use Rattle.table_format.specs.Rules.{counts_hold}
 use Rattle.table_format.specs.Loaded.{count_cells, counts_in}
 use Rattle.table_format.specs.Line.{bytes_of}
-use Rattle.table_format.specs.Parse.{header_kind, is_header, counts_from}
+use Rattle.table_format.specs.Parse.{header_kind, is_header, counts_from, parsed, turned_down}
 use Rattle.table_format.specs.Text.{header_width, line_bytes}
 use Rattle.table_scanner.specs.Scan.{padded}
 use Rattle.table_items.specs.Draft.{filled_up}
+use Rattle.refusal.specs.declared.InputCause.{InputCause}
 use Rattle.table_parser.specs.Gathered.{gathered, items_parsed}
 use Rattle.table_scanner.proofs.ScannedLine.{LineRead, line_read, line-bad}
 use Rattle.table_scanner.proofs.Padded.{byte_at, counts_as_lem}
 use Rattle.table_items.proofs.Filled.{counts-filled}
 use Rattle.table_items.proofs.LineKinds.{has_form_lem, not_code, not_wide}
-use Rattle.table_parser.proofs.Items.{header_missing, header_bad, header_misplaced, header_limit, header_on}
+use Rattle.table_parser.proofs.Items.{header_missing, header_bad, header_misplaced, header_limit, header_on, gathered-all, gathered-refused}
 use Rattle.table_parser.proofs.read_table.Goals as goal
 use Rattle.table_parser.proofs.read_table.Goals.{then-count-ne-HEADER_BYTES-via-then-count-ne-HEADER_BYTES, then-count-ne-HEADER_BYTES-via-else-count-ne-HEADER_BYTES+then-bytes-ne-HEADER_KIND}
 
@@ -50,19 +49,19 @@ module _ {text : List ℕ} {count next : ℕ} {bytes : List ℕ} (L : LineRead t
   counts-told b e h t = sym (ap counts_hold (counts-are e)) ∙ sym h ∙ t
 
 pub returns-then-is_empty : goal.returns-then-is_empty
-returns-then-is_empty c = ap gathered (sym (header_missing c.args.text.now (eqb-true _ 0 (sym c.is_empty.ensures ∙ c.if-is_empty.true))))
+returns-then-is_empty c = c.refused.ensures ∙ ap gathered (sym (header_missing c.args.text.now (eqb-true _ 0 (sym c.is_empty.ensures ∙ c.if-is_empty.true))))
 
-pub returns-in_err-count : goal.returns-in_err-count
-returns-in_err-count c =
-    let p = err_from_is_err_and c.from_residual.result c.from_residual.ensures.1 in
-    let bad = line-bad _ 0 (some _ c.is_empty.ensures c.if-is_empty.false) c.scan.ensures.0 c.in_err-count.was in
-    p.1 ∙ ap Err (p.2 ∙ bad.0) ∙ ap gathered (sym (header_bad _ bad.1))
+pub returns-in-Err : goal.returns-in-Err
+returns-in-Err c =
+    let bad = line-bad _ 0 (some _ c.is_empty.ensures c.if-is_empty.false) c.scan.ensures.0 c.in-Err.is in
+    c.refused-in-Err.ensures ∙ ap (λ (f : InputCause). gathered (turned_down f)) bad.0 ∙ ap gathered (sym (header_bad _ bad.1))
 
 pub returns-then-count-ne-HEADER_BYTES : goal.returns-then-count-ne-HEADER_BYTES
 returns-then-count-ne-HEADER_BYTES c =
-    let L = line_read _ 0 (some _ c.is_empty.ensures c.if-is_empty.false) c.scan.ensures.0 c.in_ok-count.was c.scan.ensures.1 in
+    let L = line_read _ 0 (some _ c.is_empty.ensures c.if-is_empty.false) c.scan.ensures.0 c.in-Ok.is c.scan.ensures.1 in
     let b = said L in
-    elim c.then-count-ne-HEADER_BYTES.branch [
+    c.refused-then-count-ne-HEADER_BYTES.ensures
+    ∙ elim c.then-count-ne-HEADER_BYTES.branch [
       | then-count-ne-HEADER_BYTES-via-then-count-ne-HEADER_BYTES w ↦
           ap gathered (sym (header_misplaced L (not_wide header_kind header_width b (λ z. w.if-count-ne-HEADER_BYTES.true (L.count-is ∙ z)))))
       | then-count-ne-HEADER_BYTES-via-else-count-ne-HEADER_BYTES+then-bytes-ne-HEADER_KIND w ↦
@@ -71,22 +70,35 @@ returns-then-count-ne-HEADER_BYTES c =
 
 pub returns-then-not-counts_hold : goal.returns-then-not-counts_hold
 returns-then-not-counts_hold c =
-    let L = line_read _ 0 (some _ c.is_empty.ensures c.if-is_empty.false) c.scan.ensures.0 c.in_ok-count.was c.scan.ensures.1 in
-    ap gathered
+    let L = line_read _ 0 (some _ c.is_empty.ensures c.if-is_empty.false) c.scan.ensures.0 c.in-Ok.is c.scan.ensures.1 in
+    c.refused-then-not-counts_hold.ensures
+    ∙ ap gathered
     (sym (header_limit L (is-header L c.if-bytes-ne-HEADER_KIND.false c.if-count-ne-HEADER_BYTES.false) (counts-told L false c.counted-cells.ensures c.counts_hold.ensures c.if-not-counts_hold.true)))
 
 pub read_items-requires : goal.read_items-requires
 read_items-requires c =
-    let L = line_read _ 0 (some _ c.is_empty.ensures c.if-is_empty.false) c.scan.ensures.0 c.in_ok-count.was c.scan.ensures.1 in (
+    let L = line_read _ 0 (some _ c.is_empty.ensures c.if-is_empty.false) c.scan.ensures.0 c.in-Ok.is c.scan.ensures.1 in (
       L.next-inside,
       sym c.counts_hold.ensures ∙ c.if-not-counts_hold.false,
       c.counted-cells.ensures ∙ ap (λ (x : Counts). filled_up (count_cells x)) (sym (ap counts_in c.counted-cells.ensures ∙ counts-filled _)),
     )
 
-pub returns : goal.returns
-returns c =
-    let L = line_read _ 0 (some _ c.is_empty.ensures c.if-is_empty.false) c.scan.ensures.0 c.in_ok-count.was c.scan.ensures.1 in
-    c.read_items.ensures
-    ∙ ap gathered
-    (ap (λ (x : Counts). items_parsed x (drop c.in_ok-count.field-0.next c.args.text.now)) (counts-are L c.counted-cells.ensures)
-    ∙ sym (header_on L (is-header L c.if-bytes-ne-HEADER_KIND.false c.if-count-ne-HEADER_BYTES.false) (counts-told L true c.counted-cells.ensures c.counts_hold.ensures c.if-not-counts_hold.false)))
+-- the parse goes on after the header line
+goes-on : {text : List ℕ} {count next : ℕ} {bytes cells : List ℕ} {r : Bool} (L : LineRead text 0 count next (replicate line_bytes 0) bytes) → get_or bytes 0 0 ≡ header_kind
+    → count ≡ header_width → cells ≡ filled_up (count_cells (counts_from bytes)) → r ≡ counts_hold (counts_in cells) → r ≡ true
+    → items_parsed (counts_in cells) (drop next text) ≡ parsed text
+goes-on {text = text} {next = next} L k w e h t =
+    ap (λ (x : Counts). items_parsed x (drop next text)) (counts-are L e) ∙ sym (header_on L (is-header L k w) (counts-told L true e h t))
+
+pub returns-in-Ok-read_items : goal.returns-in-Ok-read_items
+returns-in-Ok-read_items c =
+    let L = line_read _ 0 (some _ c.is_empty.ensures c.if-is_empty.false) c.scan.ensures.0 c.in-Ok.is c.scan.ensures.1 in
+    gathered-all _ c.read_items.ensures c.in-Ok-read_items.is
+    ∙ ap gathered (goes-on L c.if-bytes-ne-HEADER_KIND.false c.if-count-ne-HEADER_BYTES.false c.counted-cells.ensures c.counts_hold.ensures c.if-not-counts_hold.false)
+
+pub returns-in-Err-read_items : goal.returns-in-Err-read_items
+returns-in-Err-read_items c =
+    let L = line_read _ 0 (some _ c.is_empty.ensures c.if-is_empty.false) c.scan.ensures.0 c.in-Ok.is c.scan.ensures.1 in
+    c.refused-in-Err-read_items.ensures
+    ∙ gathered-refused _ _ c.read_items.ensures c.in-Err-read_items.is
+    ∙ ap gathered (goes-on L c.if-bytes-ne-HEADER_KIND.false c.if-count-ne-HEADER_BYTES.false c.counted-cells.ensures c.counts_hold.ensures c.if-not-counts_hold.false)
