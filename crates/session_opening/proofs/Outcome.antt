@@ -27,7 +27,7 @@ use Rattle.machine.specs.declared.Started.{Started}
 use Rattle.machine.specs.Start.{started, StartedIs}
 use Rattle.machine.proofs.Start.{start_is}
 use Rattle.session_query.specs.Parts.{table_text, query_text, table_size}
-use Rattle.session_query.specs.declared.Query.{Query}
+use Rattle.session_query.specs.declared.Question.{Question}
 use Rattle.session_query.specs.Query.{task_in, upper_in, lower_in, query_of}
 use Rattle.session_query.specs.Asking.{question_of}
 use Rattle.session_query.proofs.Parts.{size-inside}
@@ -46,14 +46,15 @@ opening-refused o table query r e = subst (λ (x : Opened). OpeningOutcomeIs (op
 
 -- The query.
 
-pub query-faults : (cells : List ℕ) (ls : List Line) (cause : InputCause) → Err cause ≡ question_of (query_of ls) → opened_query cells (query_of ls) ≡ unopened (Input cause)
-query-faults cells ls cause e = ap (opened_query cells) (fault-is (query_of ls) cause e)
+pub query-faults : (cells : List ℕ) (ls : List Line) (x : Question) (cause : InputCause) → x ≡ question_of (query_of ls) → x.asking ≡ Err cause
+    → opened_query cells (query_of ls) ≡ unopened (Input cause)
+query-faults cells ls x cause e f = ap (opened_query cells) (fault-is (query_of ls) x cause e f)
 
-module _ (cells : List ℕ) (ls : List Line) (x : Query) (e : Ok x ≡ question_of (query_of ls))
-    (task : ℕ) (task-is : task ≡ task_in x.bytes) (upper lower : List ℕ) (upper_is : upper ≡ upper_in x.bytes) (lower-is : lower ≡ lower_in x.bytes)
+module _ (cells : List ℕ) (ls : List Line) (x : Question) (e : x ≡ question_of (query_of ls)) (f : x.asking ≡ Ok tt)
+    (task : ℕ) (task-is : task ≡ task_in x.query.bytes) (upper lower : List ℕ) (upper_is : upper ≡ upper_in x.query.bytes) (lower-is : lower ≡ lower_in x.query.bytes)
     (s : Started) (S : StartedIs (started cells task upper lower session_ceiling) s) where
-  asks : Asks ls x
-  asks = asks-is ls x e
+  asks : Asks ls x.query
+  asks = asks-is ls x e f
 
   opened-start : opened_query cells (query_of ls) ≡ opened_as cells asks.query s.answer s.run
   unfolding started_on
@@ -69,9 +70,9 @@ module _ (cells : List ℕ) (ls : List Line) (x : Query) (e : Ok x ≡ question_
       opening-refused (opened_query cells (query_of ls)) table query r (opened-start ∙ ap (λ (a : StartAnswer). opened_as cells asks.query a s.run) g)
 
   pub start-ready : (table query : List ℕ) → s.answer ≡ T.Ready → (state : SessionState) (t : List ℕ) → state ≡ first_state s.run → t ≡ cells ++ drop (length cells) table
-      → OpeningOutcomeIs (opening_outcome (opened_query cells (query_of ls)) table query) (opening_told (Ok state)) t x.bytes
+      → OpeningOutcomeIs (opening_outcome (opened_query cells (query_of ls)) table query) (opening_told (Ok state)) t x.query.bytes
   start-ready table query g state t k i =
-      opening-same (opening_outcome (ready cells asks.query s.run) table query) (opening_outcome (opened_query cells (query_of ls)) table query) (opening_told (Ok state)) t x.bytes
+      opening-same (opening_outcome (ready cells asks.query s.run) table query) (opening_outcome (opened_query cells (query_of ls)) table query) (opening_told (Ok state)) t x.query.bytes
       (sym (ap (λ (o : Opened). opening_outcome o table query) (opened-start ∙ ap (λ (a : StartAnswer). opened_as cells asks.query a s.run) g)))
       (ap (λ (s : SessionState). opening_told (Ok s)) k, i, asks.bytes-are)
 

@@ -51,7 +51,9 @@ fn begin_query(
     requires { length cells.now ≤ most_cells }
     ensures { OpeningOutcomeIs (opening_outcome (opened_query cells.now (query_of (lines_of text.now))) table.old query.old.bytes) (opening_told result) table.new query.new.bytes }
 {
-    let asked = asker::query(text)?;
+    let question = asker::query(text);
+    question.asking?;
+    let asked = question.query;
     let started = engine_start::start(cells, asked.task(), asked.upper(), asked.lower(), CEILING);
     if let StartAnswer::Refused(refusal) = started.answer {
         return Err(refusal);

@@ -17,8 +17,9 @@ use Rattle.table_format.proofs.All.{All, all_get_d}
 use Rattle.table_format.proofs.Line.{IsByte}
 use Rattle.table_scanner.proofs.FirstLine.{lines-first}
 use Rattle.table_scanner.proofs.ScannedLine.{LineRead, LineBad}
-use Rattle.std.specs.Prelude.{Result, Ok, Err}
+use Rattle.std.specs.Prelude.{Ok, Err}
 use Rattle.session_query.specs.declared.Query.{Query as Asked}
+use Rattle.session_query.specs.declared.Question.{Question}
 use Rattle.session_query.specs.Query.{query_bytes, QueryRead, fault, says, task_in, upper_length, lower_length, word_at, upper_in, lower_in, is_query, filled, query_of}
 use Rattle.session_query.specs.Asking.{question_of}
 
@@ -96,14 +97,14 @@ some-text [] e = absurd (cc e)
 some-text (c ∷ s) e = omega arith
 
 module _ (text : List ℕ) where
-  abbrev Answer : Result Asked InputCause → Type 0
+  abbrev Answer : Question → Type 0
   Answer r = r ≡ question_of (query_of (lines_of text))
 
-  pub asks_none : length text ≡ 0 → (r : Result Asked InputCause) → r ≡ question_of (fault Misplaced) → Answer r
+  pub asks_none : length text ≡ 0 → (r : Question) → r ≡ question_of (fault Misplaced) → Answer r
   unfolding query_of
   asks_none e r k = k ∙ sym (ap (λ (x : List Line). question_of (query_of x)) (lines_none text e))
 
-  pub asks-bad : LineBad text 0 → (r : Result Asked InputCause) → r ≡ question_of (fault Malformed) → Answer r
+  pub asks-bad : LineBad text 0 → (r : Question) → r ≡ question_of (fault Malformed) → Answer r
   unfolding query_of
   asks-bad L r k =
       k ∙ sym
@@ -119,7 +120,7 @@ module _ (text : List ℕ) where
     abbrev alone : Bool
     alone = is_empty (lines_of (drop next text))
 
-    answer-by : (b : Bool) (r : Result Asked InputCause) → (is_query said && alone) ≡ b → r ≡ question_of (cond b (says said) (fault Misplaced)) → Answer r
+    answer-by : (b : Bool) (r : Question) → (is_query said && alone) ≡ b → r ≡ question_of (cond b (says said) (fault Misplaced)) → Answer r
     unfolding query_of
     answer-by b r e k =
         k ∙ sym
@@ -127,7 +128,7 @@ module _ (text : List ℕ) where
         (ap query_of L.lines_are ∙ ap (λ (x : Bool). cond x (fault Malformed) (cond (is_query said && alone) (says said) (fault Misplaced))) L.well
         ∙ ap (λ (x : Bool). cond x (says said) (fault Misplaced)) e))
 
-    module _ (r : Result Asked InputCause) (k : r ≡ question_of (fault Misplaced)) where
+    module _ (r : Question) (k : r ≡ question_of (fault Misplaced)) where
       pub asks-followed : (next ≡ length text → ⊥) → Answer r
       asks-followed n =
           let more : next < length text = omega (arith, L.next-inside) in
@@ -152,19 +153,19 @@ module _ (text : List ℕ) where
       unfolding filled
       front = ap (take count) stored ∙ take_at said (drop (length said) (replicate query_bytes 0)) count (sym L.count-is)
 
-      pub asks-other : false ≡ is_query (take count bytes) → (r : Result Asked InputCause) → r ≡ question_of (fault Misplaced) → Answer r
+      pub asks-other : false ≡ is_query (take count bytes) → (r : Question) → r ≡ question_of (fault Misplaced) → Answer r
       asks-other e r k = other r k (sym (e ∙ ap is_query front))
 
-      pub asks-query : next ≡ length text → true ≡ is_query (take count bytes) → Answer (Ok (record { bytes = bytes }))
+      pub asks-query : next ≡ length text → true ≡ is_query (take count bytes) → Answer (record { asking = Ok tt; query = record { bytes = bytes } })
       asks-query a e =
-          answer-by true (Ok (record { bytes = bytes })) (ap₂ ◌&&◌ (sym (e ∙ ap is_query front)) (ap is_empty (lines_none (drop next text) (omega (arith, length-drop next text)))))
-          (ap (λ (b : List ℕ). Ok (record { bytes = b })) stored)
+          answer-by true (record { asking = Ok tt; query = record { bytes = bytes } }) (ap₂ ◌&&◌ (sym (e ∙ ap is_query front)) (ap is_empty (lines_none (drop next text) (omega (arith, length-drop next text)))))
+          (ap (λ (b : List ℕ). record { asking = Ok tt; query = record { bytes = b } }) stored)
 
 -- What a question says of the query, and the array that it holds.
 
-pub fault-is : (q : QueryRead) (cause : InputCause) → Err cause ≡ question_of q → q ≡ fault cause
-fault-is (fault c) cause e = let same : c ≡ cause = cc in ap fault same
-fault-is (says b) cause e = absurd (let z : ◌≡◌ {A = ℕ} 0 1 = cc in omega arith)
+pub fault-is : (q : QueryRead) (r : Question) (cause : InputCause) → r ≡ question_of q → r.asking ≡ Err cause → q ≡ fault cause
+fault-is (fault c) r cause e f = let same : c ≡ cause = cc (ap (λ (x : Question). x.asking) e) in ap fault same
+fault-is (says b) r cause e f = absurd (let z : ◌≡◌ {A = ℕ} 0 1 = cc (ap (λ (x : Question). x.asking) e) in omega arith)
 
 pub query-whole : (ls : List Line) (b : List ℕ) → query_of ls ≡ says b → IsQuery b
 unfolding query_of
@@ -221,14 +222,13 @@ pub record Asks (ls : List Line) (x : Asked) : Type 0 where
   pub upper_is : upper_in x.bytes ≡ upper_in query
   pub lower-is : lower_in x.bytes ≡ lower_in query
 
-pub asks-is : (ls : List Line) (x : Asked) → Ok x ≡ question_of (query_of ls) → Asks ls x
-asks-is ls x e = go (query_of ls) refl e
+pub asks-is : (ls : List Line) (x : Question) → x ≡ question_of (query_of ls) → x.asking ≡ Ok tt → Asks ls x.query
+asks-is ls x e f = go (query_of ls) refl e
   where
-    go : (q : QueryRead) → query_of ls ≡ q → Ok x ≡ question_of q → Asks ls x
-    go (fault c) k e = absurd (let z : ◌≡◌ {A = ℕ} 0 1 = cc in omega arith)
+    go : (q : QueryRead) → query_of ls ≡ q → x ≡ question_of q → Asks ls x.query
+    go (fault c) k e = absurd (let z : ◌≡◌ {A = ℕ} 0 1 = cc (ap (λ (y : Question). y.asking) e) in omega arith)
     go (says b) k e =
-        let same : x ≡ record { bytes = filled b } = cc in
-        let bytes : x.bytes ≡ filled b = ap (λ (y : Asked). y.bytes) same in
+        let bytes : x.query.bytes ≡ filled b = ap (λ (y : Question). y.query.bytes) e in
         let q = query-whole ls b k in
         record {
           query = b;

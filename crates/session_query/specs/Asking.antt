@@ -1,10 +1,9 @@
 -- What the code of the query promises, in the terms of Query.
-use Rattle.std.specs.Prelude.{Result, Ok, Err}
-use Rattle.refusal.specs.declared.InputCause.{InputCause}
-use Rattle.session_query.specs.declared.Query.{Query}
+use Rattle.std.specs.Prelude.{Ok, Err, []}
+use Rattle.session_query.specs.declared.Question.{Question}
 use Rattle.session_query.specs.Query.{QueryRead, fault, says, filled}
 
--- a query with its bytes, or the cause
-abbrev pub question_of : QueryRead → Result Query InputCause
-question_of (fault cause) = Err cause
-question_of (says b) = Ok (record { bytes = filled b })
+-- a query with its bytes, or the cause with zeros
+abbrev pub question_of : QueryRead → Question
+question_of (fault cause) = record { asking = Err cause; query = record { bytes = filled [] } }
+question_of (says b) = record { asking = Ok tt; query = record { bytes = filled b } }

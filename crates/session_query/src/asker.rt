@@ -1,10 +1,10 @@
 // The query: exactly one line.
 ghost use Rattle.std.specs.Prelude.{◌≡◌};
 ghost use Rattle.table_format.specs.Line.{lines_of};
-ghost use Rattle.session_query.specs.Query.{is_query, query_of};
+ghost use Rattle.session_query.specs.Query.{is_query, query_of, fault};
 ghost use Rattle.session_query.specs.Asking.{question_of};
 
-use crate::{QUERY_BYTES, Query};
+use crate::{QUERY_BYTES, Query, Question};
 use refusal::InputCause;
 use table_scanner::Line;
 
@@ -19,18 +19,35 @@ fn is_query(bytes: &[u8]) -> bool
     *kind == 0x10 && upper < words.len() && words.len() == upper + 1 + usize::from(words[upper])
 }
 
+// No query, for a cause.
+#[tactic(auto, unfolding(crate::specs::Query::filled))]
+fn none(cause: InputCause) -> Question
+    ensures { result ≡ question_of (fault cause) }
+{
+    Question {
+        asking: Err(cause),
+        query: Query::empty(),
+    }
+}
+
 // The query of a text.
-pub fn query(text: &[u8]) -> Result<Query, InputCause>
+pub fn query(text: &[u8]) -> Question
     ensures { result ≡ question_of (query_of (lines_of text.now)) }
 {
     if text.is_empty() {
-        return Err(InputCause::Misplaced);
+        return none(InputCause::Misplaced);
     }
     let mut bytes = [0; QUERY_BYTES];
-    let Line { count, next } = table_scanner::scan(text, 0, &mut bytes)?;
+    let Line { count, next } = match table_scanner::scan(text, 0, &mut bytes) {
+        Ok(line) => line,
+        Err(cause) => return none(cause),
+    };
     if next == text.len() && count <= QUERY_BYTES && is_query(&bytes[..count]) {
-        Ok(Query { bytes })
+        Question {
+            asking: Ok(()),
+            query: Query { bytes },
+        }
     } else {
-        Err(InputCause::Misplaced)
+        none(InputCause::Misplaced)
     }
 }

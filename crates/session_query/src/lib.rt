@@ -5,6 +5,8 @@ pub mod asker;
 pub mod splitter;
 pub mod words;
 
+use refusal::InputCause;
+
 // The most bytes of a query: 3 + 255 + 1 + 255.
 pub const QUERY_BYTES: usize = 514;
 
@@ -12,4 +14,11 @@ pub const QUERY_BYTES: usize = 514;
 #[derive(Clone, Copy)]
 pub struct Query {
     pub bytes: [u8; QUERY_BYTES],
+}
+
+// What a text asks: nothing, for a cause, or a query. Where it asks nothing, the query's bytes are all 0.
+#[derive(Clone, Copy)]
+pub struct Question {
+    pub asking: Result<(), InputCause>,
+    pub query: Query,
 }
