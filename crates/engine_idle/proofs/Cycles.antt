@@ -5,8 +5,8 @@ use mathlib.Core.Path.{◌≡◌, refl, sym, ap, subst, ◌∙◌}
 use mathlib.Core.Logic.{⊎_elim, ◌↔◌}
 use mathlib.Core.Bool.{Bool, true, false, true≢false}
 use mathlib.Core.List.{List}
-use lib.ListN.{take, replicate, get_or-replicate}
-use lib.Seq.{get_or-take}
+use lib.ListN.{length, take, replicate, length-replicate, get_or-replicate}
+use lib.Seq.{get_or-take, length-take-le}
 use Rattle.std.specs.Prelude.{Option, Some, None}
 use Rattle.table_format.specs.Cells.{arcs_as}
 use Rattle.graph.specs.Lists.{AllBelow}
@@ -44,14 +44,18 @@ module _ (g : IdleGraph) (reached : List Bool) where
 
 -- WHAT IS SHOWN, where all states live at first and the rounds leave some.
 
-module _ (g : IdleGraph) (initials : List ℕ) (after : List Bool) (B : AllBelow g.states initials) (S : Settled g (take g.states (replicate 256 true)) after) where
+module _ (g : IdleGraph) (initials : List ℕ) (after : List ℕ) (B : AllBelow g.states initials) (S : Settled g (take g.states (replicate 256 1)) after) where
   -- a state on a cycle is a state
   below : (s : ℕ) → Walk (EdgeIn g) s s → s < g.states
   below s w = walk-below (EdgeIn g) g.states (edges_among g) s s w
 
   -- and is left
   pub cycles_left : Cyclic g after
-  cycles_left = S.keeps (λ s w. get_or-take g.states (replicate 256 true) s false (below s w) ∙ get_or-replicate 256 s true false (omega (arith, below s w, g.graph.few)))
+  cycles_left = S.keeps (λ s w. get_or-take g.states (replicate 256 1) s 0 (below s w) ∙ get_or-replicate 256 s 1 0 (omega (arith, below s w, g.graph.few)))
+
+  -- where it has a cell
+  within : (s : ℕ) → Walk (EdgeIn g) s s → s < length after
+  within s w = omega (arith, below s w, S.same_length, length-take-le {A = ℕ} g.states (replicate 256 1) (omega (arith, length-replicate {A = ℕ} 256 1, g.graph.few)))
 
   tested : shown.Tested (AnyArc (arcs_as g.arcs.now)) (EdgeIn g) (leads_by (arcs_as g.arcs.now) always) (leads_by (arcs_as g.arcs.now) (idle_by g.upper g.lower)) g.states initials
   tested =
@@ -66,7 +70,7 @@ module _ (g : IdleGraph) (initials : List ℕ) (after : List Bool) (B : AllBelow
   -- none is left: there is no cycle
   pub none_left : NoneLeft after true → None ≡ cycle_of (shown_in g initials)
   none_left N =
-      ap cycle_of (sym (shown.shown-none tested (λ s R w. N.none_alive refl s (cycles_left s w))))
+      ap cycle_of (sym (shown.shown-none tested (λ s R w. N.none_alive refl s (within s w) (cycles_left s w))))
 
   module _ (reached : List Bool) (M : ReachedCells g.arcs.now initials reached) (o : Option ℕ) (L : LowestLooped g reached o) where
     looped-at : (s : ℕ) → ReachedBy g.arcs.now initials s → Walk (EdgeIn g) s s → LoopedAt g reached s

@@ -1,5 +1,5 @@
 -- What the search for the idle cycle to be shown says, of the graph of a table's idle arcs.
-use Rattle.std.specs.Prelude.{ℕ, ◌<◌, ◌≡◌, Bool, true, false, List, [], ◌∷◌, get_or, Option, Some, None}
+use Rattle.std.specs.Prelude.{ℕ, ◌<◌, ◌≡◌, Bool, true, false, List, [], ◌∷◌, length, get_or, Option, Some, None}
 use Rattle.table_format.specs.Cells.{arcs_as}
 use Rattle.graph.specs.Walk.{Walk}
 use Rattle.graph.specs.Shown.{shown_cycle}
@@ -11,9 +11,9 @@ use Rattle.engine_cycle.specs.declared.Cycle.{Cycle}
 use Rattle.engine_cycle.specs.Numbers.{cycle_cells}
 
 -- whether none is alive
-pub record NoneLeft (alive : List Bool) (r : Bool) : Type 0 where
-  pub none_alive : r ≡ true → (s : ℕ) → get_or alive s false ≡ true → ⊥
-  pub one_alive : r ≡ false → (s : ℕ) × (get_or alive s false ≡ true)
+pub record NoneLeft (alive : List ℕ) (r : Bool) : Type 0 where
+  pub none_alive : r ≡ true → (s : ℕ) → s < length alive → get_or alive s 0 ≡ 1 → ⊥
+  pub one_alive : r ≡ false → (s : ℕ) × (s < length alive) × (get_or alive s 0 ≡ 1)
 
 module _ (g : IdleGraph) (reached : List Bool) where
   -- a state is reached and on a cycle

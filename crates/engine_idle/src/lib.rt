@@ -12,24 +12,24 @@ use engine_cycle::Cycle;
 use engine_graph::IdleGraph;
 
 // No state is left.
-fn none_left(alive: &[bool]) -> bool
+fn none_left(alive: &[u8]) -> bool
     ensures { NoneLeft alive.now result }
 {
-    !alive.contains(&true)
+    !alive.contains(&1)
 }
 
 // A state is reached and on an idle cycle. Every state on one is alive.
-fn looped(graph: &IdleGraph<'_>, s: usize, alive: &[bool], reached: &[bool; 256]) -> bool
+fn looped(graph: &IdleGraph<'_>, s: usize, alive: &[u8], reached: &[bool; 256]) -> bool
     requires states { length alive.now ≡ graph.now.states }
     requires s_in_bounds { s < graph.now.states }
     requires cyclic { Cyclic graph.now alive.now }
     ensures { (result ≡ true) ↔ LoopedAt graph.now reached.now s }
 {
-    alive[s] && reached[s] && engine_reach::returns(graph, s)
+    alive[s] == 1 && reached[s] && engine_reach::returns(graph, s)
 }
 
 // The lowest state that is reached and on an idle cycle.
-fn lowest(graph: &IdleGraph<'_>, alive: &[bool], reached: &[bool; 256]) -> Option<usize>
+fn lowest(graph: &IdleGraph<'_>, alive: &[u8], reached: &[bool; 256]) -> Option<usize>
     requires states { length alive.now ≡ graph.now.states }
     requires cyclic { Cyclic graph.now alive.now }
     ensures { LowestLooped graph.now reached.now result }
@@ -48,7 +48,7 @@ pub fn find(graph: &IdleGraph<'_>, initials: &[u16]) -> Option<Cycle>
     requires { AllBelow graph.now.states initials.now }
     ensures { result ≡ cycle_of (shown_in graph.now initials.now) }
 {
-    let mut alive = [true; 256];
+    let mut alive = [1; 256];
     let alive = &mut alive[..graph.states];
     engine_peel::settle(graph, alive);
     if none_left(alive) {

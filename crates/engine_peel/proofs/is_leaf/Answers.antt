@@ -23,11 +23,11 @@ bounds-alive-from c =
     let E = edge_at c.args.graph.now c.args.q c.in-Some.n c.in-Some-idle_target.target c.requires.q_in_bounds (omega arith) (omega arith) (sym c.in-Some-idle_target.ensures) in
     omega (arith, c.from.ensures, (edges_among c.args.graph.now _ _ E).1, c.requires.states)
 
-pub returns-then-alive-from : goal.returns-then-alive-from
-returns-then-alive-from c =
+pub returns-then-alive-from-eq1 : goal.returns-then-alive-from-eq1
+returns-then-alive-from-eq1 c =
     let s = c.in-Some.ensures.steps in
     let i = c.loop-n.invariant in
-    leaf-not c.args.graph.now c.args.alive.now c.args.q c.requires.q_in_bounds c.in-Some.n c.in-Some-idle_target.target (omega arith) (omega arith) (sym c.in-Some-idle_target.ensures) (subst (Lives c.args.alive.now) c.from.ensures c.if-alive-from.true)
+    leaf-not c.args.graph.now c.args.alive.now c.args.q c.requires.q_in_bounds c.in-Some.n c.in-Some-idle_target.target (omega arith) (omega arith) (sym c.in-Some-idle_target.ensures) (subst (Lives c.args.alive.now) c.from.ensures c.if-alive-from-eq1.true)
 
 pub returns : goal.returns
 returns c = let s = c.in-None.ensures.steps in let i = c.loop-n.invariant in leaf c.args.graph.now c.args.alive.now c.args.q c.requires.q_in_bounds (λ n x a b e. i.4 n x a (omega arith) e)
