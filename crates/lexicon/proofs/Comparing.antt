@@ -1,10 +1,10 @@
 -- Laws for the check of a word: its length and letters, and where it stands after another one.
-use Prim.Native.Nat.{ℕ, suc, ◌≤◌, ◌<◌}
+use Prim.Native.Nat.{ℕ, zero, suc, ◌-◌, ◌≤◌, ◌<◌}
 use native.Mathlib.Omega.{arith}
 use mathlib.Core.Path.{◌≡◌, refl, sym, ap, ap₂, ◌∙◌}
 use mathlib.Core.Bool.{Bool, true, false, cond, ◌&&◌, true≢false}
 use mathlib.Core.List.{[], ◌∷◌}
-use lib.ListN.{length, take}
+use lib.ListN.{length, take, drop}
 use lib.Dec.{eqb, ltb}
 use borrow.Author.Tests.{le-leb, eqb-true, le-ltb, ltb-true, ltb-false}
 use Rattle.std.specs.Prelude.{Some}
@@ -13,6 +13,7 @@ use Rattle.std.specs.Cmp.Lexicographic.{slice_partial_cmp}
 use Rattle.std.proofs.lemmas.Cmp.{same_from_slice_cmp_tested}
 use Rattle.std.proofs.lemmas.Bool.Decides.{nat_tests}
 use Rattle.std.specs.List.{zip, list_all, take_while}
+use Rattle.std.proofs.lemmas.List.{take_rest}
 use Rattle.std.proofs.lemmas.List.Sums.{take_while-cons}
 use Rattle.lexicon.specs.Words.{Word, letter_holds, letters_hold, good_word, rises}
 use Rattle.lexicon.specs.Check.{common}
@@ -68,11 +69,42 @@ common-zip (x ∷ p) (y ∷ w) = go (eqb x y) refl (common-zip p w)
     go true e h = rw (take_while-cons same_letters (x, y) (zip p w), e) (ap suc h)
     go false e h = rw (take_while-cons same_letters (x, y) (zip p w), e) refl
 
+-- nor does it matter what stands behind
+pub common-cut : (p w : Word) (m : ℕ) → common p w ≤ m → common (take m p) (take m w) ≡ common p w
+common-cut p w zero h = omega arith
+common-cut [] w (suc m) h = refl
+common-cut (x ∷ p) [] (suc m) h = refl
+common-cut (x ∷ p) (y ∷ w) (suc m) h = go (eqb x y) h (λ l. common-cut p w m l)
+  where
+    go : (t : Bool) → cond t (suc (common p w)) 0 ≤ suc m → (common p w ≤ m → common (take m p) (take m w) ≡ common p w)
+        → cond t (suc (common (take m p) (take m w))) 0 ≡ cond t (suc (common p w)) 0
+    go true l G = ap suc (G (omega arith))
+    go false l G = refl
+
 -- Dictionary order, by the first difference.
 
 -- as the order of slices
 pub rises_by : (p w : Word) (r : Bool) → r ≡ is_some_and is_lt (slice_partial_cmp (λ x y. Some (nat_cmp x y)) p w) → r ≡ rises p w
 rises_by p w r e = same_from_slice_cmp_tested nat_cmp is_lt rises refl (λ _ _. refl) (λ _ _. refl) (λ x y xs ys o h. grind (arith, nat_tests)) p w r e
+
+-- the letters behind the common ones decide
+pub rises-behind : (p w : Word) → rises (drop (common p w) p) (drop (common p w) w) ≡ rises p w
+rises-behind [] w = refl
+rises-behind (x ∷ p) [] = refl
+rises-behind (x ∷ p) (y ∷ w) = go (eqb x y) refl (rises-behind p w)
+  where
+    go : (t : Bool) → eqb x y ≡ t → rises (drop (common p w) p) (drop (common p w) w) ≡ rises p w
+        → rises (drop (cond t (suc (common p w)) 0) (x ∷ p)) (drop (cond t (suc (common p w)) 0) (y ∷ w)) ≡ rises (x ∷ p) (y ∷ w)
+    go true e h = rw (le-ltb x y (omega (arith, eqb-true x y e)), e) h
+    go false e h = refl
+
+pub rises_by_rest : (p w : Word) (n : ℕ) (r : Bool) → r ≡ is_some_and is_lt (slice_partial_cmp (λ x y. Some (nat_cmp x y)) (take (length p - n) (drop n p)) (take (length w - n) (drop n w)))
+    → n ≡ common p w → r ≡ rises p w
+rises_by_rest p w n r e s =
+    rises_by (take (length p - n) (drop n p)) (take (length w - n) (drop n w)) r e
+    ∙ ap₂ rises (take_rest p n) (take_rest w n)
+    ∙ ap (λ (k : ℕ). rises (drop k p) (drop k w)) s
+    ∙ rises-behind p w
 
 pub rises-short : (p w : Word) → length w ≤ common p w → rises p w ≡ false
 rises-short [] [] h = refl

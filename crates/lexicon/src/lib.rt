@@ -50,23 +50,34 @@ fn word_holds(word: &[u8]) -> bool
     (1..=MOST_LETTERS).contains(&word.len()) && word.iter().all(|letter| is_letter(*letter))
 }
 
-// How many letters two words have in common at the front.
+// How many letters two words have in common at the front. Both are cut to the same length first, so that one test a turn ends the walk.
 pub fn common(before: &[u8], word: &[u8]) -> usize
     ensures { result ≡ common before.now word.now }
 {
-    before
+    let most = before.len().min(word.len());
+    before[..most]
         .iter()
-        .zip(word)
+        .zip(&word[..most])
         .take_while(|(x, y)| **x == **y)
         .count()
 }
 
+// Whether a word is above the one before it, with which it has so many first letters in common: the letters behind these decide.
+#[tactic(auto, using(crate::proofs::Comparing::rises_by_rest))]
+fn rises_behind(before: &[u8], word: &[u8], shared: usize) -> bool
+    requires { shared ≡ common before.now word.now }
+    ensures { result ≡ rises before.now word.now }
+{
+    let last = &before[shared..];
+    let letters = &word[shared..];
+    last < letters
+}
+
 // Whether a word is above the one before it.
-#[tactic(auto, using(crate::proofs::Comparing::rises_by))]
 pub fn rises(before: &[u8], word: &[u8]) -> bool
     ensures { result ≡ rises before.now word.now }
 {
-    before < word
+    rises_behind(before, word, common(before, word))
 }
 
 // A word after the one before it, in a tree of so many states: how many there are with it.
@@ -77,10 +88,11 @@ fn judge(before: &[u8], word: &[u8], states: usize) -> Result<usize, InputCause>
     if !word_holds(word) {
         return Err(InputCause::ListedWord);
     }
-    if !rises(before, word) {
+    let shared = common(before, word);
+    if !rises_behind(before, word, shared) {
         return Err(InputCause::WordOrder);
     }
-    let grown = states + (word.len() - common(before, word));
+    let grown = states + (word.len() - shared);
     if MOST_STATES < grown {
         return Err(InputCause::StateLimit);
     }

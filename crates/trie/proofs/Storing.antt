@@ -4,7 +4,7 @@ use native.Mathlib.Omega.{arith}
 use mathlib.Core.Path.{◌≡◌, refl, sym, ap, ◌∙◌}
 use mathlib.Core.Bool.{Bool, true, false, cond}
 use mathlib.Core.List.{List, [], ◌∷◌, ◌++◌, map, append_assoc, append-nil}
-use lib.ListN.{length, length-append, length-map}
+use lib.ListN.{length, set, length-append, length-map}
 use Rattle.std.specs.Prelude.{Option, Some, None, IfSome}
 use lib.Seq.{sets, length-sets}
 use Rattle.table_format.specs.Table.{Arc}
@@ -60,6 +60,14 @@ pub when_false : {A : Type 0} (x y : A) {b : Bool} → b ≡ false → cond b x 
 when_false x y e = rw e
 
 -- Arcs.
+
+pub arc-stored : (l : List ℕ) (at a b c d v : ℕ) → set (set (set (set (set l at a) (at + 1) b) (at + 2) c) (at + 3) d) (at + 4) v ≡ sets l at (a ∷ b ∷ c ∷ d ∷ v ∷ [])
+arc-stored l at a b c d v =
+    let e : at + 1 ≡ suc at = omega arith in
+    let f : at + 2 ≡ suc (suc at) = omega arith in
+    let g : at + 3 ≡ suc (suc (suc at)) = omega arith in
+    let h : at + 4 ≡ suc (suc (suc (suc at))) = omega arith in
+    λ i. set (set (set (set (set l at a) (e i) b) (f i) c) (g i) d) (h i) v
 
 cells-append : (xs ys : List Arc) → arcs_cells (xs ++ ys) ≡ arcs_cells xs ++ arcs_cells ys
 unfolding arcs_cells

@@ -1,12 +1,12 @@
 // The cells of the letter tree's table: terminal states and arcs.
 ghost use Rattle.std.specs.Prelude.{◌≡◌, List, map, ℕ, ◌+◌, ◌*◌, ◌≤◌, ◌<◌, length};
 ghost use Rattle.std.proofs.lemmas.List.Edits.{sets};
-ghost use Rattle.table_format.specs.Loaded.{arc_width, arcs_cells};
+ghost use Rattle.table_format.specs.Loaded.{arc_width, arc_cells, arcs_cells};
+ghost use Rattle.table_format.specs.Cells.{arc_said};
 ghost use Rattle.lexicon.specs.Lexicon.{most_states};
 ghost use Rattle.trie_states.specs.Tree.{letter_of, ends_at, first_of, next_of, Chain, over_states, child_arc};
 ghost use Rattle.trie.specs.Cells.{Chains, cut_arcs, marked, state_arcs};
 
-use destination::put;
 use lexicon::MOST_STATES;
 use table_format::{ARC_WIDTH, Arc};
 use trie_states::children::Links;
@@ -29,6 +29,18 @@ pub fn put_terminals(cells: &mut [u16], at: usize, tree: &[State]) -> usize
         }
     }
     to
+}
+
+// An arc's cells. Each is stored by itself: as an array of five they would be read back before they are all written, which takes longer.
+fn put_arc(cells: &mut [u16], at: usize, arc: Arc)
+    requires { at + arc_width ≤ length cells.old }
+    ensures { cells.new ≡ sets cells.old at (arc_cells (arc_said arc)) }
+{
+    cells[at] = arc.source;
+    cells[at + 1] = arc.upper;
+    cells[at + 2] = arc.lower;
+    cells[at + 3] = arc.target;
+    cells[at + 4] = arc.penalty;
 }
 
 // The arcs from a state to its children, by their letters, and the place after them.
@@ -57,7 +69,7 @@ fn put_children(
             target: u16::from(child),
             penalty: 0,
         };
-        put(cells, to, &arc.cells());
+        put_arc(cells, to, arc);
         to += ARC_WIDTH;
         next = links[k].next;
     }
@@ -80,7 +92,7 @@ fn put_cut(cells: &mut [u16], at: usize, state: usize, is_end: bool) -> usize
         target: 0,
         penalty: 0,
     };
-    put(cells, at, &arc.cells());
+    put_arc(cells, at, arc);
     at + ARC_WIDTH
 }
 

@@ -1,11 +1,6 @@
--- At every turn the faces so far hold.
-use mathlib.Core.Path.{◌≡◌}
-use mathlib.Core.Bool.{true}
-use mathlib.Core.List.{[]}
-use lib.ListN.{take}
-use Rattle.table_format.specs.Rules.{each}
-use Rattle.faces.specs.Faces.{face_holds}
+-- At every turn the faces so far hold, and are those that are marked.
+use Rattle.faces.proofs.Faces.{Seen}
 use Rattle.faces.proofs.faces_hold.Given as goal
 
-abbrev pub invariant-loop-i : goal.invariant-loop-i
-invariant-loop-i l = each face_holds [] (take l.i l.faces) ≡ true
+abbrev pub invariant-loop-face : goal.invariant-loop-face
+invariant-loop-face l = Seen l.faces l.seen l.face-index

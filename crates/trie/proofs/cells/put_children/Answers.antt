@@ -24,9 +24,9 @@ loop-next-preserved c =
     let tree = c.args.tree.now in
     let links = c.args.links.now in
     let letter : c.from-letter.result ≡ letter_of tree c.in-Some.child = c.from-letter.ensures ∙ ap (letter_of tree) c.from-k.ensures in
-    let put = c.put.ensures ∙ ap (sets c.loop-next.cells c.loop-next.to) (c.cells.ensures ∙ ap₂ (λ (x y : ℕ). arc_cells (arc_as c.args.state x x y)) letter c.from.ensures) in
+    let put = c.put_arc.ensures ∙ ap (sets c.loop-next.cells c.loop-next.to) (ap₂ (λ (x y : ℕ). arc_cells (arc_as c.args.state x x y)) letter c.from.ensures) in
     subst
-    (λ (i : ℕ). GoingAll (child_arc (letter_of tree) c.args.state) (next_of links) c.args.cells.now c.args.at (first_of links c.args.state) c.put.new.destination (c.loop-next.to + 5) (next_of links i))
+    (λ (i : ℕ). GoingAll (child_arc (letter_of tree) c.args.state) (next_of links) c.args.cells.now c.args.at (first_of links c.args.state) c.put_arc.new.cells (c.loop-next.to + 5) (next_of links i))
     (sym c.from-k.ensures) (going_more c.loop-next.invariant c.in-Some.is put)
 
 pub returns : goal.returns

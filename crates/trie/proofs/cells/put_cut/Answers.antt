@@ -18,4 +18,4 @@ returns-then-not-is_end c =
 pub returns : goal.returns
 returns c =
     let is : cut_arcs c.args.state c.args.is_end ≡ cut_arc c.args.state ∷ [] = when_true _ _ c.if-not-is_end.false in
-    (omega (arith, ap length is), c.put.ensures ∙ ap (sets c.args.cells.now c.args.at) (c.cells.ensures ∙ sym (ap arcs_cells is ∙ one-cells (cut_arc c.args.state))))
+    (omega (arith, ap length is), c.put_arc.ensures ∙ ap (sets c.args.cells.now c.args.at) (sym (ap arcs_cells is ∙ one-cells (cut_arc c.args.state))))
