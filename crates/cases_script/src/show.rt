@@ -28,7 +28,8 @@ fn letter(rt: &impl Print, x: u8, plain: bool) {
         let sign = if x <= 26 { b'a' - 1 + x } else { b'+' };
         say(rt, &[sign]);
     } else {
-        let _ = print!(rt; " {x:02X}");
+        let [high, low] = hexadecimal::encode(x);
+        say(rt, &[b' ', high, low]);
     }
 }
 

@@ -21,7 +21,7 @@ use Rattle.table_format.specs.Cells.{arc_count, arc_of, arcs_as}
 use Rattle.table_format.proofs.Arcs.{length-arcs, get_d_arcs}
 use Rattle.table_format.proofs.Line.{length-chars}
 use Rattle.table_format.proofs.Penalties.{line-without, line_with_lem}
-use Rattle.table_format.proofs.Stores.{sets-append, then}
+use Rattle.table_format.proofs.Stores.{then, byte-stored}
 use Rattle.table_classes.proofs.Letters.{letters_open, row_from, lines_from, row-long, row-cell, lines_defined, lines_undefined, lines_none}
 
 -- The two bytes of a number, high byte first.
@@ -40,11 +40,12 @@ left d list k h = drop-cons list k d h ∙ ap (λ (i : ℕ). get_or list k d ∷
 -- Where the first of the bytes left is stored, storing the others is storing them all.
 
 pub bytes-turn : (text : List ℕ) (to next : ℕ) (bytes : List ℕ) (k : ℕ) {d : List ℕ} → k < length bytes → next ≡ to + 2 → d ≡ encoded (get_or bytes k 0)
-    → sets (sets text to d) next (chars_of (drop (k + 1) bytes)) ≡ sets text to (chars_of (drop k bytes))
+    → sets (set (set text to (get_or d 0 0)) (to + 1) (get_or d 1 0)) next (chars_of (drop (k + 1) bytes)) ≡ sets text to (chars_of (drop k bytes))
 unfolding chars_of encoded
 bytes-turn text to next bytes k h n e =
-    ap (λ (l : List ℕ). sets (sets text to l) next (chars_of (drop (k + 1) bytes))) e
-    ∙ sets-append text to next (encoded (get_or bytes k 0)) (chars_of (drop (k + 1) bytes)) n
+    let b : ℕ = get_or bytes k 0 in
+    let digits = ap (λ (l : List ℕ). get_or l 0 0 ∷ get_or l 1 0 ∷ []) e in
+    then text _ _ to next (chars_of (b ∷ [])) (chars_of (drop (k + 1) bytes)) (byte-stored text to b _ _ digits) n refl
     ∙ ap (λ (l : List ℕ). sets text to (chars_of l)) (sym (left 0 bytes k h))
 
 pub bytes-end : (text : List ℕ) (to : ℕ) (bytes : List ℕ) (k : ℕ) → length bytes ≤ k → sets text to (chars_of (drop k bytes)) ≡ text

@@ -10,7 +10,6 @@ ghost use Rattle.table_format.specs.Text.{number, header_bytes, class_bytes, cla
 ghost use Rattle.table_format.specs.Parse.{header_line, state_line};
 ghost use Rattle.table_format.specs.Cells.{arc_count, arc_said, arcs_as};
 
-use destination::put;
 use table_format::{
     ARC_BYTES, ARC_KIND, ARC_LINE, ARC_WIDTH, Arc, CLASS_COUNT, CLASS_KIND, HEADER_KIND,
     LINE_BYTES, PENALTY_KIND, PENALTY_LINE, ROW_WIDTH, STATE_LINE, arc_at,
@@ -24,7 +23,10 @@ pub fn put_bytes(text: &mut [u8], at: usize, bytes: &[u8])
     ensures { text.new ≡ sets text.old at (chars_of bytes.now) }
 {
     for (k, byte) in bytes.iter().enumerate() {
-        put(text, at + 2 * k, &hexadecimal::encode(*byte));
+        let [high, low] = hexadecimal::encode(*byte);
+        let to = at + 2 * k;
+        text[to] = high;
+        text[to + 1] = low;
     }
 }
 
